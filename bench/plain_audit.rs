@@ -14,14 +14,15 @@ const POISON: u64 = 0xefef_efef_efef_efef;
 const TRACE_LINES: u32 = 65_536;
 const TRACE_BYTES: usize = 4_194_304;
 const INPUT_BYTES: usize = 134_217_728;
-const DIRECT: usize = 59;
+const SPARSE: usize = 59;
+const DIRECT: usize = 170;
 const NONE: u32 = u32::MAX;
 
 /// A line of the report behind its letter: `n` is a number of 32 bits, `N` one of 64.
 const REPORT: &str = "n n live N N quarantined N N cached N N root N N committed N reserved N full n active n empty n decommitted n";
 
-/// The size classes: slot size, partition pages of a span, slots of a span.
-const CLASSES: [(u32, u32, u32); 59] = [
+/// The size classes, those of version 1 and then those of version 2: slot size, partition pages of a span, slots of a span.
+const CLASSES: [(u32, u32, u32); DIRECT] = [
     (16, 1, 1024), (32, 1, 512), (48, 1, 341), (64, 1, 256), (80, 1, 204), (96, 1, 170), (112, 1, 146), (128, 1, 128),
     (160, 1, 102), (192, 1, 85), (224, 1, 73), (256, 1, 64), (320, 1, 51), (384, 3, 128), (448, 2, 73), (512, 1, 32),
     (640, 4, 96), (768, 3, 64), (896, 2, 32), (1024, 1, 16), (1280, 4, 48), (1536, 3, 32), (1792, 2, 16), (2048, 1, 8),
@@ -30,11 +31,24 @@ const CLASSES: [(u32, u32, u32); 59] = [
     (40960, 3, 1), (49152, 3, 1), (57344, 4, 1), (65536, 4, 1), (81920, 5, 1), (98304, 6, 1), (114688, 7, 1), (131072, 8, 1),
     (163840, 10, 1), (196608, 12, 1), (229376, 14, 1), (262144, 16, 1), (327680, 20, 1), (393216, 24, 1), (458752, 28, 1),
     (524288, 32, 1), (655360, 40, 1), (786432, 48, 1), (917504, 56, 1),
+    (16, 1, 1024), (32, 1, 512), (48, 1, 341), (64, 1, 256), (80, 1, 204), (96, 1, 170), (112, 1, 146), (128, 1, 128), (144, 2, 199),
+    (160, 1, 102), (176, 1, 93), (192, 1, 85), (208, 3, 236), (224, 1, 73), (240, 1, 68), (256, 1, 64), (288, 4, 199), (320, 1, 51),
+    (352, 2, 93), (384, 3, 128), (416, 3, 118), (448, 2, 73), (480, 1, 34), (512, 1, 32), (576, 3, 78), (640, 4, 96), (704, 3, 64),
+    (768, 3, 64), (832, 3, 59), (896, 2, 32), (960, 1, 17), (1024, 1, 16), (1152, 3, 39), (1280, 4, 48), (1408, 3, 32), (1536, 3, 32),
+    (1664, 3, 27), (1792, 2, 16), (1920, 4, 32), (2048, 1, 8), (2304, 1, 7), (2560, 4, 24), (2816, 3, 16), (3072, 3, 16), (3328, 4, 17),
+    (3584, 2, 8), (3840, 4, 16), (4096, 1, 4), (4608, 2, 7), (5120, 4, 12), (5632, 3, 8), (6144, 3, 8), (6656, 4, 9), (7168, 2, 4),
+    (7680, 4, 8), (8192, 1, 2), (9216, 4, 7), (10240, 4, 6), (11264, 3, 4), (12288, 3, 4), (13312, 2, 2), (14336, 2, 2), (15360, 4, 4),
+    (16384, 1, 1), (18432, 2, 1), (20480, 2, 1), (22528, 2, 1), (24576, 2, 1), (26624, 2, 1), (28672, 2, 1), (30720, 2, 1), (32768, 2, 1),
+    (36864, 3, 1), (40960, 3, 1), (45056, 3, 1), (49152, 3, 1), (53248, 4, 1), (57344, 4, 1), (61440, 4, 1), (65536, 4, 1), (73728, 5, 1),
+    (81920, 5, 1), (90112, 6, 1), (98304, 6, 1), (106496, 7, 1), (114688, 7, 1), (122880, 8, 1), (131072, 8, 1), (147456, 9, 1),
+    (163840, 10, 1), (180224, 11, 1), (196608, 12, 1), (212992, 13, 1), (229376, 14, 1), (245760, 15, 1), (262144, 16, 1), (294912, 18, 1),
+    (327680, 20, 1), (360448, 22, 1), (393216, 24, 1), (425984, 26, 1), (458752, 28, 1), (491520, 30, 1), (524288, 32, 1), (589824, 36, 1),
+    (655360, 40, 1), (720896, 44, 1), (786432, 48, 1), (851968, 52, 1), (917504, 56, 1), (983040, 60, 1),
 ];
 
 /// How many free slots of a class a thread keeps at most.
 fn cache_limit(class: usize) -> usize {
-    [64, 32, 16, 0][[8, 20, 40].iter().filter(|first| class >= **first).count()]
+    [64, 32, 16, 0][[128, 1024, 32_768].iter().filter(|most| CLASSES[class].0 > **most).count()]
 }
 
 /// How many slots of a class are asked for at once.
@@ -42,14 +56,29 @@ fn fill_count(class: usize) -> usize {
     (cache_limit(class) / 8).max(1)
 }
 
-/// The class of a request that isn't too large; `DIRECT` where it is a direct map.
-fn class_of(size: u64) -> usize {
-    CLASSES.partition_point(|(slot, _, _)| u64::from(*slot) < size.max(1) + 8)
+/// The version of a trace: its classes, and how many super pages a region has at most.
+#[derive(Clone, Copy)]
+struct Version {
+    first: usize, // of its classes
+    behind: usize,
+    most_supers: usize,
 }
 
-/// The size of the slot that a request gets which isn't too large.
-fn slot_size_for(size: u64) -> u32 {
-    CLASSES.get(class_of(size)).map_or((size as u32 + 8).next_multiple_of(SYSTEM_PAGE), |(slot, _, _)| *slot)
+const VERSION_1: Version = Version { first: 0, behind: SPARSE, most_supers: 16 };
+const VERSION_2: Version = Version { first: SPARSE, behind: DIRECT, most_supers: 64 };
+
+impl Version {
+    /// The class of a request that isn't too large; `DIRECT` where it is a direct map.
+    fn class_of(&self, size: u64) -> usize {
+        let slots = &CLASSES[self.first..self.behind];
+        let at = slots.partition_point(|(slot, _, _)| u64::from(*slot) < size.max(1) + 8);
+        if at < slots.len() { self.first + at } else { DIRECT }
+    }
+
+    /// The size of the slot that a request gets which isn't too large.
+    fn slot_size_for(&self, size: u64) -> u32 {
+        CLASSES.get(self.class_of(size)).map_or((size as u32 + 8).next_multiple_of(SYSTEM_PAGE), |(slot, _, _)| *slot)
+    }
 }
 
 /// How many super pages a direct map has whose slot is so long.
@@ -81,6 +110,7 @@ struct OpLine {
 }
 
 struct Trace {
+    version: Version,
     region: u32,
     partitions: usize,
     threads: usize,
@@ -121,15 +151,15 @@ fn is_free(word: u64) -> bool {
 #[derive(Clone, Copy, PartialEq)]
 enum Kind {
     Made, Done, Word, Dangling, SecondFree, NotOwner, StaleReset, StaleUse, Nothing, Filled, NotRef, Shared, OutOfRange, TooLarge, Full,
-    Swapped, Purged,
+    Swapped, Purged, Uncounted,
 }
 
-const KINDS: [(&[u8], Kind); 17] = [
+const KINDS: [(&[u8], Kind); 18] = [
     (b"made", Kind::Made), (b"done", Kind::Done), (b"word", Kind::Word), (b"dangling", Kind::Dangling),
     (b"second-free", Kind::SecondFree), (b"not-owner", Kind::NotOwner), (b"stale-reset", Kind::StaleReset),
     (b"stale-use", Kind::StaleUse), (b"nothing", Kind::Nothing), (b"filled", Kind::Filled), (b"not-ref", Kind::NotRef),
     (b"shared", Kind::Shared), (b"out-of-range", Kind::OutOfRange), (b"too-large", Kind::TooLarge), (b"full", Kind::Full),
-    (b"swapped", Kind::Swapped), (b"purged", Kind::Purged),
+    (b"swapped", Kind::Swapped), (b"purged", Kind::Purged), (b"uncounted", Kind::Uncounted),
 ];
 
 /// A slot, by the index of its name, and the word that was found there.
@@ -324,10 +354,15 @@ impl<'a> Reader<'a> {
     }
 
     fn head(&mut self, words: &[&[u8]]) -> Option<Trace> {
-        let [b"trace", b"1", b"region", region, b"partitions", partitions, b"threads", threads] = words else { return None };
-        let region = self.within(region, b"", 1, 16)? as u32;
+        let [b"trace", version, b"region", region, b"partitions", partitions, b"threads", threads] = words else { return None };
+        let version = match *version {
+            b"1" => VERSION_1,
+            b"2" => VERSION_2,
+            _ => return None,
+        };
+        let region = self.within(region, b"", 1, version.most_supers)? as u32;
         let (partitions, threads) = (self.within(partitions, b"", 1, 4)?, self.within(threads, b"", 1, 16)?);
-        Some(Trace { region, partitions, threads, phases: 1, ops: Vec::new(), of_line: vec![NONE; 2] })
+        Some(Trace { version, region, partitions, threads, phases: 1, ops: Vec::new(), of_line: vec![NONE; 2] })
     }
 
     /// An op, and the register that it names first.
@@ -410,7 +445,7 @@ impl<'a> Reader<'a> {
             (Made, [slot, usable, found]) => (self.seen(slot, found, run)?, number32(usable)?.into()),
             (Word | Dangling, [slot, found, value]) => (self.seen(slot, found, run)?, hex(value, 16)?),
             (Done | NotOwner | Shared | SecondFree | StaleUse, [slot, found]) => (self.seen(slot, found, run)?, 0),
-            (SecondFree | StaleUse | StaleReset | Nothing | Filled | NotRef | OutOfRange | TooLarge, []) => (None, 0),
+            (SecondFree | StaleUse | StaleReset | Nothing | Filled | NotRef | OutOfRange | TooLarge | Uncounted, []) => (None, 0),
             (Full | Swapped | Purged, [n]) => (None, number32(n)?.into()),
             _ => return None,
         };
@@ -597,8 +632,8 @@ fn first_usable(r: &Run) -> Vec<u64> {
 }
 
 /// The answer is the one of the op, by what its register holds; `regs` are those of its thread.
-fn answer_fits(r: &Run, usable: &[u64], regs: &[Reg], op: &OpLine, record: &Record) -> bool {
-    let (Reg::Own(slot) | Reg::Ref(slot)) = regs[op.reg] else { return empty_fits(r, regs[op.reg], op, record) };
+fn answer_fits(v: Version, r: &Run, usable: &[u64], regs: &[Reg], op: &OpLine, record: &Record) -> bool {
+    let (Reg::Own(slot) | Reg::Ref(slot)) = regs[op.reg] else { return empty_fits(v, r, regs[op.reg], op, record) };
     let owns = regs[op.reg] == Reg::Own(slot);
     let its = record.seen.is_some_and(|seen| seen.slot == slot);
     let found = record.seen.map_or(0, |seen| seen.found);
@@ -622,11 +657,11 @@ fn answer_fits(r: &Run, usable: &[u64], regs: &[Reg], op: &OpLine, record: &Reco
 }
 
 /// The same where the register holds no handle.
-fn empty_fits(r: &Run, holds: Reg, op: &OpLine, record: &Record) -> bool {
+fn empty_fits(v: Version, r: &Run, holds: Reg, op: &OpLine, record: &Record) -> bool {
     let is_bare = |kind| record.kind == kind && record.seen.is_none();
     match (op.op, holds) {
         (Op::Alloc { size, .. }, _) if size > GREATEST => is_bare(Kind::TooLarge),
-        (Op::Alloc { size, .. }, _) if record.kind == Kind::Made => record.told == u64::from(slot_size_for(size) - 8),
+        (Op::Alloc { size, .. }, _) if record.kind == Kind::Made => record.told == u64::from(v.slot_size_for(size) - 8),
         (Op::Alloc { .. }, _) => is_bare(Kind::Full),
         (Op::Swap(cell), _) => r.exchange(cell, record).is_some_and(|at| r.exchanges[at].gave == Reg::Empty),
         (Op::Purge, _) => is_bare(Kind::Purged),
@@ -658,7 +693,7 @@ fn registers(t: &Trace, r: &Run) -> Holds<Vec<bool>> {
     let mut through = vec![false; t.ops.len()];
     for (i, (op, record)) in both(t, r) {
         let regs = &mut all[op.thread];
-        ask(answer_fits(r, &usable, regs, op, record), i)?;
+        ask(answer_fits(t.version, r, &usable, regs, op, record), i)?;
         through[i] = matches!(regs[op.reg], Reg::Ref(_));
         if let Some((reg, holds)) = change(r, op, record) {
             regs[reg] = holds;
@@ -1024,6 +1059,7 @@ struct Home {
 }
 
 struct Placement<'a> {
+    version: Version,
     run: &'a Run,
     roots: Vec<Root>,
     homes: Vec<Option<Home>>,
@@ -1033,12 +1069,14 @@ impl Placement<'_> {
     /// The entry fits its root after the entries before it, and its op makes it. Then it is played.
     fn fits(&mut self, op: &OpLine, e: &RootEntry) -> bool {
         let size = match op.op {
-            Op::Alloc { partition, size } if partition == e.partition && size <= GREATEST && class_of(size) == e.class => Some(size),
+            Op::Alloc { partition, size } if partition == e.partition && size <= GREATEST && self.version.class_of(size) == e.class => {
+                Some(size)
+            }
             _ => None,
         };
         match (e.act, op.op) {
             (Act::Fill, _) => size.is_some() && self.fill(e),
-            (Act::Map, _) => size.is_some_and(|size| slot_size_for(size) == e.len) && self.map(e),
+            (Act::Map, _) => size.is_some_and(|size| self.version.slot_size_for(size) == e.len) && self.map(e),
             (Act::Full, _) => size.is_some_and(|size| self.full(e, size)),
             (Act::Give, Op::Free | Op::Reset | Op::Purge) => self.run.slots(e).iter().all(|s| self.gives(e.partition, s.slot)),
             (Act::Unmap, Op::Free | Op::Reset) => self.unmap(e),
@@ -1086,7 +1124,7 @@ impl Placement<'_> {
     }
 
     fn full(&mut self, e: &RootEntry, size: u64) -> bool {
-        let count = if e.class == DIRECT { supers_for(slot_size_for(size)) } else { 1 };
+        let count = if e.class == DIRECT { supers_for(self.version.slot_size_for(size)) } else { 1 };
         let served = e.class != DIRECT && self.roots[e.partition].serves(e.class);
         !served && self.asked(e) == Some((false, count, None))
     }
@@ -1129,7 +1167,8 @@ fn roots(t: &Trace, r: &Run) -> Holds<(Vec<Option<Home>>, Censuses)> {
         }
     }
     let root = || Root { lists: std::array::from_fn(|_| vec![Came::new(); DIRECT]), ..Root::default() };
-    let mut all = Placement { run: r, roots: (0..t.partitions).map(|_| root()).collect(), homes: vec![None; r.names.len()] };
+    let roots = (0..t.partitions).map(|_| root()).collect();
+    let mut all = Placement { version: t.version, run: r, roots, homes: vec![None; r.names.len()] };
     let mut censuses = vec![Vec::new(); t.partitions];
     let (mut order, mut next, mut partition) = (Order::default(), 0, 0);
     for (i, e) in r.journal.iter().enumerate() {
@@ -1214,6 +1253,7 @@ impl<'a> Acts<'a> {
 
 /// The lists of free slots of all threads, by partition and class, each with its front last; and how much they hold.
 struct Caches<'a> {
+    version: Version,
     homes: &'a [Option<Home>],
     lists: Vec<Vec<Numbered>>,
     partitions: usize,
@@ -1222,7 +1262,8 @@ struct Caches<'a> {
 
 impl Caches<'_> {
     fn list(&mut self, thread: usize, partition: usize, class: usize) -> &mut Vec<Numbered> {
-        &mut self.lists[(thread * self.partitions + partition) * DIRECT + class]
+        let Version { first, behind, .. } = self.version;
+        &mut self.lists[(thread * self.partitions + partition) * (behind - first) + class - first]
     }
 
     fn made(&mut self, thread: usize, partition: usize, class: usize, seen: Seen, acts: &mut Acts) -> Option<()> {
@@ -1257,7 +1298,7 @@ impl Caches<'_> {
     fn purged(&mut self, thread: usize, given: u64, acts: &mut Acts) -> Option<()> {
         let mut count = 0;
         for partition in 0..self.partitions {
-            for class in 0..DIRECT {
+            for class in self.version.first..self.version.behind {
                 let slots = std::mem::take(self.list(thread, partition, class));
                 acts.gives(partition, &slots)?;
                 self.tallies[partition].less(slots.len() as u64, CLASSES[class].0);
@@ -1270,10 +1311,13 @@ impl Caches<'_> {
 
     fn row(&mut self, op: &OpLine, record: &Record, acts: &mut Acts) -> Option<()> {
         match (op.op, record.kind) {
-            (Op::Alloc { partition, size }, Kind::Made) => self.made(op.thread, partition, class_of(size), record.seen?, acts)?,
+            (Op::Alloc { partition, size }, Kind::Made) => {
+                let class = self.version.class_of(size);
+                self.made(op.thread, partition, class, record.seen?, acts)?
+            }
             (Op::Alloc { partition, size }, Kind::Full) => {
                 acts.next(partition, Act::Full)?;
-                let class = class_of(size);
+                let class = self.version.class_of(size);
                 (class == DIRECT || self.list(op.thread, partition, class).is_empty()).then_some(())?;
             }
             (Op::Purge, _) => self.purged(op.thread, record.told, acts)?,
@@ -1291,8 +1335,8 @@ impl Caches<'_> {
 fn caches(t: &Trace, r: &Run, homes: &[Option<Home>]) -> Holds<Vec<[Tally; 4]>> {
     let of: Vec<_> = r.journal.iter().map(|e| t.of_line[e.line as usize] as usize).collect();
     let (firsts, list) = grouped(t.ops.len(), &of);
-    let lists = vec![Vec::new(); t.threads * t.partitions * DIRECT];
-    let mut all = Caches { homes, lists, partitions: t.partitions, tallies: [Tally::default(); 4] };
+    let lists = vec![Vec::new(); t.threads * t.partitions * (t.version.behind - t.version.first)];
+    let mut all = Caches { version: t.version, homes, lists, partitions: t.partitions, tallies: [Tally::default(); 4] };
     let mut told = Vec::new();
     for (i, (op, record)) in both(t, r) {
         told.resize(op.phase as usize - 1, all.tallies);

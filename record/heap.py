@@ -5,42 +5,45 @@ from bisect import bisect_left
 from collections import defaultdict
 
 from figures import DIRECT, new_rows
-from placement import ACTIVE, DECOMMITTED, EMPTY, FULL, PARTITION_PAGE, SIZES, SUPER_PAGE, SYSTEM_PAGE, Pool, Root, slot_sizes
+from placement import ACTIVE, DECOMMITTED, EMPTY, FIRST_CLASS, FULL, PARTITION_PAGE, SIZES, SUPER_PAGE, SYSTEM_PAGE, Pool, Root, slot_sizes
 
 ALLOCATE, FREE, RESIZE = range(3)
 COUNT_WORD = 8
 GREATEST = 33_521_656
-SPARSE = slot_sizes(1)
 
 
-def size_class(size):
-    """The class of a request in version 1, or `DIRECT`."""
-    number = bisect_left(SPARSE, max(size, 1) + COUNT_WORD)
-    return number if number < len(SPARSE) else DIRECT
+class Rules:
+    """Which slots a program gets: by the classes of a version. To compare, without the count word or without caches."""
+
+    def __init__(self, version, count_word=COUNT_WORD, caches=True):
+        self.version, self.count_word = version, count_word
+        self.first, self.sizes, self.known = FIRST_CLASS[version], slot_sizes(version), {}
+        # By class, the slots that a thread keeps at most, and those that it asks for at once.
+        self.limits = [(64, 32, 16, 0)[bisect_left((128, 1024, 32_768), size)] if caches else 0 for size in SIZES]
+        self.fills = [max(limit // 8, 1) for limit in self.limits]
+
+    def slot(self, size):
+        """The class of a request, or `DIRECT`, and the bytes of the slot or direct map that it gets."""
+        if size not in self.known:
+            raw = max(size, 1) + self.count_word
+            number = bisect_left(self.sizes, raw)
+            classed = number < len(self.sizes)
+            self.known[size] = (self.first + number, self.sizes[number]) if classed else (DIRECT, -(-raw // SYSTEM_PAGE) * SYSTEM_PAGE)
+        return self.known[size]
+
+    def slot_size(self, size):
+        return self.slot(size)[1]
 
 
-def slot_size(size):
-    """The bytes of the slot or direct map that a request gets."""
-    number = size_class(size)
-    return SIZES[number] if number < DIRECT else -(-(size + COUNT_WORD) // SYSTEM_PAGE) * SYSTEM_PAGE
-
-
-def cache_limit(number):
-    """The slots of this class that a thread keeps at most."""
-    return (64, 32, 16, 0)[(number > 7) + (number > 19) + (number > 39)]
-
-
-def fill_count(number):
-    """The slots of this class that a thread asks for at once."""
-    return max(cache_limit(number) // 8, 1)
+RULES = {version: Rules(version) for version in FIRST_CLASS}
 
 
 class Heap:
     """What stands after the events so far: `rows` by class, the caches by thread and class with their fronts last, and of each live
     object its class, where it is, the size that was asked for, and the bytes of its slot."""
 
-    def __init__(self):
-        self.root, self.pool = Root([]), Pool(0)
+    def __init__(self, rules):
+        self.rules, self.root, self.pool = rules, Root([]), Pool(0)
         self.caches, self.live, self.seen = defaultdict(list), {}, {}
         self.rows = new_rows()
         self.committed = self.reserved = self.most = self.most_at = self.events = 0
@@ -60,17 +63,17 @@ class Heap:
         self.events += 1
 
     def allocate(self, thread, made, size):
-        number = size_class(size)
+        number, length = self.rules.slot(size)
         if number == DIRECT:
-            place = self.map(size)
+            place = self.map(length)
         else:
             cache = self.caches[thread, number]
             if not cache:
                 self.fill(number, cache)
             place = cache.pop()
             self.rows[number].cached -= SIZES[number]
-        self.live[made] = number, place, size, slot_size(size)
-        self.rows[number].allocate(size, slot_size(size))
+        self.live[made] = number, place, size, length
+        self.rows[number].allocate(size, length)
         self.asked += size
 
     def free(self, thread, made):
@@ -97,8 +100,7 @@ class Heap:
         self.reserved += SUPER_PAGE * count
         return first
 
-    def map(self, size):
-        length = slot_size(size)
+    def map(self, length):
         count = -(-(length + 2 * PARTITION_PAGE) // SUPER_PAGE)
         self.commit(DIRECT, length)
         return self.take_super_pages(count), count
@@ -113,7 +115,7 @@ class Heap:
         if self.root.asks(number):
             self.root.open(self.take_super_pages(1), 0)
         taken = []
-        while not taken or (len(taken) < fill_count(number) and not self.root.asks(number)):
+        while not taken or (len(taken) < self.rules.fills[number] and not self.root.asks(number)):
             taken.append(self.root.take(number))
             self.note(taken[-1][0])
         cache.extend(reversed(taken))
@@ -123,8 +125,9 @@ class Heap:
         """A slot to the front of a list. Past the limit all but the first half of the limit go back, from the front on."""
         cache.append(place)
         self.rows[number].cached += SIZES[number]
-        if len(cache) > cache_limit(number):
-            over = len(cache) - cache_limit(number) // 2
+        limit = self.rules.limits[number]
+        if len(cache) > limit:
+            over = len(cache) - limit // 2
             self.rows[number].cached -= SIZES[number] * over
             for span, slot in reversed(cache[:over]):
                 for changed in self.root.give(span, slot):

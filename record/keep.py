@@ -1,6 +1,6 @@
 """Which objects of a program go into a trace, if not all fit: whole classes, or a hash of the objects."""
 
-from heap import ALLOCATE, FREE, RESIZE, size_class, slot_size
+from heap import ALLOCATE, FREE, RESIZE
 
 WINDOWS = 1000
 HASH = "a hash of the objects"
@@ -46,18 +46,18 @@ def shares(program):
     found, classes, sizes, width = {}, [], {}, -(-len(program.events) // WINDOWS)
     for n, (act, _, made, size) in enumerate(program.events):
         if act == ALLOCATE:
-            classes.append(size_class(size))
+            classes.append(program.rules.slot(size)[0])
         if n % width == 0:
             for each in found.values():
                 each.most[n // width] = each.live
         share = found.setdefault(classes[made], Share())
         share.step(act, n // width)
         if n <= program.peak:
-            at_peak(share, sizes, act, made, size)
+            at_peak(share, sizes, program.rules.slot_size, act, made, size)
     return found, classes
 
 
-def at_peak(share, sizes, act, made, size):
+def at_peak(share, sizes, slot_size, act, made, size):
     """An event up to the one where most is asked for."""
     before, now = sizes.get(made, 0), 0 if act == FREE else size
     share.asked += now - before
@@ -95,6 +95,6 @@ def needs(program, kept):
         if made in kept:
             events += 1
             live += SIGNS[act]
-            size += SIGNS[act] * slot_size(asked)
+            size += SIGNS[act] * program.rules.slot_size(asked)
             most, greatest = max(most, live), max(greatest, size)
     return most, events, greatest

@@ -1,5 +1,5 @@
-"""Reads the log of a program's allocations: heaptrack's raw text, valgrind's, glibc's mtrace's, ltrace's, that of `record.c`, and
-one text for all others, which README.md describes. What comes out is what the program did, in the log's order."""
+"""Reads the log of a program's allocations: heaptrack's raw text, valgrind's, glibc's mtrace's, ltrace's, that of `record.c`, one
+text for all others, which README.md describes, or a trace. What comes out is what the program did, in the log's order."""
 
 import gzip
 import os
@@ -7,8 +7,10 @@ import re
 import shutil
 import struct
 import subprocess
+from collections import Counter
 
-from heap import ALLOCATE, FREE, GREATEST, RESIZE, slot_size
+from heap import ALLOCATE, FREE, GREATEST, RESIZE, RULES
+from texts import HEAD, PHASE, NoRun, read_op
 
 MAGIC = b"record 1"
 RECORD = struct.Struct("<IIQQQ")
@@ -21,10 +23,11 @@ class BadLog(Exception):
 
 class Program:
     """What a program did: its events in order, each an act, a thread, an object, and the bytes that were asked for. Threads are
-    counted in the order of their first calls, objects in that of their allocations. A resize keeps its slot; any other realloc is an
-    allocation and a free, which `moves` names."""
+    counted in the order of their first calls, objects in that of their allocations. A resize keeps its slot, by the classes of a
+    version; any other realloc is an allocation and a free, which `moves` names."""
 
-    def __init__(self):
+    def __init__(self, version=None):
+        self.version, self.rules = version, RULES[version or 1]
         self.events, self.sizes, self.threads, self.live, self.moves = [], [], {}, {}, set()
         self.unknown = self.unseen = self.kept = self.aligned = self.too_large = 0
         self.asked = self.most_asked = self.peak = 0
@@ -77,7 +80,7 @@ class Program:
             self.live[address] = old
         elif not now:
             self.end(thread, old)
-        elif old is not None and size <= GREATEST and slot_size(size) == slot_size(self.sizes[old]):
+        elif old is not None and size <= GREATEST and self.rules.slot_size(size) == self.rules.slot_size(self.sizes[old]):
             self.kept += 1
             self.note(RESIZE, thread, old, size, size - self.sizes[old])
             self.sizes[old], self.live[now] = size, old
@@ -109,9 +112,10 @@ def unpacked(data):
         raise BadLog("cut: gzip can't unpack it whole") from error
 
 
-def read(path):
-    """What the program did by the log in this file."""
-    program = Program()
+def read(path, version=None):
+    """What the program did by the log in this file, with slots of this version, or else of the one that a trace's head names, or of
+    version 1."""
+    program = Program(version)
     with open(path, "rb") as file:
         head = file.read(RECORD.size)
         if head.startswith(MAGIC):
@@ -300,6 +304,61 @@ class Ltrace(Calls):
         program.allocate(thread, address, size, alignment)
 
 
+class Trace:
+    """A trace of one partition, without purges. An object stays while a raw_ptr points to it."""
+
+    name = "a trace of one partition without purges"
+
+    def __init__(self):
+        self.lines, self.threads = 0, None
+        self.registers, self.cells, self.pointers = {}, {}, Counter()
+
+    def line(self, program, line):
+        self.lines += 1
+        if self.threads is None:
+            version, _, partitions, self.threads = map(int, HEAD.fullmatch(line).groups())
+            program.rules = RULES[program.version or version]
+            return partitions == 1
+        try:
+            op = read_op(line, self.lines, 1, self.threads)
+        except NoRun:
+            return False
+        if op is not PHASE and op.name in "ACRFX":
+            getattr(self, op.name)(program, op.thread, *op.fields)
+        return op is PHASE or op.name != "P"
+
+    def A(self, program, thread, register, _, size):
+        made = None if self.registers.get((thread, register)) else program.made(thread, size)
+        if made is not None:
+            self.registers[thread, register] = "own", made
+            self.pointers[made] = 1
+
+    def C(self, _, thread, register, other):
+        held = self.registers.get((thread, register))
+        if held and not self.registers.get((thread, other)):
+            self.registers[thread, other] = "ref", held[1]
+            self.pointers[held[1]] += 1
+
+    def R(self, program, thread, register):
+        self.drop(program, thread, register, "ref")
+
+    def F(self, program, thread, register):
+        self.drop(program, thread, register, "own")
+
+    def drop(self, program, thread, register, kind):
+        """A pointer of this kind leaves its register. With the last one the object goes."""
+        held = self.registers.get((thread, register))
+        if held and held[0] == kind:
+            self.registers[thread, register] = None
+            self.pointers[held[1]] -= 1
+            if not self.pointers[held[1]]:
+                program.end(thread, held[1])
+
+    def X(self, _, thread, cell, register):
+        found = self.cells.get(cell)
+        self.cells[cell], self.registers[thread, register] = self.registers.get((thread, register)), found
+
+
 def reader_of(data):
     """The reader of a text log, and its lines."""
     try:
@@ -327,6 +386,7 @@ def reader_of_line(text):
 # Each kind of text, by its first line.
 HEADS = (
     (Text, "log 1"),
+    (Trace, HEAD),
     (Heaptrack, "v [0-9a-f]+ [0-9a-f]+"),
     (Mtrace, "= Start"),
     (Valgrind, r"(==|--)[0-9]+\1 .*"),

@@ -6,7 +6,7 @@ from heap import ALLOCATE, FREE, RESIZE, Heap
 
 def sums_of(program):
     """The table of sums of a program, and the heap at its end."""
-    heap = Heap()
+    heap = Heap(program.rules)
     then, reserved = kept(heap.rows), 0
     for n, event in enumerate(program.events):
         heap.step(*event)

@@ -138,5 +138,5 @@ class Script:
                 room[to] -= 1
                 room[self.place[handle][0]] += 1
 
-    def text(self, region):
-        return "\n".join([f"trace 1 region {region} partitions 1 threads {self.used}", *self.lines, ""])
+    def text(self, version, region):
+        return "\n".join([f"trace {version} region {region} partitions 1 threads {self.used}", *self.lines, ""])

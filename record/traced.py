@@ -3,9 +3,11 @@
 from heap import ALLOCATE, FREE, RESIZE, Heap
 from keep import HASH, Room, by_classes, by_hash
 from logs import BadLog
+from placement import SUPER_PAGE
 from script import COPY, MOST_LIVE, RESET, THREADS, Script, renumbered, with_refs
+from texts import MOST_SUPER_PAGES
 
-MOST_LINES, MOST_BYTES, MOST_SUPER_PAGES = 65_536, 4_194_304, 16
+MOST_LINES, MOST_BYTES = 65_536, 4_194_304
 PICTURE = 70
 TRIES = 40
 
@@ -32,9 +34,9 @@ def most_live(events):
     return most
 
 
-def filled(events):
+def filled(rules, events):
     """The heap after these events. An object that a raw_ptr points to goes back when the raw_ptr is reset."""
-    heap, pointed, waiting = Heap(), {}, set()
+    heap, pointed, waiting = Heap(rules), {}, set()
     for act, thread, made, size in events:
         if act == COPY:
             pointed[made] = size
@@ -48,9 +50,9 @@ def filled(events):
     return heap
 
 
-def region(least, threads):
+def region(least, threads, most):
     """The super pages of the head: the least that `model` needs; more with several threads, whose order `replay` may choose."""
-    return max(least, 1) if threads == 1 else min(least + least // 4 + 1, MOST_SUPER_PAGES)
+    return max(least, 1) if threads == 1 else min(least + least // 4 + 1, most)
 
 
 def made_of(program, kept, how, refs):
@@ -61,9 +63,10 @@ def made_of(program, kept, how, refs):
     events = list(with_refs(events, *refs)) if refs else events
     fit("live", "live objects", most_live(events), MOST_LIVE)
     fit("events", "events", len(events), MOST_LINES)
-    heap, script = filled(events), Script(events).play()
-    text = script.text(region(len(heap.pool.taken), script.own))
-    fit("size", "super pages", len(heap.pool.taken), MOST_SUPER_PAGES)
+    heap, script = filled(program.rules, events), Script(events).play()
+    version, least = program.rules.version, len(heap.pool.taken)
+    text = script.text(version, region(least, script.own, MOST_SUPER_PAGES[version]))
+    fit("size", "super pages", least, MOST_SUPER_PAGES[version])
     fit("events", "lines", len(script.lines) + 1, MOST_LINES)
     fit("events", "bytes", len(text), MOST_BYTES)
     told = f"{about(program, kept, heap, script, len(text))}; {how}{assumed(events, refs)}"
@@ -81,7 +84,7 @@ def about(program, kept, heap, script, size):
 
 
 def share(program, heap):
-    return 100 * heap.most_asked / program.most_asked
+    return 100 * heap.most_asked / program.most_asked if program.most_asked else 100
 
 
 def assumed(events, refs):
@@ -97,7 +100,8 @@ def chosen(program, policy, refs):
         except TooMuch:
             if policy:
                 raise
-    room, choose = Room(MOST_LIVE, 60_000, 24 << 20), by_hash if policy == "hash" else by_classes
+    size = MOST_SUPER_PAGES[program.rules.version] * SUPER_PAGE * 3 // 4
+    room, choose = Room(MOST_LIVE, 60_000, size), by_hash if policy == "hash" else by_classes
     for last in range(TRIES, -1, -1):
         kept, how = choose(program, room)
         try:

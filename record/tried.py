@@ -18,6 +18,36 @@ HEAPTRACK = "v 10400 3\nx 4 /a/b\nt 1 0\n+ 18 1 1000\n+ 64 1 2000\n- 2000\n+ 384
 MADE = [(ALLOCATE, 0, made, size) for made, size in enumerate((24, 100, 900, 60))]
 EVENTS = [*MADE[:3], (FREE, 0, 1, 100), (FREE, 0, 0, 24), MADE[3], (FREE, 0, 2, 900)]
 
+# A trace whose first object stays until its last raw_ptr is reset by another thread.
+POINTED = b"""trace 2 region 1 partitions 1 threads 2
+0 A r0 p0 130
+0 A r1 p0 8
+0 C r0 r2
+0 C r2 r3
+0 C r2 r1
+0 A r0 p0 50
+0 X c0 r2
+0 F r3
+0 F r1
+phase
+0 F r0
+0 F r0
+1 D r5 0
+1 X c0 r5
+0 R r3
+1 W r5 00000000000000ff
+1 R r5
+1 R r5
+0 A r0 p0 40000000
+"""
+
+# A log of four objects, and its row by both versions. Their slots have 160, 640, 1,280 and 327,680 bytes, or 144, 576, 1,152 and 294,912;
+# without the count word 128, 640, 1,024 and 327,680, or 128, 576, 1,024 and 294,912. Of each of the first three a page is committed.
+COMPARED = (
+    "log 1\na 0 10 128\na 0 20 520\na 0 30 1024\na 0 40 262200\nf 0 40\n",
+    "| four | 0.26 | 20.0 | 11.1 | 19.9 | 11.0 | 0.34 | 0.31 | -10 % | 0.34 | 0.31 | -10 % |",
+)
+
 # What is no log, and a part of the reason.
 REFUSED = (
     (b"", "no log that I know"),
@@ -29,6 +59,11 @@ REFUSED = (
     (b"log 1\na 0 10 -8\n", "line 2: this is no line"),
     (b"log 1\na 0 10 8\nf 0 \xff\n", "line 3: there is a byte that isn't ASCII"),
     (b"log 1\na 0 10 8\na 1 10 8\n", "line 3: address 10 is live and is allocated again"),
+    (b"trace 3 region 1 partitions 1 threads 1\n", "no log that I know"),
+    (b"trace 1 region 1 partitions 1 threads 1\n", "no events: was malloc called?"),
+    (b"trace 1 region 1 partitions 2 threads 1\n0 A r0 p0 8\n", "line 1: this is no line of a trace of one partition"),
+    (b"trace 2 region 1 partitions 1 threads 1\n0 A r0 p0 8\n0 P\n", "line 3: this is no line of a trace of one partition"),
+    (b"trace 2 region 1 partitions 1 threads 1\n1 A r0 p0 8\n", "line 2: this is no line of a trace of one partition"),
     (b"v 10400 3\na 18 4\n+ 0\n", "made with --raw"),
     (b"v 10400 3\n+ 18 1\n", "made with --raw"),
     (b"9 a->malloc(5) = 0x10\n9 a->calloc(5) = 0x20\n", "line 2: this is no line of ltrace's text"),

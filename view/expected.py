@@ -26,7 +26,7 @@ ANSWERS = {
     "made": "made SLOT USABLE FOUND",
     **{name: f"{name} SLOT FOUND" for name in ("done", "not-owner", "shared")},
     **{name: f"{name} SLOT FOUND VALUE" for name in ("word", "dangling")},
-    **{name: name for name in ("stale-reset", "nothing", "filled", "not-ref", "out-of-range", "too-large")},
+    **{name: name for name in ("stale-reset", "nothing", "filled", "not-ref", "out-of-range", "too-large", "uncounted")},
     **{name: f"{name} J" for name in ("full", "swapped")},
     "purged": "purged N",
 }

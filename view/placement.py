@@ -31,8 +31,9 @@ def span_shape(size):
     return pages, system, SYSTEM_PAGE * system // size
 
 
-# The classes of version 1, and then those of version 2.
+# The classes of version 1, and then those of version 2; and which of them is the first of a version.
 SIZES = slot_sizes(1) + slot_sizes(2)
+FIRST_CLASS = {1: 0, 2: len(slot_sizes(1))}
 SHAPES = [span_shape(size) for size in SIZES]
 
 

@@ -43,7 +43,7 @@ WITH_SLOT = {
     "shared": re.compile(f"({SLOT}) ({WORD})"),
 }
 MAYBE_SLOT = ("second-free", "stale-use")
-ALONE = ("stale-reset", "nothing", "filled", "not-ref", "out-of-range", "too-large")
+ALONE = ("stale-reset", "nothing", "filled", "not-ref", "out-of-range", "too-large", "uncounted")
 WITH_NUMBER = ("full", "swapped", "purged")
 RECORD = re.compile(f"e ({NUMBER}) ({NUMBER}) ([a-z-]+)(?: (.+))?")
 ROOT = re.compile(f"r ([0-3]) ({NUMBER}) ({NUMBER}) (fill|map|full|give|unmap|purge)(?: (.+))?")

@@ -21,7 +21,8 @@ use Rattle.pa_dense.specs.Lists.{HasListsOf}
 
 -- what is reported is made of the lists
 abbrev told_of : List Entry → List (List RootEntry) → List PoolEntry → List (List CellEntry) → List ReportLine → Told
-told_of es rs ps cs ls = record { entries = es; roots = λ p. slice_index_or rs p []; pools = ps; cells = λ k. slice_index_or cs k []; report = ls }
+told_of es rs ps cs ls =
+    record { entries = es; roots = λ p. slice_index_or rs p []; pools = ps; cells = λ k. slice_index_or cs k []; report = ls }
 
 same_told : (a b : Run) → HasListsOf a b → told_by b ≡ told_by a
 same_told a b same =
@@ -39,7 +40,8 @@ line_of es rs ps cs ls (places.Pool j) = 2 + length es + sum_by length rs + j
 line_of es rs ps cs ls (places.Cell k j) = 2 + length es + sum_by length rs + length ps + sum_by length (take k cs) + j
 line_of es rs ps cs ls (places.Report i) = 2 + length es + sum_by length rs + length ps + sum_by length cs + i
 
-lines_of : (r : Run) (place : Place) → line_at r place ≡ line_of r.entries.items r.roots.items r.pool.items r.cells.items r.report.items place
+lines_of : (r : Run) (place : Place) →
+    line_at r place ≡ line_of r.entries.items r.roots.items r.pool.items r.cells.items r.report.items place
 lines_of r (places.Record i) = refl
 lines_of r (places.Root p j) = refl
 lines_of r (places.Pool j) = refl
@@ -64,7 +66,8 @@ same_fails a b t c n same fails = record {
   place = fails.place;
   line = fails.line ∙ same_line a b same fails.place;
   unmet = λ demand. fails.unmet (subst (λ u. Demand c t u fails.place) (sym (same_told a b same)) demand);
-  before = λ other less. subst (λ u. Demand c t u other) (same_told a b same) (fails.before other (subst (λ m. m < n) (sym (same_line a b same other)) less));
+  before = λ other less. subst (λ u. Demand c t u other) (same_told a b same)
+      (fails.before other (subst (λ m. m < n) (sym (same_line a b same other)) less));
 }
 
 pub same_verdict : (a b : Run) (t : Trace) (v : Verdict) → HasListsOf a b → IsVerdict v t b → IsVerdict v t a

@@ -55,24 +55,31 @@ phases_rise t r ps same = subst RiseByPhase (sym same) (phased_played (rules_of 
 pub are_due : (t : Trace) (r : Run) → Holds clauses.Lines t r → AreDue (rules_of t) t.lines r.entries.items
 are_due t r holds = (lines_are_places t (told_by r)).1 holds
 
-pub of_threads : (t : Trace) (r : Run) (ps : List Played) → AreRecordsOf t r ps → IsWithinLimits t → Holds clauses.Lines t r → AreOfThreads16 ps
+pub of_threads : (t : Trace) (r : Run) (ps : List Played) → AreRecordsOf t r ps → IsWithinLimits t →
+    Holds clauses.Lines t r → AreOfThreads16 ps
 of_threads t r ps same limits holds = subst AreOfThreads16 (sym same) (due_have_lines.threads t (told_by r) limits (are_due t r holds))
 
-pub registers_held : (t : Trace) (r : Run) (ps : List Played) → AreRecordsOf t r ps → Holds clauses.Registers t r → MeetRegisters t.version (history_of r) ps
+pub registers_held : (t : Trace) (r : Run) (ps : List Played) → AreRecordsOf t r ps → Holds clauses.Registers t r →
+    MeetRegisters t.version (history_of r) ps
 registers_held t r ps same holds = subst (MeetRegisters t.version (history_of r)) (sym same) (λ i. holds (places.Record i))
 
-pub slots_held : (t : Trace) (r : Run) (ps : List Played) → AreRecordsOf t r ps → Holds clauses.Slots t r → (i : ℕ) → SlotsDemand ps (places.Record i)
+pub slots_held : (t : Trace) (r : Run) (ps : List Played) → AreRecordsOf t r ps → Holds clauses.Slots t r → (i : ℕ) →
+    SlotsDemand ps (places.Record i)
 slots_held t r ps same holds i = subst (λ qs. SlotsDemand qs (places.Record i)) (sym same) (holds (places.Record i))
 
-pub swaps_held : (t : Trace) (r : Run) (ps : List Played) → AreRecordsOf t r ps → Holds clauses.Cells t r → (i : ℕ) → CellsDemand (history_of r) ps (places.Record i)
+pub swaps_held : (t : Trace) (r : Run) (ps : List Played) → AreRecordsOf t r ps → Holds clauses.Cells t r → (i : ℕ) →
+    CellsDemand (history_of r) ps (places.Record i)
 swaps_held t r ps same holds i = subst (λ qs. CellsDemand (history_of r) qs (places.Record i)) (sym same) (holds (places.Record i))
 
-pub exchanges_held : (t : Trace) (r : Run) (ps : List Played) → AreRecordsOf t r ps → Holds clauses.Cells t r → (k j : ℕ) → CellsDemand (history_of r) ps (places.Cell k j)
+pub exchanges_held : (t : Trace) (r : Run) (ps : List Played) → AreRecordsOf t r ps → Holds clauses.Cells t r → (k j : ℕ) →
+    CellsDemand (history_of r) ps (places.Cell k j)
 exchanges_held t r ps same holds k j = subst (λ qs. CellsDemand (history_of r) qs (places.Cell k j)) (sym same) (holds (places.Cell k j))
 
-pub all_of_threads : (t : Trace) (r : Run) (ps : List Played) → AreRecordsOf t r ps → IsWithinLimits t → Holds clauses.Lines t r → All (IsOfThreads t.version) ps
+pub all_of_threads : (t : Trace) (r : Run) (ps : List Played) → AreRecordsOf t r ps → IsWithinLimits t → Holds clauses.Lines t r →
+    All (IsOfThreads t.version) ps
 all_of_threads t r ps same limits holds k d below =
-    let lines = subst (λ qs. AreLines (rules_of t) t.lines qs) (sym same) (records_are_lines.lines (rules_of t) t.lines r.entries.items (are_due t r holds)) in
+    let lines = subst (λ qs. AreLines (rules_of t) t.lines qs) (sym same)
+    (records_are_lines.lines (rules_of t) t.lines r.entries.items (are_due t r holds)) in
     let (thread, op) = records_within t ps (get_or ps k d) limits lines (Contains-get_or ps k d below) in
     let few = limits.head.2 in (
       omega (arith, few, thread),
@@ -88,11 +95,13 @@ region_few t limits = let most = region_most t.version in let region = limits.he
 pub pool_fits : (t : Trace) (r : Run) → Holds clauses.Pool t r → DoAllFit t.region r.pool.items
 pool_fits t r holds j e at = (holds (places.Pool j) e at).fits
 
-pub homes_held : (t : Trace) (r : Run) → Holds clauses.Lines t r → Holds clauses.Pool t r → Holds clauses.Roots t r → (s : SlotName) → HasOneHome t.version (journal_of r) s
+pub homes_held : (t : Trace) (r : Run) → Holds clauses.Lines t r → Holds clauses.Pool t r → Holds clauses.Roots t r → (s : SlotName) →
+    HasOneHome t.version (journal_of r) s
 homes_held t r lines pool roots s =
     let u = told_by r in
     let due = are_due t r lines in
-    let kind = one_kind t.region t.partitions (records_of t u) u.pools u.roots s ((roots_are_places t u due).1 roots) ((pool_is_places t u due).1 pool) in
+    let kind = one_kind t.region t.partitions (records_of t u) u.pools u.roots s ((roots_are_places t u due).1 roots)
+    ((pool_is_places t u due).1 pool) in
     record {
       class = kind.class;
       real = λ p c of. let (x, among, has) = kind.real p c of in subst (λ v. HasClass v c) (told_version t u x among) has;
@@ -112,7 +121,8 @@ pub histories_short : (r : Run) → HasLines32 r → (k : ℕ) → length (histo
 histories_short r short k = let most = list_short r.cells.items k in omega (arith, most, short)
 
 -- an exchange that isn't right is there
-pub exchange_short : (r : Run) (ps : List Played) (k at : ℕ) → HasLines32 r → (CellsDemand (history_of r) ps (places.Cell k at) → ⊥) → at < 4294967296
+pub exchange_short : (r : Run) (ps : List Played) (k at : ℕ) → HasLines32 r →
+    (CellsDemand (history_of r) ps (places.Cell k at) → ⊥) → at < 4294967296
 exchange_short r ps k at short unmet = elim (cases_lt at (length (history_of r k))) [
   | inl less ↦ let few = histories_short r short k in omega (arith, less, few)
   | inr past ↦ absurd (unmet (λ e there. let within = slice_get_within (history_of r k) at e there in absurd (omega (arith, within, past))))
@@ -123,7 +133,8 @@ exchange_short r ps k at short unmet = elim (cases_lt at (length (history_of r k
 zip_short : {A B : Type 0} (xs : List A) (ys : List B) → length (zip xs ys) ≤ length ys
 zip_short xs ys = let long = length-zip xs ys in omega (arith, long)
 
-no_record : (t : Trace) (r : Run) (i : ℕ) (x : Played) → (i < length r.entries.items → ⊥) → slice_get (records_of t (told_by r)) i ≡ Some x → ⊥
+no_record : (t : Trace) (r : Run) (i : ℕ) (x : Played) → (i < length r.entries.items → ⊥) →
+    slice_get (records_of t (told_by r)) i ≡ Some x → ⊥
 no_record t r i x none at =
     let os = op_lines (rules_of t) 2 1 t.lines in
     let within = slice_get_within (records_of t (told_by r)) i x at in

@@ -62,7 +62,8 @@ asks_records clauses.Titles t r of = absurd of
 asks_records clauses.Holders t r of = absurd of
 asks_records clauses.Report t r of = absurd of
 
-pub line_told : (c : Clause) (t : Trace) (r : Run) (o : Option ℕ) → IsOfRecords c → TellsFirst (λ i. Demand c t (told_by r) (places.Record i)) o → TellsLine c t r (option_map (λ i. 2 + i) o)
+pub line_told : (c : Clause) (t : Trace) (r : Run) (o : Option ℕ) → IsOfRecords c →
+    TellsFirst (λ i. Demand c t (told_by r) (places.Record i)) o → TellsLine c t r (option_map (λ i. 2 + i) o)
 line_told c t r None of tells = each
   where
     rest : AsksRecords c t r
@@ -88,7 +89,8 @@ line_told c t r (Some i) of (unmet, before) = record { place = places.Record i; 
 
 -- ---- a record that doesn't meet its demand is there
 
-pub first_there : (ps : List Played) (n : ℕ) (P : ℕ → Type 0) (o : Option ℕ) → length ps < n → ((i : ℕ) → ((x : Played) → IsRecord ps i x → ⊥) → P i) → TellsFirst P o → IfSome o (λ i. i < n)
+pub first_there : (ps : List Played) (n : ℕ) (P : ℕ → Type 0) (o : Option ℕ) → length ps < n →
+    ((i : ℕ) → ((x : Played) → IsRecord ps i x → ⊥) → P i) → TellsFirst P o → IfSome o (λ i. i < n)
 first_there ps n P None few none tells = tt
 first_there ps n P (Some i) few none (unmet, before) = elim (cases_lt i (length ps)) [
   | inl less ↦ omega (arith, less, few)

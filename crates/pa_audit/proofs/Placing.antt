@@ -27,11 +27,13 @@ list_there xs p j less = elim (cases_lt p (length xs)) [
 ]
 
 -- the members before a member of one of the lists are less than all members of the lists
-pub within_all : {A : Type 0} (xs : List (List A)) (p j : ℕ) → j < length (get_or xs p []) → sum_by length (take p xs) + j < sum_by length xs
+pub within_all : {A : Type 0} (xs : List (List A)) (p j : ℕ) → j < length (get_or xs p []) →
+    sum_by length (take p xs) + j < sum_by length xs
 within_all xs p j less = let most = sum_by_more_le length xs p [] (list_there xs p j less) in omega (arith, most, less)
 
 sum_up : {A : Type 0} (xs : List (List A)) (p q : ℕ) → p ≤ q → sum_by length (take p xs) ≤ sum_by length (take q xs)
-sum_up xs p q less = subst (λ zs. sum_by length zs ≤ sum_by length (take q xs)) (take-take p q xs less) (sum_by-take-le length (take q xs) p)
+sum_up xs p q less =
+    subst (λ zs. sum_by length zs ≤ sum_by length (take q xs)) (take-take p q xs less) (sum_by-take-le length (take q xs) p)
 
 -- what is on a lower line comes above
 pub above_at : {A : Type 0} (xs : List (List A)) (q i p j : ℕ) → i < length (get_or xs q []) → j < length (get_or xs p []) →
@@ -63,19 +65,23 @@ line_order r (places.Root q i) (places.Pool j) a b less = tt
 line_order r (places.Root q i) (places.Cell p j) a b less = tt
 line_order r (places.Root q i) (places.Report j) a b less = tt
 line_order r (places.Pool i) (places.Record j) a b less = absurd (omega (arith, less, b))
-line_order r (places.Pool i) (places.Root p j) a b less = let bound = within_all r.roots.items p j b in absurd (omega (arith, less, b, bound))
+line_order r (places.Pool i) (places.Root p j) a b less = let bound = within_all r.roots.items p j b in
+    absurd (omega (arith, less, b, bound))
 line_order r (places.Pool i) (places.Pool j) a b less = omega (arith, less)
 line_order r (places.Pool i) (places.Cell p j) a b less = tt
 line_order r (places.Pool i) (places.Report j) a b less = tt
 line_order r (places.Cell q i) (places.Record j) a b less = absurd (omega (arith, less, b))
-line_order r (places.Cell q i) (places.Root p j) a b less = let bound = within_all r.roots.items p j b in absurd (omega (arith, less, b, bound))
+line_order r (places.Cell q i) (places.Root p j) a b less = let bound = within_all r.roots.items p j b in
+    absurd (omega (arith, less, b, bound))
 line_order r (places.Cell q i) (places.Pool j) a b less = absurd (omega (arith, less, b))
 line_order r (places.Cell q i) (places.Cell p j) a b less = above_at r.cells.items q i p j a b (omega (arith, less))
 line_order r (places.Cell q i) (places.Report j) a b less = tt
 line_order r (places.Report i) (places.Record j) a b less = absurd (omega (arith, less, b))
-line_order r (places.Report i) (places.Root p j) a b less = let bound = within_all r.roots.items p j b in absurd (omega (arith, less, b, bound))
+line_order r (places.Report i) (places.Root p j) a b less = let bound = within_all r.roots.items p j b in
+    absurd (omega (arith, less, b, bound))
 line_order r (places.Report i) (places.Pool j) a b less = absurd (omega (arith, less, b))
-line_order r (places.Report i) (places.Cell p j) a b less = let bound = within_all r.cells.items p j b in absurd (omega (arith, less, b, bound))
+line_order r (places.Report i) (places.Cell p j) a b less = let bound = within_all r.cells.items p j b in
+    absurd (omega (arith, less, b, bound))
 line_order r (places.Report i) (places.Report j) a b less = omega (arith, less)
 
 below_or : (i n : ℕ) → (i < n) ⊎ (i < n → ⊥)
@@ -97,11 +103,14 @@ there_or r (places.Report i) = elim (cases_lt (length r.report.items) i) [
 abbrev pub AsksThere : Clause → Trace → Run → Type 0
 AsksThere c t r = (place : Place) → (IsThere r place → ⊥) → Demand c t (told_by r) place
 
-pub place_there : (c : Clause) (t : Trace) (r : Run) (o : Option Place) → AsksThere c t r → TellsPlace (Demand c t (told_by r)) o → IfSome o (IsThere r)
+pub place_there : (c : Clause) (t : Trace) (r : Run) (o : Option Place) → AsksThere c t r →
+    TellsPlace (Demand c t (told_by r)) o → IfSome o (IsThere r)
 place_there c t r None rest tells = tt
-place_there c t r (Some place) rest (unmet, before) = elim (there_or r place) [ inl there ↦ there | inr none ↦ absurd (unmet (rest place none)) ]
+place_there c t r (Some place) rest (unmet, before) =
+    elim (there_or r place) [ inl there ↦ there | inr none ↦ absurd (unmet (rest place none)) ]
 
-pub place_told : (c : Clause) (t : Trace) (r : Run) (o : Option Place) → AsksThere c t r → TellsPlace (Demand c t (told_by r)) o → TellsLine c t r (option_map (line_at r) o)
+pub place_told : (c : Clause) (t : Trace) (r : Run) (o : Option Place) → AsksThere c t r → TellsPlace (Demand c t (told_by r)) o →
+    TellsLine c t r (option_map (line_at r) o)
 place_told c t r None rest tells = tells
 place_told c t r (Some place) rest (unmet, before) =
     let here : IsThere r place = place_there c t r (Some place) rest (unmet, before) in
@@ -109,5 +118,9 @@ place_told c t r (Some place) rest (unmet, before) =
       place = place;
       line = refl;
       unmet = unmet;
-      before = λ other less. elim (there_or r other) [ inl there ↦ before other (line_order r other place there here less) | inr none ↦ rest other none ];
+      before = λ other less. elim (there_or r other) [
+        | inl there ↦ before other (line_order r other place there here less)
+        | inr none ↦
+            rest other none
+      ];
     }

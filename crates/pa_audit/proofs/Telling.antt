@@ -31,7 +31,8 @@ all_told Meets all (places.Pool j) = all.pools j
 all_told Meets all (places.Cell k j) = all.cells k j
 all_told Meets all (places.Report i) = all.report i
 
-above_record : (Meets : Place → Type 0) (i : ℕ) → ((j : ℕ) → j < i → Meets (places.Record j)) → (other : Place) → Precedes other (places.Record i) → Meets other
+above_record : (Meets : Place → Type 0) (i : ℕ) → ((j : ℕ) → j < i → Meets (places.Record j)) → (other : Place) →
+    Precedes other (places.Record i) → Meets other
 above_record Meets i before (places.Record j) less = before j less
 above_record Meets i before (places.Root p j) less = absurd less
 above_record Meets i before (places.Pool j) less = absurd less
@@ -48,7 +49,8 @@ above_root Meets p j records before (places.Report i) less = absurd less
 
 -- ---- pool: of its entries alone
 
-pub pool_told : (supers : ℕ) (ps : List Played) (pools : List PoolEntry) (roots : Journals) (o : Option ℕ) → TellsFirst (λ j. PoolDemand supers ps pools roots (places.Pool j)) o →
+pub pool_told : (supers : ℕ) (ps : List Played) (pools : List PoolEntry) (roots : Journals) (o : Option ℕ) →
+    TellsFirst (λ j. PoolDemand supers ps pools roots (places.Pool j)) o →
     TellsPlace (PoolDemand supers ps pools roots) (option_map places.Pool o)
 pool_told supers ps pools roots (Some at) (unmet, before) = (unmet, above)
   where
@@ -72,7 +74,8 @@ pub swap_told : (cells : ℕ → List CellEntry) (ps : List Played) (at : ℕ)
     → TellsFirst (λ i. CellsDemand cells ps (places.Record i)) (Some at) → TellsPlace (CellsDemand cells ps) (Some (places.Record at))
 swap_told cells ps at (unmet, before) = (unmet, above_record (CellsDemand cells ps) at before)
 
-pub exchange_told : (cells : ℕ → List CellEntry) (ps : List Played) (k at : ℕ) → TellsFirst (λ i. CellsDemand cells ps (places.Record i)) None →
+pub exchange_told : (cells : ℕ → List CellEntry) (ps : List Played) (k at : ℕ) →
+    TellsFirst (λ i. CellsDemand cells ps (places.Record i)) None →
     TellsPair (λ l j. CellsDemand cells ps (places.Cell l j)) (Some (k, at)) → TellsPlace (CellsDemand cells ps) (Some (places.Cell k at))
 exchange_told cells ps k at records (unmet, before) = (unmet, above)
   where
@@ -83,7 +86,8 @@ exchange_told cells ps k at records (unmet, before) = (unmet, above)
     above (places.Cell l j) less = before l j less
     above (places.Report i) less = absurd less
 
-pub exchanges_all : (cells : ℕ → List CellEntry) (ps : List Played) → TellsFirst (λ i. CellsDemand cells ps (places.Record i)) None → TellsPair (λ l j. CellsDemand cells ps (places.Cell l j)) None →
+pub exchanges_all : (cells : ℕ → List CellEntry) (ps : List Played) → TellsFirst (λ i. CellsDemand cells ps (places.Record i)) None →
+    TellsPair (λ l j. CellsDemand cells ps (places.Cell l j)) None →
     TellsPlace (CellsDemand cells ps) None
 exchanges_all cells ps records tells = all_told (CellsDemand cells ps) (record {
   records = records;
@@ -95,16 +99,22 @@ exchanges_all cells ps records tells = all_told (CellsDemand cells ps) (record {
 
 -- ---- roots: of records, and of the journals' entries after them
 
-pub refusal_told : (partitions : ℕ) (ps : List Played) (pools : List PoolEntry) (roots : Journals) (at : ℕ) → TellsFirst (λ i. RootsDemand partitions ps pools roots (places.Record i)) (Some at) →
+pub refusal_told : (partitions : ℕ) (ps : List Played) (pools : List PoolEntry) (roots : Journals) (at : ℕ) →
+    TellsFirst (λ i. RootsDemand partitions ps pools roots (places.Record i)) (Some at) →
     TellsPlace (RootsDemand partitions ps pools roots) (Some (places.Record at))
 refusal_told partitions ps pools roots at (unmet, before) = (unmet, above_record (RootsDemand partitions ps pools roots) at before)
 
-pub entry_told : (partitions : ℕ) (ps : List Played) (pools : List PoolEntry) (roots : Journals) (p at : ℕ) → TellsFirst (λ i. RootsDemand partitions ps pools roots (places.Record i)) None →
-    TellsEntry (λ q j. RootsDemand partitions ps pools roots (places.Root q j)) (Some (p, at)) → TellsPlace (RootsDemand partitions ps pools roots) (Some (places.Root p at))
-entry_told partitions ps pools roots p at records (unmet, before) = (unmet, above_root (RootsDemand partitions ps pools roots) p at records before)
+pub entry_told : (partitions : ℕ) (ps : List Played) (pools : List PoolEntry) (roots : Journals) (p at : ℕ) →
+    TellsFirst (λ i. RootsDemand partitions ps pools roots (places.Record i)) None →
+    TellsEntry (λ q j. RootsDemand partitions ps pools roots (places.Root q j)) (Some (p, at)) →
+    TellsPlace (RootsDemand partitions ps pools roots) (Some (places.Root p at))
+entry_told partitions ps pools roots p at records (unmet, before) =
+    (unmet, above_root (RootsDemand partitions ps pools roots) p at records before)
 
-pub entries_all : (partitions : ℕ) (ps : List Played) (pools : List PoolEntry) (roots : Journals) → TellsFirst (λ i. RootsDemand partitions ps pools roots (places.Record i)) None →
-    TellsEntry (λ q j. RootsDemand partitions ps pools roots (places.Root q j)) None → TellsPlace (RootsDemand partitions ps pools roots) None
+pub entries_all : (partitions : ℕ) (ps : List Played) (pools : List PoolEntry) (roots : Journals) →
+    TellsFirst (λ i. RootsDemand partitions ps pools roots (places.Record i)) None →
+    TellsEntry (λ q j. RootsDemand partitions ps pools roots (places.Root q j)) None →
+    TellsPlace (RootsDemand partitions ps pools roots) None
 entries_all partitions ps pools roots records tells = all_told (RootsDemand partitions ps pools roots) (record {
   records = records;
   roots = tells;
@@ -115,7 +125,8 @@ entries_all partitions ps pools roots records tells = all_told (RootsDemand part
 
 -- ---- holders
 
-pub holders_told : (ps : List Played) (roots : Journals) (o : Option Place) → TellsHolders ps roots o → TellsPlace (HoldersDemand ps roots) o
+pub holders_told : (ps : List Played) (roots : Journals) (o : Option Place) → TellsHolders ps roots o →
+    TellsPlace (HoldersDemand ps roots) o
 holders_told ps roots None tells = tells
 holders_told ps roots (Some (places.Record i)) (unmet, before) = (unmet, above_record (HoldersDemand ps roots) i before)
 holders_told ps roots (Some (places.Root p j)) (unmet, records, before) = (unmet, above_root (HoldersDemand ps roots) p j records before)

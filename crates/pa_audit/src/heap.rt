@@ -47,8 +47,8 @@ fn pool_place(at: Option<u32>) -> Option<Place>
 }
 
 /// The first line at which a journal isn't right: a record's that was refused and names no Full of its line, or an entry's. If there is
-/// none, it is known what each root has at the end of each phase. It needs memory only if no record fails; if that runs out, what was
-/// known stays.
+/// none, it is known what each root has at the end of each phase. It needs memory only if no record fails;
+/// if that runs out, what was known stays.
 pub fn roots_fail(
     alloc: Global,
     trace: &Trace,

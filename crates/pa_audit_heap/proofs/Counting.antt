@@ -24,7 +24,8 @@ phases_later ps n m es up h = All-weaker (InPhases ps n) (InPhases ps m) (λ e (
 all_until : (ps : List Played) (n : ℕ) (es : List RootEntry) → All (InPhases ps n) es → AreUntil ps n es es
 all_until ps n es h = record { rest = []; parts = sym (append-nil es); in_phases = h; past_phases = All-nil (PastPhases ps n) }
 
-until_more : (ps : List Played) (n : ℕ) (es before : List RootEntry) (e : RootEntry) → AreUntil ps n es before → PastPhases ps n e → AreUntil ps n (es ++ e ∷ []) before
+until_more : (ps : List Played) (n : ℕ) (es before : List RootEntry) (e : RootEntry) → AreUntil ps n es before → PastPhases ps n e →
+    AreUntil ps n (es ++ e ∷ []) before
 until_more ps n es before e u past = record {
   rest = u.rest ++ e ∷ [];
   parts = ap (λ xs. xs ++ e ∷ []) u.parts ∙ append_assoc before u.rest (e ∷ []);
@@ -44,7 +45,8 @@ counted_none phases ps pools last low = record {
 }
 
 -- a phase that is over before the next entry, at whose end nothing was counted yet
-ends_here : (phases : ℕ) (ps : List Played) (pools : List PoolEntry) (es : List RootEntry) (last to i : ℕ) (before : List Census) (c : Census) → AreCounted phases ps pools es last before
+ends_here : (phases : ℕ) (ps : List Played) (pools : List PoolEntry) (es : List RootEntry) (last to i : ℕ) (before : List Census)
+    (c : Census) → AreCounted phases ps pools es last before
     → c ≡ census (root_replayed pools es new_root) → to ≤ phases → i < to → length before ≤ i → HasCensus ps pools (λ p. es) (i + 1) 0 c
 ends_here phases ps pools es last to i before c h is real below more =
     let up : last ≤ i + 1 = elim h.all [
@@ -66,8 +68,10 @@ all_later phases next n to m same is = elim (cases_lt phases (next - 1)) [
   | inr more ↦ inl (omega (arith, more, same, is))
 ]
 
-pub counted_filled : (phases : ℕ) (ps : List Played) (pools : List PoolEntry) (es : List RootEntry) (last next to : ℕ) (before after : List Census) (c : Census)
-    → AreCounted phases ps pools es last before → AreFilledUp c to before after → c ≡ census (root_replayed pools es new_root) → last ≤ next → to ≡ min phases (next - 1)
+pub counted_filled : (phases : ℕ) (ps : List Played) (pools : List PoolEntry) (es : List RootEntry) (last next to : ℕ)
+    (before after : List Census) (c : Census)
+    → AreCounted phases ps pools es last before → AreFilledUp c to before after → c ≡ census (root_replayed pools es new_root) →
+    last ≤ next → to ≡ min phases (next - 1)
     → AreCounted phases ps pools es next after
 counted_filled phases ps pools es last next to before after c h filled is later same =
     let few = h.few in
@@ -87,7 +91,8 @@ counted_filled phases ps pools es last next to before after c h filled is later 
     }
 
 -- one entry more
-pub counted_more : (phases : ℕ) (ps : List Played) (pools : List PoolEntry) (es : List RootEntry) (e : RootEntry) (x : Played) (censuses : List Census)
+pub counted_more : (phases : ℕ) (ps : List Played) (pools : List PoolEntry) (es : List RootEntry) (e : RootEntry) (x : Played)
+    (censuses : List Census)
     → AreCounted phases ps pools es x.phase censuses → IsOfLine ps e.line x → AreCounted phases ps pools (es ++ e ∷ []) x.phase censuses
 counted_more phases ps pools es e x censuses h of = record {
   told = λ i d at.
@@ -102,10 +107,13 @@ counted_more phases ps pools es e x censuses h of = record {
 }
 
 -- all phases are over after the last entry
-pub counted_all : (phases : ℕ) (ps : List Played) (pools : List PoolEntry) (es : List RootEntry) (last : ℕ) (before after : List Census) (c : Census)
+pub counted_all : (phases : ℕ) (ps : List Played) (pools : List PoolEntry) (es : List RootEntry) (last : ℕ)
+    (before after : List Census) (c : Census)
     → AreCounted phases ps pools es last before → AreFilledUp c phases before after → c ≡ census (root_replayed pools es new_root)
     → AreCounted phases ps pools es (max last (phases + 1)) after × (length after ≡ phases)
 counted_all phases ps pools es last before after c h filled is =
     let few = h.few in
-    let many = filled.many in
-    (counted_filled phases ps pools es last (max last (phases + 1)) phases before after c h filled is (omega arith) (omega arith), omega (arith, few, many))
+    let many = filled.many in (
+      counted_filled phases ps pools es last (max last (phases + 1)) phases before after c h filled is (omega arith) (omega arith),
+      omega (arith, few, many),
+    )

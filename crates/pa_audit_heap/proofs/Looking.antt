@@ -12,7 +12,8 @@ use Rattle.pa_audit_heap.specs.Ordered.{IsTheRecord}
 use Rattle.pa_lists.proofs.Indexed.{in_at, one_at}
 
 -- two records of a line have one index
-one_place : (ps : List Played) (i j : ℕ) (x y : Played) → RiseByLine ps → slice_get ps i ≡ Some x → slice_get ps j ≡ Some y → y.line ≡ x.line → y ≡ x
+one_place : (ps : List Played) (i j : ℕ) (x y : Played) → RiseByLine ps → slice_get ps i ≡ Some x →
+    slice_get ps j ≡ Some y → y.line ≡ x.line → y ≡ x
 one_place ps i j x y rising at at' same = elim (cases_order j i) [
   | inl here ↦ one_at ps i y x (subst (λ k. slice_get ps k ≡ Some y) here at') at
   | inr rest ↦ elim rest [
@@ -22,7 +23,8 @@ one_place ps i j x y rising at at' same = elim (cases_order j i) [
 ]
 
 -- the record at the index of a record of the line is that record
-pub found_there : (ps : List Played) (line i : ℕ) (d : Played) → RiseByLine ps → IsOnLine ps line i → IsTheRecord ps line (Some (get_or ps i d))
+pub found_there : (ps : List Played) (line i : ℕ) (d : Played) → RiseByLine ps → IsOnLine ps line i →
+    IsTheRecord ps line (Some (get_or ps i d))
 found_there ps line i d rising on =
     let (among, is) = line_is ps line i d on in
     let at = slice_get-get_or ps i d (line_within ps line i on) in (

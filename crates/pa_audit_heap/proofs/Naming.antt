@@ -27,7 +27,8 @@ above_cases p i q n (inr (same, less)) = elim (cases_lt i n) [
 ]
 
 -- a naming stays if the same entries name the entry of the pool
-pub naming_same : (roots : Journals) (q n r m j : ℕ) (naming : Naming) → ((p i : ℕ) → NamesAbove roots q n p i j → NamesAbove roots r m p i j)
+pub naming_same : (roots : Journals) (q n r m j : ℕ) (naming : Naming) →
+    ((p i : ℕ) → NamesAbove roots q n p i j → NamesAbove roots r m p i j)
     → ((p i : ℕ) → NamesAbove roots r m p i j → NamesAbove roots q n p i j) → IsNaming roots q n j naming → IsNaming roots r m j naming
 naming_same roots q n r m j Nobody f g h = λ p i names. h p i (g p i names)
 naming_same roots q n r m j (Once partition line) f g (i, e, above, is, asked, on, only) =
@@ -43,7 +44,8 @@ naming_other roots q n j f naming is other h = naming_same roots q n q (n + 1) j
       | inl above ↦ (above, names.1)
       | inr (same, at) ↦
           let (e, is', asked) = names.1 in
-          let there : slice_get (roots q) n ≡ Some e = subst (λ k. slice_get (roots q) k ≡ Some e) at (subst (λ s. slice_get (roots s) i ≡ Some e) same is') in
+          let there : slice_get (roots q) n ≡ Some e =
+          subst (λ k. slice_get (roots q) k ≡ Some e) at (subst (λ s. slice_get (roots s) i ≡ Some e) same is') in
           let one = one_at (roots q) n e f there is in
           absurd (other (ap (λ (z : RootEntry). asked_by z.act) (sym one) ∙ asked))
     ]) h
@@ -76,7 +78,8 @@ naming_more roots q n j f Again is asks (p, i, s, k, first, second, differ) =
     (p, i, s, k, (above_more p i q n first.0, first.1), (above_more s k q n second.0, second.1), differ)
 
 -- the first entry of the next journal comes after all of this one
-pub naming_next : (roots : Journals) (q n j : ℕ) (naming : Naming) → length (roots q) ≤ n → IsNaming roots q n j naming → IsNaming roots (q + 1) 0 j naming
+pub naming_next : (roots : Journals) (q n j : ℕ) (naming : Naming) → length (roots q) ≤ n → IsNaming roots q n j naming →
+    IsNaming roots (q + 1) 0 j naming
 naming_next roots q n j naming past h = naming_same roots q n (q + 1) 0 j naming
     (λ p i names. (elim names.0 [ inl less ↦ inl (omega arith) | inr (same, less) ↦ inl (omega arith) ], names.1))
     (λ p i names. (
@@ -95,7 +98,8 @@ naming_next roots q n j naming past h = naming_same roots q n (q + 1) 0 j naming
     )) h
 
 -- an entry that names none of the pool's entries leaves all namings as they are
-pub namings_other : (roots : Journals) (q n size : ℕ) (f : RootEntry) (namings : List Naming) → IsEntry roots q n f → ((j : ℕ) → j < size → asked_by f.act ≡ Some j → ⊥)
+pub namings_other : (roots : Journals) (q n size : ℕ) (f : RootEntry) (namings : List Naming) → IsEntry roots q n f →
+    ((j : ℕ) → j < size → asked_by f.act ≡ Some j → ⊥)
     → AreNamings roots q n size namings → AreNamings roots q (n + 1) size namings
 namings_other roots q n size f namings is other h = record {
   many = h.many;
@@ -103,14 +107,18 @@ namings_other roots q n size f namings is other h = record {
 }
 
 -- an entry that names one of the pool's entries changes the naming of that one
-pub namings_more : (roots : Journals) (q n size j : ℕ) (f : RootEntry) (namings : List Naming) → IsEntry roots q n f → asked_by f.act ≡ Some j
-    → AreNamings roots q n size namings → AreNamings roots q (n + 1) size (set namings j (named_by (get_or namings j Nobody) (Once q f.line)))
+pub namings_more : (roots : Journals) (q n size j : ℕ) (f : RootEntry) (namings : List Naming) →
+    IsEntry roots q n f → asked_by f.act ≡ Some j
+    → AreNamings roots q n size namings →
+    AreNamings roots q (n + 1) size (set namings j (named_by (get_or namings j Nobody) (Once q f.line)))
 namings_more roots q n size j f namings is asks h = record {
   many = length-set namings j _ ∙ h.many;
   each = λ k within. let many = h.many in elim (cases_eq k j) [
     | inl same ↦
-        let at : get_or (set namings j (named_by (get_or namings j Nobody) (Once q f.line))) k Nobody ≡ named_by (get_or namings j Nobody) (Once q f.line) =
-        ap (λ i. get_or (set namings j (named_by (get_or namings j Nobody) (Once q f.line))) i Nobody) same ∙ get_or-set_same namings j _ Nobody (omega arith) in
+        let at : get_or (set namings j (named_by (get_or namings j Nobody) (Once q f.line))) k Nobody ≡
+        named_by (get_or namings j Nobody) (Once q f.line) =
+        ap (λ i. get_or (set namings j (named_by (get_or namings j Nobody) (Once q f.line))) i Nobody) same ∙
+        get_or-set_same namings j _ Nobody (omega arith) in
         rw at (subst (λ i. IsNaming roots q (n + 1) i (named_by (get_or namings j Nobody) (Once q f.line))) (sym same)
         (naming_more roots q n j f (get_or namings j Nobody) is asks (h.each j (omega arith))))
     | inr other ↦
@@ -119,7 +127,8 @@ namings_more roots q n size j f namings is asks h = record {
   ];
 }
 
-pub namings_next : (roots : Journals) (q n size : ℕ) (namings : List Naming) → length (roots q) ≤ n → AreNamings roots q n size namings → AreNamings roots (q + 1) 0 size namings
+pub namings_next : (roots : Journals) (q n size : ℕ) (namings : List Naming) → length (roots q) ≤ n → AreNamings roots q n size namings →
+    AreNamings roots (q + 1) 0 size namings
 namings_next roots q n size namings past h = record {
   many = h.many;
   each = λ j within. naming_next roots q n j (get_or namings j Nobody) past (h.each j within);
@@ -135,7 +144,8 @@ reaches roots q p i j all (e, is, asked) = elim (cases_lt p q) [
   | inr more ↦ absurd (all.above p more i e is)
 ]
 
-pub named_is : (roots : Journals) (q j : ℕ) (e : PoolEntry) → HasAll roots q → IsNaming roots q 0 j (Once e.partition e.line) → IsNamed roots j e
+pub named_is : (roots : Journals) (q j : ℕ) (e : PoolEntry) → HasAll roots q →
+    IsNaming roots q 0 j (Once e.partition e.line) → IsNamed roots j e
 named_is roots q j e all (i, f, above, is, asked, on, only) = record {
   named = (i, f, is, asked, on);
   once = λ p r k m first second.
@@ -144,14 +154,16 @@ named_is roots q j e all (i, f, above, is, asked, on, only) = record {
       (a ∙ sym c, b ∙ sym d);
 }
 
-pub naming_is : (roots : Journals) (q j : ℕ) (e : PoolEntry) (naming : Naming) → HasAll roots q → IsNaming roots q 0 j naming → IsNamed roots j e → naming ≡ Once e.partition e.line
+pub naming_is : (roots : Journals) (q j : ℕ) (e : PoolEntry) (naming : Naming) → HasAll roots q → IsNaming roots q 0 j naming →
+    IsNamed roots j e → naming ≡ Once e.partition e.line
 naming_is roots q j e Nobody all h named =
     let (i, f, is, asked, on) = named.named in
     absurd (h e.partition i (reaches roots q e.partition i j all (f, is, asked)))
 naming_is roots q j e (Once partition line) all (i, f, above, is, asked, on, only) named =
     let (k, g, is', asked', on') = named.named in
     let (p, at) = only e.partition k (reaches roots q e.partition k j all (g, is', asked')) in
-    let there : slice_get (roots partition) i ≡ Some g = subst (λ m. slice_get (roots partition) m ≡ Some g) at (subst (λ s. slice_get (roots s) k ≡ Some g) p is') in
+    let there : slice_get (roots partition) i ≡ Some g =
+    subst (λ m. slice_get (roots partition) m ≡ Some g) at (subst (λ s. slice_get (roots s) k ≡ Some g) p is') in
     let same = one_at (roots partition) i f g is there in
     let l : line ≡ e.line = sym on ∙ ap (λ (z : RootEntry). z.line) same ∙ on' in
     ap (λ s. Once s line) (sym p) ∙ ap (Once e.partition) l

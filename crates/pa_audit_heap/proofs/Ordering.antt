@@ -15,7 +15,8 @@ use Rattle.pa_lists.proofs.Tests.{met_more}
 among_more : (ps : List Played) (lines : List ℕ) (j : ℕ) (x : Played) → IsAmong ps lines j x → IsAmong ps lines (j + 1) x
 among_more ps lines j x h = let k = h.below in record { index = h.index; line = h.line; below = omega arith; at = h.at; holds = h.holds }
 
-among_cases : (ps : List Played) (lines : List ℕ) (j n : ℕ) (x : Played) → slice_get lines j ≡ Some n → IsAmong ps lines (j + 1) x → IsAmong ps lines j x ⊎ IsOfLine ps n x
+among_cases : (ps : List Played) (lines : List ℕ) (j n : ℕ) (x : Played) → slice_get lines j ≡ Some n → IsAmong ps lines (j + 1) x →
+    IsAmong ps lines j x ⊎ IsOfLine ps n x
 among_cases ps lines j n x at h = elim (cases_lt h.index j) [
   | inl less ↦ inl (record { index = h.index; line = h.line; below = less; at = h.at; holds = h.holds })
   | inr more ↦
@@ -26,24 +27,31 @@ among_cases ps lines j n x at h = elim (cases_lt h.index j) [
 ]
 
 -- a line of no record
-pub order_skips : (ps : List Played) (lines : List ℕ) (j n : ℕ) (o : Order) → HasSeen ps lines j o → slice_get lines j ≡ Some n → ((x : Played) → IsOfLine ps n x → ⊥)
+pub order_skips : (ps : List Played) (lines : List ℕ) (j n : ℕ) (o : Order) → HasSeen ps lines j o → slice_get lines j ≡ Some n →
+    ((x : Played) → IsOfLine ps n x → ⊥)
     → HasSeen ps lines (j + 1) o
 order_skips ps lines j n o h at none = record {
   threads = h.threads;
   line = λ x among. elim (among_cases ps lines j n x at among) [ inl before ↦ h.line x before | inr here ↦ absurd (none x here) ];
   phase = λ x among. elim (among_cases ps lines j n x at among) [ inl before ↦ h.phase x before | inr here ↦ absurd (none x here) ];
-  at_line = λ t. elim (h.at_line t) [ inl zero ↦ inl zero | inr (x, among, thread, line) ↦ inr (x, among_more ps lines j x among, thread, line) ];
+  at_line = λ t. elim (h.at_line t) [
+    | inl zero ↦ inl zero
+    | inr (x, among, thread, line) ↦
+        inr (x, among_more ps lines j x among, thread, line)
+  ];
   at_phase = elim h.at_phase [ inl zero ↦ inl zero | inr (x, among, phase) ↦ inr (x, among_more ps lines j x among, phase) ];
 }
 
 -- a record that is after the last one
-set_cases : (xs : List ℕ) (i t a : ℕ) → i < length xs → ((t ≡ i) × (get_or (set xs i a) t 0 ≡ a)) ⊎ ((t ≢ i) × (get_or (set xs i a) t 0 ≡ get_or xs t 0))
+set_cases : (xs : List ℕ) (i t a : ℕ) → i < length xs →
+    ((t ≡ i) × (get_or (set xs i a) t 0 ≡ a)) ⊎ ((t ≢ i) × (get_or (set xs i a) t 0 ≡ get_or xs t 0))
 set_cases xs i t a within = elim (cases_eq t i) [
   | inl same ↦ inl (same, ap (λ k. get_or (set xs i a) k 0) same ∙ get_or-set_same xs i a 0 within)
   | inr other ↦ inr (other, get_or-set_other xs i t a 0 other)
 ]
 
-pub order_enters : (ps : List Played) (lines : List ℕ) (j n : ℕ) (o : Order) (x : Played) → AreOfThreads16 ps → HasSeen ps lines j o → slice_get lines j ≡ Some n
+pub order_enters : (ps : List Played) (lines : List ℕ) (j n : ℕ) (o : Order) (x : Played) → AreOfThreads16 ps →
+    HasSeen ps lines j o → slice_get lines j ≡ Some n
     → IsTheRecord ps n (Some x) → IsBehind o x → HasSeen ps lines (j + 1) (entered_by x o)
 order_enters ps lines j n o x few h at (is, one) behind =
     let threads = h.threads in
@@ -84,7 +92,8 @@ order_enters ps lines j n o x few h at (is, one) behind =
     }
 
 -- an entry of a record after the last one comes in order, and so does one of no record
-pub order_met : (ps : List Played) (lines : List ℕ) (j n : ℕ) (o : Order) (x : Played) → HasSeen ps lines j o → slice_get lines j ≡ Some n → IsTheRecord ps n (Some x) → IsBehind o x
+pub order_met : (ps : List Played) (lines : List ℕ) (j n : ℕ) (o : Order) (x : Played) → HasSeen ps lines j o → slice_get lines j ≡ Some n →
+    IsTheRecord ps n (Some x) → IsBehind o x
     → ComesInOrder ps lines j
 order_met ps lines j n o x h at (is, one) behind i m n' y z at' at'' less among is' among' is'' before =
     let same = one z (among', is'' ∙ one_at lines j n' n at'' at) in
@@ -98,11 +107,14 @@ order_met ps lines j n o x h at (is, one) behind i m n' y z at' at'' less among 
       | inr phase ↦ omega arith
     ]
 
-pub order_met_none : (ps : List Played) (lines : List ℕ) (j n : ℕ) → slice_get lines j ≡ Some n → ((x : Played) → IsOfLine ps n x → ⊥) → ComesInOrder ps lines j
-order_met_none ps lines j n at none i m n' y z at' at'' less among is' among' is'' before = none z (among', is'' ∙ one_at lines j n' n at'' at)
+pub order_met_none : (ps : List Played) (lines : List ℕ) (j n : ℕ) → slice_get lines j ≡ Some n →
+    ((x : Played) → IsOfLine ps n x → ⊥) → ComesInOrder ps lines j
+order_met_none ps lines j n at none i m n' y z at' at'' less among is' among' is'' before =
+    none z (among', is'' ∙ one_at lines j n' n at'' at)
 
 -- an entry of a record that isn't after the last one doesn't come in order
-pub order_unmet : (ps : List Played) (lines : List ℕ) (j n : ℕ) (o : Order) (x : Played) → HasSeen ps lines j o → slice_get lines j ≡ Some n → IsOfLine ps n x → (IsBehind o x → ⊥)
+pub order_unmet : (ps : List Played) (lines : List ℕ) (j n : ℕ) (o : Order) (x : Played) → HasSeen ps lines j o →
+    slice_get lines j ≡ Some n → IsOfLine ps n x → (IsBehind o x → ⊥)
     → ComesInOrder ps lines j → ⊥
 order_unmet ps lines j n o x h at is ahead met =
     let shown : (y : Played) → IsAmong ps lines j y → StandsBefore x y → ⊥ = λ y among before.
@@ -126,7 +138,8 @@ pub record HasOrder (ps : List Played) (lines : List ℕ) (j : ℕ) (o : Order) 
   pub seen : HasSeen ps lines j o
   pub met : (i : ℕ) → i < j → ComesInOrder ps lines i
 
-pub order_more : (ps : List Played) (lines : List ℕ) (j n : ℕ) (o after : Order) (b : Bool) → AreOfThreads16 ps → HasOrder ps lines j o → slice_get lines j ≡ Some n
+pub order_more : (ps : List Played) (lines : List ℕ) (j n : ℕ) (o after : Order) (b : Bool) → AreOfThreads16 ps →
+    HasOrder ps lines j o → slice_get lines j ≡ Some n
     → b ≡ true → Admits ps n o after b → HasOrder ps lines (j + 1) after
 order_more ps lines j n o after b few h at taken admits = elim (subst (Admits ps n o after) taken admits) [
   | inl (none, same) ↦ record {
@@ -139,7 +152,8 @@ order_more ps lines j n o after b few h at taken admits = elim (subst (Admits ps
   }
 ]
 
-pub order_stops : (ps : List Played) (lines : List ℕ) (j n : ℕ) (o after : Order) (b : Bool) → HasOrder ps lines j o → slice_get lines j ≡ Some n
+pub order_stops : (ps : List Played) (lines : List ℕ) (j n : ℕ) (o after : Order) (b : Bool) →
+    HasOrder ps lines j o → slice_get lines j ≡ Some n
     → b ≡ false → Admits ps n o after b → ComesInOrder ps lines j → ⊥
 order_stops ps lines j n o after b h at left admits =
     let (x, is, ahead) = subst (Admits ps n o after) left admits in

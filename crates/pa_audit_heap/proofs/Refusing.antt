@@ -17,7 +17,8 @@ use Rattle.pa_lists.proofs.Indexed.{one_at, none_past}
 abbrev pub HasFull : Journals → ℕ → ℕ → ℕ → Type 0
 HasFull roots p j line = (e : RootEntry) × IsEntry roots p j e × (e.line ≡ line) × IsFull e.act
 
-pub full_named : (roots : Journals) (x : Played) (j reg p size : ℕ) → x.answer ≡ answers.Full j → x.op ≡ ops.Alloc reg p size → HasFull roots p j x.line → NamesFull roots x
+pub full_named : (roots : Journals) (x : Played) (j reg p size : ℕ) → x.answer ≡ answers.Full j → x.op ≡ ops.Alloc reg p size →
+    HasFull roots p j x.line → NamesFull roots x
 full_named roots x j reg p size answer op has j' reg' p' size' answer' op' =
     let same : j ≡ j' = cc in
     let part : p ≡ p' = cc in
@@ -39,14 +40,18 @@ no_played =
 abbrev pub NamesFullAt : Journals → List Played → ℕ → Type 0
 NamesFullAt roots ps i = (x : Played) → slice_get ps i ≡ Some x → NamesFull roots x
 
-pub record_named : (partitions : ℕ) (ps : List Played) (pools : List PoolEntry) (roots : Journals) (i : ℕ) → NamesFullAt roots ps i → RootsDemand partitions ps pools roots (places.Record i)
+pub record_named : (partitions : ℕ) (ps : List Played) (pools : List PoolEntry) (roots : Journals) (i : ℕ) → NamesFullAt roots ps i →
+    RootsDemand partitions ps pools roots (places.Record i)
 record_named partitions ps pools roots i h x j reg p size at answer op = h x at j reg p size answer op
 
-pub named_record : (partitions : ℕ) (ps : List Played) (pools : List PoolEntry) (roots : Journals) (i : ℕ) → RootsDemand partitions ps pools roots (places.Record i) → NamesFullAt roots ps i
+pub named_record : (partitions : ℕ) (ps : List Played) (pools : List PoolEntry) (roots : Journals) (i : ℕ) →
+    RootsDemand partitions ps pools roots (places.Record i) → NamesFullAt roots ps i
 named_record partitions ps pools roots i h x at j reg p size answer op = h x j reg p size at answer op
 
 pub named_past : (roots : Journals) (ps : List Played) (i : ℕ) → length ps ≤ i → NamesFullAt roots ps i
 named_past roots ps i past x at = absurd (none_past ps i x past at)
 
-pub named_here : (roots : Journals) (ps : List Played) (i : ℕ) → i < length ps → NamesFull roots (get_or ps i no_played) → NamesFullAt roots ps i
-named_here roots ps i within h x at = subst (NamesFull roots) (one_at ps i (get_or ps i no_played) x (slice_get-get_or ps i no_played within) at) h
+pub named_here : (roots : Journals) (ps : List Played) (i : ℕ) → i < length ps →
+    NamesFull roots (get_or ps i no_played) → NamesFullAt roots ps i
+named_here roots ps i within h x at =
+    subst (NamesFull roots) (one_at ps i (get_or ps i no_played) x (slice_get-get_or ps i no_played within) at) h

@@ -12,8 +12,8 @@ use Rattle.pa_audit_heap.specs.declared.namings.Naming.TheVariants.{Nobody, Once
 abbrev pub NamesAbove : Journals → ℕ → ℕ → ℕ → ℕ → ℕ → Type 0
 NamesAbove roots q n p i j = IsAbove p i q n × Names roots p i j
 
--- How the entries above entry n of partition q's journal name entry j of the pool: none does, just one does and is of this partition and
--- line, or two do.
+-- How the entries above entry n of partition q's journal name entry j of the pool: none does,
+-- just one does and is of this partition and line, or two do.
 abbrev pub IsNaming : Journals → ℕ → ℕ → ℕ → Naming → Type 0
 IsNaming roots q n j Nobody = (p i : ℕ) → NamesAbove roots q n p i j → ⊥
 IsNaming roots q n j (Once partition line) =

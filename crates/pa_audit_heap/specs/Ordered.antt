@@ -23,8 +23,8 @@ pub record IsBehind (o : Order) (x : Played) : Type 0 where
 abbrev pub entered_by : Played → Order → Order
 entered_by x o = record { lines = slice_set o.lines x.thread x.line; phase = x.phase }
 
--- With true, the line has no record and nothing changes, or its record comes in order and is the last one now. With false, it doesn't
--- come in order.
+-- With true, the line has no record and nothing changes, or its record comes in order and is the last one now.
+-- With false, it doesn't come in order.
 abbrev pub Admits : List Played → ℕ → Order → Order → Bool → Type 0
 Admits ps line before after true =
     (((x : Played) → IsOfLine ps line x → ⊥) × (after ≡ before))
@@ -39,8 +39,8 @@ pub record IsAmong (ps : List Played) (lines : List ℕ) (j : ℕ) (x : Played) 
   pub at : slice_get lines index ≡ Some line
   pub holds : IsOfLine ps line x
 
--- The order has the greatest line of each thread and the greatest phase of the records of the first j of these lines, and 0
--- if there is none.
+-- The order has the greatest line of each thread and the greatest phase of the records
+-- of the first j of these lines, and 0 if there is none.
 pub record HasSeen (ps : List Played) (lines : List ℕ) (j : ℕ) (o : Order) : Type 0 where
   pub threads : length o.lines ≡ most_threads
   pub line : (x : Played) → IsAmong ps lines j x → x.line ≤ slice_index o.lines x.thread

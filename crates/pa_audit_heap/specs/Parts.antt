@@ -1,5 +1,5 @@
--- The parts of what the clause of the pool requires of an entry, each of which has a pass of its own, and what the clause of the roots
--- requires of a record.
+-- The parts of what the clause of the pool requires of an entry, each of which has a pass of its own,
+-- and what the clause of the roots requires of a record.
 use Rattle.std.specs.Prelude.{◌≡◌, ℕ, List, map, take}
 use Rattle.pa_record.specs.declared.pool.PoolEntry.{PoolEntry}
 use Rattle.pa_trace.specs.declared.script.Op.TheVariants as ops

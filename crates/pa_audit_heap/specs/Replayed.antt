@@ -30,8 +30,8 @@ HasMapSize (Unmap asked slot) = Unit {0}
 HasMapSize Purge = Unit {0}
 
 -- what an entry leaves that fits: the next root, with the plan in step, which is not past the entry that is named
-pub record IsPlayedBy (pools : List PoolEntry) (act : RootAct) (plan : PoolState) (r : Root) (next : PoolState) (after : Root) :
-    Type 0 where
+pub record IsPlayedBy (pools : List PoolEntry) (act : RootAct) (plan : PoolState) (r : Root) (next : PoolState)
+    (after : Root) : Type 0 where
   pub root : after ≡ root_next pools act r
   pub step : IsInStep pools next after
   pub supers : next.supers ≡ plan.supers

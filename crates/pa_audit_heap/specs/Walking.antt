@@ -20,8 +20,8 @@ pub record AreFilledUp (c : Census) (to : ℕ) (before after : List Census) : Ty
 
 -- The entries are of phases up to the last one. What the root has at the end of each phase that is over before that one was
 -- counted; only phases of the trace are.
-pub record AreCounted (phases : ℕ) (ps : List Played) (pools : List PoolEntry) (es : List RootEntry) (last : ℕ) (censuses : List Census) :
-    Type 0 where
+pub record AreCounted (phases : ℕ) (ps : List Played) (pools : List PoolEntry) (es : List RootEntry) (last : ℕ)
+    (censuses : List Census) : Type 0 where
   pub told : HaveCensuses ps pools (λ p. es) 0 censuses
   pub low : All (InPhases ps last) es
   pub few : length censuses ≤ phases
@@ -35,8 +35,8 @@ pub record IsWalked (supers phases : ℕ) (ps : List Played) (pools : List PoolE
   pub bound : w.least ≤ 2 ^ 32
   pub counted : AreCounted phases ps pools (take j es) w.order.phase w.censuses
 
--- With true, entry j of partition p's journal, which has these entries, meets its clause and was walked over. With false, it doesn't meet
--- it.
+-- With true, entry j of partition p's journal, which has these entries, meets its clause and was walked over.
+-- With false, it doesn't meet it.
 abbrev pub TellsWalk : ℕ → ℕ → ℕ → List Played → List PoolEntry → ℕ → List RootEntry → ℕ → Walk → Bool → Type 0
 TellsWalk supers partitions phases ps pools p es j w true =
     RootsDemand partitions ps pools (λ q. es) (places.Root p j) × IsWalked supers phases ps pools es (j + 1) w

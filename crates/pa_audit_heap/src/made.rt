@@ -40,13 +40,13 @@ fn asks_for_class(told: Played, partition: u32, class: Class) -> bool
             partition: asked,
             size,
             ..
-        } => asked == partition && has_class(told.rules.version, size, class),
+        } => asked == partition && is_of_class(told.rules.version, size, class),
         _ => false,
     }
 }
 
 // Whether a request of that many bytes is of the class in the version.
-fn has_class(version: u32, size: u32, class: Class) -> bool
+fn is_of_class(version: u32, size: u32, class: Class) -> bool
     ensures { IsTrue result ↔ IsClassIn version (max size 1 + 8) class }
 {
     match class_for(version, size) {

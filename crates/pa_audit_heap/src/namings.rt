@@ -8,8 +8,8 @@ use pa_dense::{Act, DenseJournal};
 use pa_slot::OutOfMemory;
 use std::alloc::Global;
 
-// How the journals name an entry of the pool: no entry of theirs does, exactly one does, which is of this partition and line,
-// or more than one does.
+// How the journals name an entry of the pool: no entry of theirs does, exactly one does,
+// which is of this partition and line, or more than one does.
 #[derive(Clone, Copy, Debug, PartialEq, Eq)]
 pub(crate) enum Naming {
     Nobody,

@@ -2,17 +2,18 @@
 use Rattle.std.proofs.Common.{◌≡◌, ℕ, ◌+◌, ◌-◌, ◌*◌, ◌<◌, ◌≤◌, List, [], length, get_or, set, refl, sym, ◌∙◌, ap, subst, arith, inl, inr}
 use Rattle.std.specs.Prelude.{All}
 use Rattle.std.proofs.lemmas.Bool.{cases_eq, cases_lt}
-use Rattle.std.proofs.Math.Nat.{mul-add, mul-one, mul-zero}
+use Rattle.std.proofs.Math.Nat.{add-mul}
 use Rattle.std.proofs.lemmas.Nat.{mul-le}
 use Rattle.std.proofs.lemmas.List.{get_or_default, get_or-set_other, get_or-set_same, length-set}
 use Rattle.pa_record.specs.declared.numbered.Numbered.{Numbered}
 use Rattle.pa_record.specs.declared.report.Tally.{Tally}
 use Rattle.pa_rules.specs.Caches.{listed_slots}
 use Rattle.pa_buckets.specs.Limits.{first_class}
+use Rattle.pa_rules.specs.Lists.{no_tally}
 use Rattle.pa_rules.specs.Sizes.{HasClass, class_total}
 use Rattle.pa_rules.proofs.Sums.{slots_of_version}
 use Rattle.pa_rules.proofs.Versions.{class_end}
-use Rattle.pa_audit_holders.specs.Lists.{AreSummed, VersionLists, cache_in, no_slots}
+use Rattle.pa_audit_holders.specs.Lists.{AreSummed, VersionLists, cache_in}
 use Rattle.pa_audit_holders.proofs.Listing.{listed, none_but}
 use Rattle.pa_audit_holders.proofs.Remaining.{AreLeft, left_more, left_none, left_part, left_some, slots_shifted}
 
@@ -83,7 +84,8 @@ emptied_these lists now first count at rest h none k up high = elim (cases_lt k 
   | inr past ↦
       let here : first + (k - first) ≡ k = omega (arith, up) in
       h.others k (λ more. past) ∙ ap (λ z. get_or lists z []) (sym here)
-      ∙ left_none (from_place lists first) count (at - first) rest (k - first) h.left (omega (arith, none)) (omega (arith, past)) (omega (arith, high, up))
+      ∙ left_none (from_place lists first) count (at - first) rest (k - first) h.left (omega (arith, none)) (omega (arith, past))
+      (omega (arith, high, up))
 ]
 
 -- ---- partition by partition
@@ -91,27 +93,28 @@ emptied_these lists now first count at rest h none k up high = elim (cases_lt k 
 -- As many lists stay as there were, `count` for each partition. Those of the partitions below p are empty, and the others are as they were.
 pub record AreCleared (count : ℕ) (lists now : List (List Numbered)) (p : ℕ) : Type 0 where
   pub many : length now ≡ length lists
-  pub these : (k : ℕ) → k < count * p → get_or now k [] ≡ []
-  pub others : (k : ℕ) → count * p ≤ k → get_or now k [] ≡ get_or lists k []
+  pub these : (k : ℕ) → k < p * count → get_or now k [] ≡ []
+  pub others : (k : ℕ) → p * count ≤ k → get_or now k [] ≡ get_or lists k []
 
 pub clear_start : (count : ℕ) (lists : List (List Numbered)) → AreCleared count lists lists 0
 clear_start count lists = record { many = refl; these = λ k low. absurd (none k low); others = λ k up. refl }
   where
-    none : (k : ℕ) → k < count * 0 → ⊥
-    none k low = let none_of : count * 0 ≡ 0 = mul-zero count in omega (arith, low, none_of)
+    none : (k : ℕ) → k < 0 * count → ⊥
+    none k low = omega (arith, low)
 
 -- the slots of the next partition's lists
-pub clear_slots : (all : VersionLists) (now : List (List Numbered)) (sums : List Tally) (p : ℕ) → AreSummed all sums → p < 4 → AreCleared (class_total all.version) all.lists now p
-    → (get_or sums p no_slots).slots ≡ listed_slots (from_place now (class_total all.version * p)) 0 (class_total all.version)
+pub clear_slots : (all : VersionLists) (now : List (List Numbered)) (sums : List Tally) (p : ℕ) → AreSummed all sums → p < 4 →
+    AreCleared (class_total all.version) all.lists now p
+    → (get_or sums p no_tally).slots ≡ listed_slots (from_place now (p * class_total all.version)) 0 (class_total all.version)
 clear_slots all now sums p summed low h =
-    (summed.each p low).slots ∙ slots_of_version all.version (cache_in all p) (none_but all p)
+    (summed.right.each p low).slots ∙ slots_of_version all.version (cache_in all p) (none_but all p)
     ∙ slots_shifted (cache_in all p) (from_place now first) (first_class all.version) 0 count same
   where
     count : ℕ
     count = class_total all.version
 
     first : ℕ
-    first = count * p
+    first = p * count
 
     same : (c d i : ℕ) → c ≡ first_class all.version + i → d ≡ 0 + i → i < count → cache_in all p c ≡ from_place now first d
     same c d i e k less =
@@ -121,25 +124,26 @@ clear_slots all now sums p summed low h =
         listed all p c real ∙ ap (λ m. get_or all.lists m []) here ∙ sym (h.others (first + d) (omega arith))
 
 pub clear_more : (count : ℕ) (lists now next : List (List Numbered)) (p : ℕ) → AreCleared count lists now p → length next ≡ length now
-    → ((k : ℕ) → count * p ≤ k → k < count * p + count → get_or next k [] ≡ [])
-    → ((k : ℕ) → (count * p ≤ k → count * p + count ≤ k) → get_or next k [] ≡ get_or now k []) → AreCleared count lists next (p + 1)
+    → ((k : ℕ) → p * count ≤ k → k < p * count + count → get_or next k [] ≡ [])
+    → ((k : ℕ) → (p * count ≤ k → p * count + count ≤ k) → get_or next k [] ≡ get_or now k []) → AreCleared count lists next (p + 1)
 clear_more count lists now next p h long these others = record {
   many = long ∙ h.many;
-  these = λ k low. elim (cases_lt k (count * p)) [
+  these = λ k low. elim (cases_lt k (p * count)) [
     | inl before ↦ others k (λ up. absurd (omega (arith, up, before))) ∙ h.these k before
     | inr from ↦ these k from (omega (arith, low, row))
   ];
   others = λ k up. others k (λ more. omega (arith, up, row)) ∙ h.others k (omega (arith, up, row));
 }
   where
-    row : count * (p + 1) ≡ count * p + count
-    row = mul-add count p 1 ∙ ap (λ k. count * p + k) (mul-one count)
+    row : (p + 1) * count ≡ p * count + count
+    row = omega (arith, add-mul p 1 count)
 
-pub clear_end : (all : VersionLists) (now : List (List Numbered)) (sums : List Tally) (p : ℕ) → AreSummed all sums → 4 ≤ p → AreCleared (class_total all.version) all.lists now p
+pub clear_end : (all : VersionLists) (now : List (List Numbered)) (sums : List Tally) (p : ℕ) → AreSummed all sums → 4 ≤ p →
+    AreCleared (class_total all.version) all.lists now p
     → All (λ slots. slots ≡ []) now
 clear_end all now sums p summed end h = λ k d below.
     let many = summed.many in
     let long = h.many in
     let count = class_total all.version in
-    let rows : count * 4 ≤ count * p = mul-le count 4 count p (omega arith) end in
+    let rows : 4 * count ≤ p * count = mul-le 4 count p count end (omega arith) in
     get_or_default now k d [] below ∙ h.these k (omega (arith, below, many, long, rows))

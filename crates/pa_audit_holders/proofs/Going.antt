@@ -23,9 +23,12 @@ use Rattle.pa_lists.proofs.Indexed.{slice_get_at}
 -- ---- one entry more
 
 -- an entry of a list and one more is of the list, or the last
-last_of : (es : List RootEntry) (e : RootEntry) (i : ℕ) (x : RootEntry) → slice_get (es ++ e ∷ []) i ≡ Some x → (slice_get es i ≡ Some x) ⊎ (e ≡ x)
+last_of : (es : List RootEntry) (e : RootEntry) (i : ℕ) (x : RootEntry) → slice_get (es ++ e ∷ []) i ≡ Some x →
+    (slice_get es i ≡ Some x) ⊎ (e ≡ x)
 last_of es e i x at = elim (cases_lt i (length es)) [
-  | inl less ↦ inl (slice_get-get_or es i x less ∙ ap Some (sym (get_or_append_left es (e ∷ []) x i less) ∙ get_or_from_slice_get (es ++ e ∷ []) i x x at))
+  | inl less ↦
+      inl (slice_get-get_or es i x less ∙
+      ap Some (sym (get_or_append_left es (e ∷ []) x i less) ∙ get_or_from_slice_get (es ++ e ∷ []) i x x at))
   | inr past ↦
       let within = slice_get_within (es ++ e ∷ []) i x at in
       let long = length_push es e in
@@ -44,7 +47,8 @@ unmapped_cases es e s n (i, asked, x, at, is) = elim (last_of es e i x at) [
 ]
 
 -- an entry that takes nothing away
-pub gone_same : (es : List RootEntry) (e : RootEntry) (f : ℕ → Option ℕ) → ((asked : ℕ) (slot : Numbered) → e.act ≡ Unmap asked slot → ⊥) → HasGone es f → HasGone (es ++ e ∷ []) f
+pub gone_same : (es : List RootEntry) (e : RootEntry) (f : ℕ → Option ℕ) → ((asked : ℕ) (slot : Numbered) → e.act ≡ Unmap asked slot → ⊥) →
+    HasGone es f → HasGone (es ++ e ∷ []) f
 gone_same es e f none h = record {
   hit = λ s k low at. unmapped_later es e s k (h.hit s k low at);
   least = λ s k n low at gone. elim (unmapped_cases es e s n gone) [
@@ -83,7 +87,8 @@ least_is es f slot (Some k) low at h = elim (cases_lt slot.number k) [
 ]
 
 -- an entry that takes a slot away leaves the lesser of its number and the one that the table had
-gone_more : (es : List RootEntry) (e : RootEntry) (f g : ℕ → Option ℕ) (asked : ℕ) (slot : Numbered) → e.act ≡ Unmap asked slot → slot.slot.start < 4294967296 →
+gone_more : (es : List RootEntry) (e : RootEntry) (f g : ℕ → Option ℕ) (asked : ℕ) (slot : Numbered) → e.act ≡ Unmap asked slot →
+    slot.slot.start < 4294967296 →
     Puts f g (name_key slot.slot) (lesser_of (f (name_key slot.slot)) slot.number) → HasGone es f → HasGone (es ++ e ∷ []) g
 gone_more es e f g asked slot is low puts h =
     let key = name_key slot.slot in
@@ -91,27 +96,41 @@ gone_more es e f g asked slot is low puts h =
     let u = least_is es f slot (f key) low refl h in
     let here : IsUnmapped (es ++ e ∷ []) slot.slot least = elim u.among [
       | inl before ↦ unmapped_later es e slot.slot least before
-      | inr same ↦ (length es, asked, e, slice_get_at es [] e, is ∙ ap (λ z. Unmap asked (record { slot = slot.slot; number = z })) (sym same))
+      | inr same ↦ (
+        length es,
+        asked,
+        e,
+        slice_get_at es [] e,
+        is ∙
+            ap (λ z. Unmap asked (record { slot = slot.slot; number = z })) (sym same),
+      )
     ] in
     let down : (n : ℕ) → IsUnmapped (es ++ e ∷ []) slot.slot n → least ≤ n = λ n gone. elim (unmapped_cases es e slot.slot n gone) [
       | inl before ↦ u.below n before
       | inr (b, is') ↦
           let low' = u.low in
-          let same : slot.number ≡ n = ap (λ (z : Numbered). z.number) (one_unmap asked b slot (record { slot = slot.slot; number = n }) e.act is is') in
+          let same : slot.number ≡ n =
+          ap (λ (z : Numbered). z.number) (one_unmap asked b slot (record { slot = slot.slot; number = n }) e.act is is') in
           omega (arith, low', same)
     ] in
-    let one : (s : SlotName) (k : ℕ) → name_key s ≡ key → g (name_key s) ≡ Some k → least ≡ k = λ s k same at. of_some least k (sym puts.here ∙ ap g (sym same) ∙ at) in
-    let apart : (s : SlotName) (k : ℕ) → (name_key s ≡ key → ⊥) → IsUnmapped (es ++ e ∷ []) s k → IsUnmapped es s k = λ s k other gone. elim (unmapped_cases es e s k gone) [
+    let one : (s : SlotName) (k : ℕ) → name_key s ≡ key → g (name_key s) ≡ Some k →
+    least ≡ k = λ s k same at. of_some least k (sym puts.here ∙ ap g (sym same) ∙ at) in
+    let apart : (s : SlotName) (k : ℕ) → (name_key s ≡ key → ⊥) → IsUnmapped (es ++ e ∷ []) s k →
+    IsUnmapped es s k = λ s k other gone. elim (unmapped_cases es e s k gone) [
       | inl before ↦ before
-      | inr (b, is') ↦ absurd (other (ap (λ (z : Numbered). name_key z.slot) (sym (one_unmap asked b slot (record { slot = s; number = k }) e.act is is'))))
+      | inr (b, is') ↦
+          absurd (other
+          (ap (λ (z : Numbered). name_key z.slot) (sym (one_unmap asked b slot (record { slot = s; number = k }) e.act is is'))))
     ] in
     record {
       hit = λ s k start at. elim (cases_eq (name_key s) key) [
-        | inl same ↦ subst (λ z. IsUnmapped (es ++ e ∷ []) z k) (sym (same_key s slot.slot start low same)) (subst (λ z. IsUnmapped (es ++ e ∷ []) slot.slot z) (one s k same at) here)
+        | inl same ↦ subst (λ z. IsUnmapped (es ++ e ∷ []) z k) (sym (same_key s slot.slot start low same))
+            (subst (λ z. IsUnmapped (es ++ e ∷ []) slot.slot z) (one s k same at) here)
         | inr other ↦ unmapped_later es e s k (h.hit s k start (sym (puts.other (name_key s) other) ∙ at))
       ];
       least = λ s k n start at gone. elim (cases_eq (name_key s) key) [
-        | inl same ↦ subst (λ z. z ≤ n) (one s k same at) (down n (subst (λ z. IsUnmapped (es ++ e ∷ []) z n) (same_key s slot.slot start low same) gone))
+        | inl same ↦ subst (λ z. z ≤ n) (one s k same at)
+            (down n (subst (λ z. IsUnmapped (es ++ e ∷ []) z n) (same_key s slot.slot start low same) gone))
         | inr other ↦ h.least s k n start (sym (puts.other (name_key s) other) ∙ at) (apart s n other gone)
       ];
       miss = λ s n start at gone. elim (cases_eq (name_key s) key) [
@@ -121,7 +140,8 @@ gone_more es e f g asked slot is low puts h =
     }
 
 -- an entry that takes a slot away sets the table's number of it to the lesser of the old one, if there is one, and its own
-pub gone_entered : (es : List RootEntry) (e : RootEntry) (f g : ℕ → Option ℕ) (asked key : ℕ) (slot : Numbered) (old : Option ℕ) (n : ℕ) → e.act ≡ Unmap asked slot → slot.slot.start < 4294967296 →
+pub gone_entered : (es : List RootEntry) (e : RootEntry) (f g : ℕ → Option ℕ) (asked key : ℕ) (slot : Numbered) (old : Option ℕ) (n : ℕ) →
+    e.act ≡ Unmap asked slot → slot.slot.start < 4294967296 →
     key ≡ name_key slot.slot → old ≡ f key → n ≡ lesser_of old slot.number → Puts f g key n → HasGone es f → HasGone (es ++ e ∷ []) g
 gone_entered es e f g asked key slot old n is low same was least puts h =
     let lesser : n ≡ lesser_of (f (name_key slot.slot)) slot.number = least ∙ ap (λ o. lesser_of o slot.number) (was ∙ ap f same) in
@@ -133,16 +153,20 @@ puts_over f m g k v w first next = record { here = next.here; other = λ q ne. n
 
 -- ---- what the table tells
 
-pub has_is : (es : List RootEntry) (s : SlotName) (o : Option ℕ) (f : ℕ → Option ℕ) → s.start < 4294967296 → f (name_key s) ≡ o → HasGone es f → IsSome o ↔ ((n : ℕ) × IsUnmapped es s n)
+pub has_is : (es : List RootEntry) (s : SlotName) (o : Option ℕ) (f : ℕ → Option ℕ) → s.start < 4294967296 → f (name_key s) ≡ o →
+    HasGone es f → IsSome o ↔ ((n : ℕ) × IsUnmapped es s n)
 has_is es s None f low at h = (λ some. absurd (false≢true some), λ (n, gone). absurd (h.miss s n low at gone))
 has_is es s (Some k) f low at h = (λ some. (k, h.hit s k low at), λ (n, gone). refl)
 
-pub there_below : (es : List RootEntry) (s : SlotName) (k n : ℕ) (f : ℕ → Option ℕ) → s.start < 4294967296 → f (name_key s) ≡ Some k → HasGone es f → (n < k) ↔ ((m : ℕ) → IsUnmapped es s m → n < m)
-there_below es s k n f low at h = (λ less m gone. let down = h.least s k m low at gone in omega (arith, less, down), λ each. each k (h.hit s k low at))
+pub there_below : (es : List RootEntry) (s : SlotName) (k n : ℕ) (f : ℕ → Option ℕ) → s.start < 4294967296 → f (name_key s) ≡ Some k →
+    HasGone es f → (n < k) ↔ ((m : ℕ) → IsUnmapped es s m → n < m)
+there_below es s k n f low at h =
+    (λ less m gone. let down = h.least s k m low at gone in omega (arith, less, down), λ each. each k (h.hit s k low at))
 
 -- of the first slots none was taken away
 abbrev pub NoneSoFar : (ℕ → Option ℕ) → List Numbered → ℕ → Type 0
-NoneSoFar f slots j = (before : List RootEntry) → HasGone before f → (i n : ℕ) (d : Numbered) → i < j → IsUnmapped before (get_or slots i d).slot n → ⊥
+NoneSoFar f slots j = (before : List RootEntry) → HasGone before f → (i n : ℕ) (d : Numbered) → i < j →
+    IsUnmapped before (get_or slots i d).slot n → ⊥
 
 pub none_next : (f : ℕ → Option ℕ) (slots : List Numbered) (j : ℕ) (d : Numbered) → j < length slots → NoneSoFar f slots j →
     ((before : List RootEntry) → HasGone before f → ((n : ℕ) × IsUnmapped before (get_or slots j d).slot n) → ⊥) → NoneSoFar f slots (j + 1)
@@ -150,7 +174,11 @@ none_next f slots j d below h here before known i n d' less gone = elim (cases_l
   | inl first ↦ h before known i n d' first gone
   | inr least ↦
       let same : i ≡ j = omega (arith, less, least) in
-      here before known (n, subst (λ (z : Numbered). IsUnmapped before z.slot n) (ap (λ k. get_or slots k d') same ∙ get_or_default slots j d' d below) gone)
+      here before known (
+        n,
+        subst (λ (z : Numbered). IsUnmapped before z.slot n)
+            (ap (λ k. get_or slots k d') same ∙ get_or_default slots j d' d below) gone,
+      )
 ]
 
 -- none of the slots that an entry moves is gone exactly if it names none that is

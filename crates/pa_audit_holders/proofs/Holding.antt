@@ -71,7 +71,8 @@ next_by ps roots s k n (Some f) (Some o) h here one = absurd (one (refl, refl))
 pub found_next : (ps : List Played) (roots : Journals) (s : SlotName) (k n : ℕ) (f : ℕ → Option Owner) (found : Option Owner)
     → IsSized s k → HasOwners ps (all_moves (roots n)) f → FoundSoFar ps roots s k n found →
     (IsSome found × IsSome (f (word_key s k)) → ⊥) → FoundSoFar ps roots s k (n + 1) (either_of found (f (word_key s k)))
-found_next ps roots s k n f found sized own h one = next_by ps roots s k n found (f (word_key s k)) h (owner_in ps roots s k n f (f (word_key s k)) sized own refl) one
+found_next ps roots s k n f found sized own h one =
+    next_by ps roots s k n found (f (word_key s k)) h (owner_in ps roots s k n f (f (word_key s k)) sized own refl) one
 
 two_by : (ps : List Played) (roots : Journals) (s : SlotName) (k n : ℕ) (found o : Option Owner) → FoundSoFar ps roots s k n found
     → OwnerIn ps roots s k n o → IsSome found × IsSome o → (last : Holder) → IsHeld ps roots s k last → ⊥
@@ -88,7 +89,8 @@ two_by ps roots s k n (Some f) (Some o) h here two last (p, holder, others, firs
 pub found_two : (ps : List Played) (roots : Journals) (s : SlotName) (k n : ℕ) (f : ℕ → Option Owner) (found : Option Owner) → IsSized s k
     → HasOwners ps (all_moves (roots n)) f → FoundSoFar ps roots s k n found →
     IsSome found × IsSome (f (word_key s k)) → TellsHeld ps roots s k Nobody
-found_two ps roots s k n f found sized own h two = two_by ps roots s k n found (f (word_key s k)) h (owner_in ps roots s k n f (f (word_key s k)) sized own refl) two
+found_two ps roots s k n f found sized own h two =
+    two_by ps roots s k n found (f (word_key s k)) h (owner_in ps roots s k n f (f (word_key s k)) sized own refl) two
 
 -- ---- after all
 
@@ -120,26 +122,32 @@ held_first ps roots s k n o past h tells =
     (subst (λ ms. TellsOwner ps ms s k o) (sym (none 0)) tells)
 
 -- a journal that isn't there moves nothing
-pub no_moves_past : (roots : List (List RootEntry)) (s : SlotName) (k n : ℕ) → length roots ≤ n → (q : ℕ) → n ≤ q → moves_at (journal_at roots q) s k ≡ []
+pub no_moves_past : (roots : List (List RootEntry)) (s : SlotName) (k n : ℕ) → length roots ≤ n → (q : ℕ) → n ≤ q →
+    moves_at (journal_at roots q) s k ≡ []
 no_moves_past roots s k n end q past = ap (λ es. moves_at es s k) (get_or_past roots q [] (omega (arith, end, past)))
 
 -- ---- a record
 
-held_one : (ps : List Played) (roots : Journals) (s : SlotName) (k : ℕ) (a b : Holder) → AreOfRuns ps → IsHeld ps roots s k a → IsHeld ps roots s k b → a ≡ b
+held_one : (ps : List Played) (roots : Journals) (s : SlotName) (k : ℕ) (a b : Holder) → AreOfRuns ps →
+    IsHeld ps roots s k a → IsHeld ps roots s k b → a ≡ b
 held_one ps roots s k a b known (p, h, others, first, after) (q, g, others', first', after') = elim (cases_eq p q) [
-  | inl same ↦ holder_one ps (moves_at (roots p) s k) s k a b known (h, first, after) (g, first', subst (λ z. HolderAfter ps g (moves_at (roots z) s k) b) (sym same) after')
+  | inl same ↦ holder_one ps (moves_at (roots p) s k) s k a b known (h, first, after)
+      (g, first', subst (λ z. HolderAfter ps g (moves_at (roots z) s k) b) (sym same) after')
   | inr other ↦
       let none : moves_at (roots q) s k ≡ [] = others q (λ e. other (sym e)) in
       let none' : moves_at (roots p) s k ≡ [] = others' p other in
-      holder_one ps [] s k a b known (h, first, subst (λ ms. HolderAfter ps h ms a) none' after) (g, first', subst (λ ms. HolderAfter ps g ms b) none after')
+      holder_one ps [] s k a b known (h, first, subst (λ ms. HolderAfter ps h ms a) none' after)
+      (g, first', subst (λ ms. HolderAfter ps g ms b) none after')
 ]
 
 thread_is : (s t : ℕ) → WithThread s ≡ WithThread t → s ≡ t
 thread_is s t e = cc
 
-pub held_is : (ps : List Played) (roots : Journals) (s : SlotName) (k t : ℕ) (o : Owner) → AreOfRuns ps → TellsHeld ps roots s k o → (o ≡ Thread t) ↔ IsHeld ps roots s k (WithThread t)
+pub held_is : (ps : List Played) (roots : Journals) (s : SlotName) (k t : ℕ) (o : Owner) → AreOfRuns ps → TellsHeld ps roots s k o →
+    (o ≡ Thread t) ↔ IsHeld ps roots s k (WithThread t)
 held_is ps roots s k t Nobody known none = (λ e. absurd (cc e), λ held. absurd (none (WithThread t) held))
-held_is ps roots s k t Root known in_root = (λ e. absurd (cc e), λ held. let e = held_one ps roots s k InRoot (WithThread t) known in_root held in absurd (cc e))
+held_is ps roots s k t Root known in_root =
+    (λ e. absurd (cc e), λ held. let e = held_one ps roots s k InRoot (WithThread t) known in_root held in absurd (cc e))
 held_is ps roots s k t (Thread u) known with_one = (
   λ e. let same : u ≡ t = cc e in subst (λ z. IsHeld ps roots s k (WithThread z)) same with_one,
   λ held. ap Thread (thread_is u t (held_one ps roots s k (WithThread u) (WithThread t) known with_one held)),
@@ -151,11 +159,13 @@ seen_one a b u v e = cc
 pub issued_is : (ps : List Played) (roots : Journals) (x : Played) (seen : Seen) (usable : ℕ) → x.answer ≡ Made seen usable
     → IsHeld ps roots seen.slot (number_of seen.found.0) (WithThread x.thread) ↔ IsIssued ps roots x
 issued_is ps roots x seen usable is = (
-  λ held other v is'. subst (λ (z : Seen). IsHeld ps roots z.slot (number_of z.found.0) (WithThread x.thread)) (seen_one seen other usable v (sym is ∙ is')) held,
+  λ held other v is'. subst (λ (z : Seen). IsHeld ps roots z.slot (number_of z.found.0) (WithThread x.thread))
+      (seen_one seen other usable v (sym is ∙ is')) held,
   λ each. each seen usable is,
 )
 
-pub stays_is : (roots : Journals) (x : Played) (s : SlotName) (k : ℕ) → IsOfSlot x s k → ((p n : ℕ) → IsUnmapped (roots p) s n → k < n) ↔ StaysThere roots x
+pub stays_is : (roots : Journals) (x : Played) (s : SlotName) (k : ℕ) → IsOfSlot x s k →
+    ((p n : ℕ) → IsUnmapped (roots p) s n → k < n) ↔ StaysThere roots x
 stays_is roots x s k of = (
   λ each p n j t gone (m', is', slot', number').
       let (m, is, slot, number) = of in
@@ -173,7 +183,10 @@ record_is ps roots x issued stays both a b joint = (
     issues = a.0 (joint.0 yes).0;
     gone = λ p i asked n slot e at is of. b.0 (joint.0 yes).1 p slot.number n slot.slot (i, asked, e, at, is) of;
   },
-  λ holds. joint.1 (a.1 holds.issues, b.1 (λ p n k s (i, asked, e, at, is) of. holds.gone p i asked k (record { slot = s; number = n }) e at is of)),
+  λ holds. joint.1 (
+    a.1 holds.issues,
+    b.1 (λ p n k s (i, asked, e, at, is) of. holds.gone p i asked k (record { slot = s; number = n }) e at is of),
+  ),
 )
 
 pub record_fits : (ps : List Played) (roots : Journals) (i : ℕ) (d : Played) (issued stays both : Bool) → i < length ps
@@ -185,13 +198,16 @@ record_fits ps roots i d issued stays both below a b joint =
     let is = record_is ps roots x issued stays both a b joint in
     (λ yes y at'. subst (λ (z : Played). RecordHolds ps roots z) (of_some x y (sym at ∙ at')) (is.0 yes), λ each. is.1 (each x at))
 
-pub record_stops : (P : ℕ → Type 0) (at i : ℕ) (fits : Bool) → at ≡ i → IsTrue fits ↔ P i → fits ≡ false → ((j : ℕ) → j < at → P j) → (P at → ⊥) × ((j : ℕ) → j < at → P j)
+pub record_stops : (P : ℕ → Type 0) (at i : ℕ) (fits : Bool) → at ≡ i → IsTrue fits ↔ P i → fits ≡ false → ((j : ℕ) → j < at → P j) →
+    (P at → ⊥) × ((j : ℕ) → j < at → P j)
 record_stops P at i fits same is fails before = (λ met. false≢true (sym fails ∙ is.1 (subst P same met)), before)
 
-pub record_next : (P : ℕ → Type 0) (at i : ℕ) (fits : Bool) → at ≡ i → IsTrue fits ↔ P i → fits ≡ true → ((j : ℕ) → j < at → P j) → (j : ℕ) → j < at + 1 → P j
+pub record_next : (P : ℕ → Type 0) (at i : ℕ) (fits : Bool) → at ≡ i → IsTrue fits ↔ P i → fits ≡ true →
+    ((j : ℕ) → j < at → P j) → (j : ℕ) → j < at + 1 → P j
 record_next P at i fits same is holds before = below_next at P before (subst P (sym same) (is.0 holds))
 
-pub records_all : (ps : List Played) (roots : Journals) (n : ℕ) → length ps ≤ n → ((j : ℕ) → j < n → HoldersDemand ps roots (places.Record j)) → (j : ℕ) → HoldersDemand ps roots (places.Record j)
+pub records_all : (ps : List Played) (roots : Journals) (n : ℕ) → length ps ≤ n →
+    ((j : ℕ) → j < n → HoldersDemand ps roots (places.Record j)) → (j : ℕ) → HoldersDemand ps roots (places.Record j)
 records_all ps roots n end h j = elim (cases_lt j n) [
   | inl less ↦ h j less
   | inr past ↦ λ x at. let within = slice_get_within ps j x at in absurd (omega (arith, within, past, end))
@@ -204,7 +220,8 @@ slot_told x n is = by_mark (mark_of x) refl is
   where
     by_mark : (o : Option Mark) → mark_of x ≡ o → Some n ≡ option_map slot_by o → IsOfSlot x n.slot n.number
     by_mark None e f = absurd (not_some n (sym f))
-    by_mark (Some m) e f = let same = of_some n (slot_by m) f in (m, e, sym (ap (λ (z : Numbered). z.slot) same), sym (ap (λ (z : Numbered). z.number) same))
+    by_mark (Some m) e f = let same = of_some n (slot_by m) f in
+        (m, e, sym (ap (λ (z : Numbered). z.slot) same), sym (ap (λ (z : Numbered). z.number) same))
 
 pub slot_none : (x : Played) → None ≡ option_map slot_by (mark_of x) → (s : SlotName) (k : ℕ) → IsOfSlot x s k → ⊥
 slot_none x is s k (m, e, slot, number) = not_some (slot_by m) (is ∙ ap (option_map slot_by) e)
@@ -213,7 +230,8 @@ slot_none x is s k (m, e, slot, number) = not_some (slot_by m) (is ∙ ap (optio
 
 pub there_next : (roots : Journals) (s : SlotName) (k i : ℕ) → ((p n : ℕ) → p < i → IsUnmapped (roots p) s n → k < n)
     → ((n : ℕ) → IsUnmapped (roots i) s n → k < n) → (p n : ℕ) → p < i + 1 → IsUnmapped (roots p) s n → k < n
-there_next roots s k i before here p n less gone = below_next i (λ q. IsUnmapped (roots q) s n → k < n) (λ q below. before q n below) (here n) p less gone
+there_next roots s k i before here p n less gone =
+    below_next i (λ q. IsUnmapped (roots q) s n → k < n) (λ q below. before q n below) (here n) p less gone
 
 pub there_all : (roots : List (List RootEntry)) (s : SlotName) (k i : ℕ) → length roots ≤ i
     → ((p n : ℕ) → p < i → IsUnmapped (journal_at roots p) s n → k < n) → (p n : ℕ) → IsUnmapped (journal_at roots p) s n → k < n

@@ -18,7 +18,8 @@ use Rattle.pa_audit_records.proofs.Putting.{same_key}
 use Rattle.pa_audit_holders.specs.declared.homes.Home.{Home}
 use Rattle.pa_audit_holders.specs.Homes.{KnowsHomes, EntersSlots, HasAbove, HasAll, HasHomes, IsHomeless, IsHomeOf}
 
-pub homes_more : (roots : Journals) (f g : ℕ → Option Home) (s : SlotName) (h : Home) → HasHomes roots f → s.start < 4294967296 → IsHomeOf roots s h → Puts f g (name_key s) h → HasHomes roots g
+pub homes_more : (roots : Journals) (f g : ℕ → Option Home) (s : SlotName) (h : Home) → HasHomes roots f → s.start < 4294967296 →
+    IsHomeOf roots s h → Puts f g (name_key s) h → HasHomes roots g
 homes_more roots f g s h homes low home puts k v at = elim (cases_eq k (name_key s)) [
   | inl same ↦
       let one : h ≡ v = of_some h v (sym puts.here ∙ ap g (sym same) ∙ at) in
@@ -41,7 +42,8 @@ in_one s t among = elim (Contains-push_cases [] s t among) [
   | inr same ↦ same
 ]
 
-pub entered_one : (f g : ℕ → Option Home) (s : SlotName) (h : Home) → s.start < 4294967296 → Puts f g (name_key s) h → EntersSlots f g (s ∷ [])
+pub entered_one : (f g : ℕ → Option Home) (s : SlotName) (h : Home) → s.start < 4294967296 →
+    Puts f g (name_key s) h → EntersSlots f g (s ∷ [])
 entered_one f g s h low puts = record {
   kept = λ q some. kept_put f g (name_key s) q h puts some;
   has = λ t among. (
@@ -52,10 +54,13 @@ entered_one f g s h low puts = record {
 
 -- ---- one slot after the other
 
-pub names_more : (slots : List Numbered) (i : ℕ) (d : Numbered) → i < length slots → names (take (i + 1) slots) ≡ names (take i slots) ++ (get_or slots i d).slot ∷ []
-names_more slots i d below = ap names (take_more slots i d below) ∙ map-append (λ (n : Numbered). n.slot) (take i slots) (get_or slots i d ∷ [])
+pub names_more : (slots : List Numbered) (i : ℕ) (d : Numbered) → i < length slots →
+    names (take (i + 1) slots) ≡ names (take i slots) ++ (get_or slots i d).slot ∷ []
+names_more slots i d below =
+    ap names (take_more slots i d below) ∙ map-append (λ (n : Numbered). n.slot) (take i slots) (get_or slots i d ∷ [])
 
-pub enters_more : (f g h : ℕ → Option Home) (xs : List SlotName) (s : SlotName) → EntersSlots f g xs → EntersSlots g h (s ∷ []) → EntersSlots f h (xs ++ s ∷ [])
+pub enters_more : (f g h : ℕ → Option Home) (xs : List SlotName) (s : SlotName) → EntersSlots f g xs → EntersSlots g h (s ∷ []) →
+    EntersSlots f h (xs ++ s ∷ [])
 enters_more f g h xs s a b = record {
   kept = λ k some. b.kept k (a.kept k some);
   has = λ t among. elim (Contains-push_cases xs s t among) [
@@ -69,19 +74,22 @@ all_kept f g xs kept h s among = let (some, low) = h s among in (kept (name_key 
 
 -- ---- entry by entry
 
-pub above_more : (roots : Journals) (p n : ℕ) (e : RootEntry) (f g : ℕ → Option Home) → IsEntry roots p n e → HasAbove roots p n f → EntersSlots f g (leaves_by e.act) → HasAbove roots p (n + 1) g
+pub above_more : (roots : Journals) (p n : ℕ) (e : RootEntry) (f g : ℕ → Option Home) → IsEntry roots p n e → HasAbove roots p n f →
+    EntersSlots f g (leaves_by e.act) → HasAbove roots p (n + 1) g
 above_more roots p n e f g is h enters q i d above at = elim above [
   | inl less ↦ all_kept f g (leaves_by d.act) enters.kept (h q i d (inl less) at)
   | inr (same, less) ↦ elim (cases_lt i n) [
     | inl before ↦ all_kept f g (leaves_by d.act) enters.kept (h q i d (inr (same, before)) at)
     | inr least ↦
         let here : i ≡ n = omega (arith, less, least) in
-        let one : e ≡ d = of_some e d (sym is ∙ ap (λ z. slice_get (roots z) n) (sym same) ∙ ap (λ z. slice_get (roots q) z) (sym here) ∙ at) in
+        let one : e ≡ d =
+        of_some e d (sym is ∙ ap (λ z. slice_get (roots z) n) (sym same) ∙ ap (λ z. slice_get (roots q) z) (sym here) ∙ at) in
         subst (λ (z : RootEntry). HasAll g (leaves_by z.act)) one enters.has
   ]
 ]
 
-pub above_end : (roots : Journals) (p n : ℕ) (f : ℕ → Option Home) → length (roots p) ≤ n → HasAbove roots p n f → HasAbove roots (p + 1) 0 f
+pub above_end : (roots : Journals) (p n : ℕ) (f : ℕ → Option Home) → length (roots p) ≤ n →
+    HasAbove roots p n f → HasAbove roots (p + 1) 0 f
 above_end roots p n f past h q i d above at = elim above [
   | inl less ↦ elim (cases_lt q p) [
     | inl before ↦ h q i d (inl before) at
@@ -94,7 +102,8 @@ above_end roots p n f past h q i d above at = elim above [
   | inr (same, less) ↦ absurd (omega (arith, less))
 ]
 
-pub homes_all : (roots : List (List RootEntry)) (n : ℕ) (f : ℕ → Option Home) → length roots ≤ n → HasHomes (journal_at roots) f → HasAbove (journal_at roots) n 0 f → KnowsHomes (journal_at roots) f
+pub homes_all : (roots : List (List RootEntry)) (n : ℕ) (f : ℕ → Option Home) → length roots ≤ n → HasHomes (journal_at roots) f →
+    HasAbove (journal_at roots) n 0 f → KnowsHomes (journal_at roots) f
 homes_all roots n f past homes h = record {
   homes = homes;
   all = λ p i e at. elim (cases_lt p n) [
@@ -107,7 +116,8 @@ homes_all roots n f past homes h = record {
 
 -- ---- looking a home up
 
-pub home_found : (roots : Journals) (f : ℕ → Option Home) (s : SlotName) (h : Home) → s.start < 4294967296 → KnowsHomes roots f → f (name_key s) ≡ Some h → IsHomeOf roots s h
+pub home_found : (roots : Journals) (f : ℕ → Option Home) (s : SlotName) (h : Home) → s.start < 4294967296 → KnowsHomes roots f →
+    f (name_key s) ≡ Some h → IsHomeOf roots s h
 home_found roots f s h low homes at =
     let (t, key, low', home) = homes.homes (name_key s) h at in
     subst (λ z. IsHomeOf roots z h) (same_key t s low' low key) home
@@ -119,9 +129,13 @@ some_none (Some h) e some = absurd (not_some h (sym e))
 pub home_none : (roots : Journals) (f : ℕ → Option Home) (s : SlotName) → KnowsHomes roots f → f (name_key s) ≡ None → IsHomeless roots s
 home_none roots f s homes none = record {
   class = λ p class (e, asked, slots, (i, within, is), act, member).
-      some_none (f (name_key s)) none (homes.all p i e (slice_get-get_or (roots p) i e within ∙ ap Some is) s (subst (λ a. Contains (leaves_by a) s) (sym act) member)).0;
+      some_none (f (name_key s)) none
+      (homes.all p i e (slice_get-get_or (roots p) i e within ∙ ap Some is) s
+      (subst (λ a. Contains (leaves_by a) s) (sym act) member)).0;
   direct = λ p (e, asked, len, (i, within, is), act).
-      some_none (f (name_key s)) none (homes.all p i e (slice_get-get_or (roots p) i e within ∙ ap Some is) s (subst (λ a. Contains (leaves_by a) s) (sym act) (first_in s []))).0;
+      some_none (f (name_key s)) none
+      (homes.all p i e (slice_get-get_or (roots p) i e within ∙ ap Some is) s
+      (subst (λ a. Contains (leaves_by a) s) (sym act) (first_in s []))).0;
 }
 
 -- ---- the slots of a fill

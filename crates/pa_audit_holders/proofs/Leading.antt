@@ -26,7 +26,8 @@ same_as : (after cache : Cache) → after ≡ cache → SameLists after cache
 same_as after cache e = λ p c. ap (λ (z : Cache). z p c) e
 
 -- a test of the entries alone, if the lists stay
-pub row_stays : (Row : Cache → Type 0) (May : Type 0) (cache : Cache) (b : Bool) → IsTrue b ↔ May → (May → Row cache) → ((next : Cache) → Row next → May) → TellsRow Row cache b
+pub row_stays : (Row : Cache → Type 0) (May : Type 0) (cache : Cache) (b : Bool) → IsTrue b ↔ May → (May → Row cache) →
+    ((next : Cache) → Row next → May) → TellsRow Row cache b
 row_stays Row May cache true test onto back = onto (test.0 refl)
 row_stays Row May cache false test onto back = λ next row. false≢true (test.1 (back next row))
 
@@ -38,26 +39,34 @@ row_same Row Other after false f g h = λ next row. h next (g next row)
 
 -- ---- a slot was made
 
-made_class : (roots : Journals) (x : Played) (seen : Seen) (cache next : Cache) (p class : ℕ) → AsksForClass x p class → MadeRow roots x seen cache next → ClassRow roots x.line p class seen cache next
+made_class : (roots : Journals) (x : Played) (seen : Seen) (cache next : Cache) (p class : ℕ) → AsksForClass x p class →
+    MadeRow roots x seen cache next → ClassRow roots x.line p class seen cache next
 made_class roots x seen cache next p class asks (inl (q, d, xs, rest, asks', filled, front, becomes)) =
     let (e, f) = class_once x q p d class asks' asks in
-    subst (λ z. ClassRow roots x.line z class seen cache next) e (subst (λ z. ClassRow roots x.line q z seen cache next) f (xs, rest, filled, front, becomes))
-made_class roots x seen cache next p class asks (inr (q, size, asked, len, asks', only, becomes)) = absurd (class_or_map x p q class size asks asks')
+    subst (λ z. ClassRow roots x.line z class seen cache next) e
+    (subst (λ z. ClassRow roots x.line q z seen cache next) f (xs, rest, filled, front, becomes))
+made_class roots x seen cache next p class asks (inr (q, size, asked, len, asks', only, becomes)) =
+    absurd (class_or_map x p q class size asks asks')
 
-class_made : (roots : Journals) (x : Played) (seen : Seen) (cache next : Cache) (p class : ℕ) → AsksForClass x p class → ClassRow roots x.line p class seen cache next → MadeRow roots x seen cache next
+class_made : (roots : Journals) (x : Played) (seen : Seen) (cache next : Cache) (p class : ℕ) → AsksForClass x p class →
+    ClassRow roots x.line p class seen cache next → MadeRow roots x seen cache next
 class_made roots x seen cache next p class asks (xs, rest, filled, front, becomes) = inl (p, class, xs, rest, asks, filled, front, becomes)
 
-pub made_by_class : (roots : Journals) (x : Played) (seen : Seen) (cache after : Cache) (p class : ℕ) (b : Bool) → AsksForClass x p class → TellsRow (ClassRow roots x.line p class seen cache) after b
+pub made_by_class : (roots : Journals) (x : Played) (seen : Seen) (cache after : Cache) (p class : ℕ) (b : Bool) → AsksForClass x p class →
+    TellsRow (ClassRow roots x.line p class seen cache) after b
     → TellsRow (MadeRow roots x seen cache) after b
-made_by_class roots x seen cache after p class b asks h = row_same (ClassRow roots x.line p class seen cache) (MadeRow roots x seen cache) after b
+made_by_class roots x seen cache after p class b asks h =
+    row_same (ClassRow roots x.line p class seen cache) (MadeRow roots x seen cache) after b
     (λ next row. class_made roots x seen cache next p class asks row) (λ next row. made_class roots x seen cache next p class asks row) h
 
 abbrev pub IsMappedOnly : Journals → ℕ → ℕ → SlotName → Type 0
 IsMappedOnly roots line p s = (asked len : ℕ) × OnlyActs roots line p (Map asked s len ∷ [])
 
-pub made_by_map : (roots : Journals) (x : Played) (seen : Seen) (cache : Cache) (p size : ℕ) (b : Bool) → AsksForMap x p size → IsTrue b ↔ IsMappedOnly roots x.line p seen.slot
+pub made_by_map : (roots : Journals) (x : Played) (seen : Seen) (cache : Cache) (p size : ℕ) (b : Bool) → AsksForMap x p size →
+    IsTrue b ↔ IsMappedOnly roots x.line p seen.slot
     → TellsRow (MadeRow roots x seen cache) cache b
-made_by_map roots x seen cache p size b asks test = row_stays (MadeRow roots x seen cache) (IsMappedOnly roots x.line p seen.slot) cache b test
+made_by_map roots x seen cache p size b asks test =
+    row_stays (MadeRow roots x seen cache) (IsMappedOnly roots x.line p seen.slot) cache b test
     (λ (asked, len, only). inr (p, size, asked, len, asks, only, λ q c. refl)) back
   where
     back : (next : Cache) → MadeRow roots x seen cache next → IsMappedOnly roots x.line p seen.slot
@@ -66,7 +75,8 @@ made_by_map roots x seen cache p size b asks test = row_stays (MadeRow roots x s
         let (e, f) = map_once x q p m size asks' asks in
         subst (λ z. IsMappedOnly roots x.line z seen.slot) e (asked, len, only)
 
-pub made_by_none : (roots : Journals) (x : Played) (seen : Seen) (cache : Cache) → ((p class : ℕ) → AsksForClass x p class → ⊥) → ((p size : ℕ) → AsksForMap x p size → ⊥)
+pub made_by_none : (roots : Journals) (x : Played) (seen : Seen) (cache : Cache) → ((p class : ℕ) → AsksForClass x p class → ⊥) →
+    ((p size : ℕ) → AsksForMap x p size → ⊥)
     → TellsRow (MadeRow roots x seen cache) cache false
 made_by_none roots x seen cache class map next (inl (q, d, xs, rest, asks, filled, front, becomes)) = class q d asks
 made_by_none roots x seen cache class map next (inr (q, m, asked, len, asks, only, becomes)) = map q m asks
@@ -93,7 +103,8 @@ full_by_class roots x cache p class b asks test = row_stays (FullRow roots x cac
 abbrev pub IsMapFull : Journals → ℕ → ℕ → Type 0
 IsMapFull roots line p = (asked : ℕ) × OnlyActs roots line p (Full None asked ∷ [])
 
-pub full_by_map : (roots : Journals) (x : Played) (cache : Cache) (p size : ℕ) (b : Bool) → AsksForMap x p size → IsTrue b ↔ IsMapFull roots x.line p → TellsRow (FullRow roots x cache) cache b
+pub full_by_map : (roots : Journals) (x : Played) (cache : Cache) (p size : ℕ) (b : Bool) → AsksForMap x p size →
+    IsTrue b ↔ IsMapFull roots x.line p → TellsRow (FullRow roots x cache) cache b
 full_by_map roots x cache p size b asks test = row_stays (FullRow roots x cache) (IsMapFull roots x.line p) cache b test
     (λ (asked, only). inr (p, size, asked, asks, only, λ q c. refl)) back
   where
@@ -119,7 +130,8 @@ back_by_class roots x slot cache after p class b kind of h = row_same (BackRow r
     back : (next : Cache) → ReturnRow roots x slot cache next → BackRow roots x.line p class slot cache next
     back next (inl (q, d, of', only, becomes)) =
         let (e, f) = kind.class q p d class of' of in
-        subst (λ z. BackRow roots x.line z class slot cache next) e (subst (λ z. BackRow roots x.line q z slot cache next) f (only, becomes))
+        subst (λ z. BackRow roots x.line z class slot cache next) e
+        (subst (λ z. BackRow roots x.line q z slot cache next) f (only, becomes))
     back next (inr (q, asked, number, direct, only, becomes)) = absurd (kind.either p q class of direct)
 
 abbrev pub IsUnmappedOnly : Journals → ℕ → ℕ → SlotName → Type 0
@@ -128,7 +140,8 @@ IsUnmappedOnly roots line p s = (asked number : ℕ) × OnlyActs roots line p (u
 pub back_by_map : {version : ℕ} (roots : Journals) (x : Played) (slot : Numbered) (cache : Cache) (p : ℕ) (b : Bool)
     → HasOneHome version roots slot.slot → IsDirect roots slot.slot p → IsTrue b ↔ IsUnmappedOnly roots x.line p slot.slot
     → TellsRow (ReturnRow roots x slot cache) cache b
-back_by_map roots x slot cache p b kind direct test = row_stays (ReturnRow roots x slot cache) (IsUnmappedOnly roots x.line p slot.slot) cache b test
+back_by_map roots x slot cache p b kind direct test =
+    row_stays (ReturnRow roots x slot cache) (IsUnmappedOnly roots x.line p slot.slot) cache b test
     (λ (asked, number, only). inr (p, asked, number, direct, only, λ q c. refl)) back
   where
     back : (next : Cache) → ReturnRow roots x slot cache next → IsUnmappedOnly roots x.line p slot.slot
@@ -136,23 +149,30 @@ back_by_map roots x slot cache p b kind direct test = row_stays (ReturnRow roots
     back next (inr (q, asked, number, direct', only, row)) =
         subst (λ z. IsUnmappedOnly roots x.line z slot.slot) (kind.direct q p direct' direct) (asked, number, only)
 
-pub back_by_none : (roots : Journals) (x : Played) (slot : Numbered) (cache : Cache) → IsHomeless roots slot.slot → TellsRow (ReturnRow roots x slot cache) cache false
+pub back_by_none : (roots : Journals) (x : Played) (slot : Numbered) (cache : Cache) → IsHomeless roots slot.slot →
+    TellsRow (ReturnRow roots x slot cache) cache false
 back_by_none roots x slot cache none next (inl (q, d, of, only, becomes)) = none.class q d of
 back_by_none roots x slot cache none next (inr (q, asked, number, direct, only, becomes)) = none.direct q direct
 
 -- ---- a step was made
 
-pub done_returning : (roots : Journals) (x : Played) (step : Step) (seen : Seen) (cache after : Cache) (b : Bool) → IsReturning step seen.found.0
-    → TellsRow (ReturnRow roots x (record { slot = seen.slot; number = number_of seen.found.0 + 1 }) cache) after b → TellsRow (DoneRow roots x (Some step) seen cache) after b
+pub done_returning : (roots : Journals) (x : Played) (step : Step) (seen : Seen) (cache after : Cache) (b : Bool) →
+    IsReturning step seen.found.0
+    → TellsRow (ReturnRow roots x (record { slot = seen.slot; number = number_of seen.found.0 + 1 }) cache) after b →
+    TellsRow (DoneRow roots x (Some step) seen cache) after b
 done_returning roots x step seen cache after b returns h =
-    row_same (ReturnRow roots x (record { slot = seen.slot; number = number_of seen.found.0 + 1 }) cache) (DoneRow roots x (Some step) seen cache) after b (λ next row. inl (returns, row)) back h
+    row_same (ReturnRow roots x (record { slot = seen.slot; number = number_of seen.found.0 + 1 }) cache)
+    (DoneRow roots x (Some step) seen cache) after b (λ next row. inl (returns, row)) back h
   where
-    back : (next : Cache) → DoneRow roots x (Some step) seen cache next → ReturnRow roots x (record { slot = seen.slot; number = number_of seen.found.0 + 1 }) cache next
+    back : (next : Cache) → DoneRow roots x (Some step) seen cache next →
+        ReturnRow roots x (record { slot = seen.slot; number = number_of seen.found.0 + 1 }) cache next
     back next (inl (is, row)) = row
     back next (inr (not, none, becomes)) = absurd (not returns)
 
-pub done_none : (roots : Journals) (x : Played) (seen : Seen) (cache : Cache) (b : Bool) → IsTrue b ↔ NoActs roots x.line → TellsRow (DoneRow roots x None seen cache) cache b
-done_none roots x seen cache b test = row_stays (DoneRow roots x None seen cache) (NoActs roots x.line) cache b test (λ none. (none, λ p c. refl)) (λ next row. row.0)
+pub done_none : (roots : Journals) (x : Played) (seen : Seen) (cache : Cache) (b : Bool) → IsTrue b ↔ NoActs roots x.line →
+    TellsRow (DoneRow roots x None seen cache) cache b
+done_none roots x seen cache b test =
+    row_stays (DoneRow roots x None seen cache) (NoActs roots x.line) cache b test (λ none. (none, λ p c. refl)) (λ next row. row.0)
 
 -- ---- a purge
 
@@ -161,7 +181,8 @@ pub purged_row : (partitions : ℕ) (roots : Journals) (x : Played) (slots : ℕ
 unfolding whole_purge
 purged_row partitions roots x slots cache after none (acts, counted) = (acts, counted, same_as after (λ p c. []) none)
 
-pub purged_was : (partitions : ℕ) (roots : Journals) (x : Played) (slots : ℕ) (cache after : Cache) → PurgedRow partitions roots x slots cache after → PurgesAll partitions roots x.line slots cache
+pub purged_was : (partitions : ℕ) (roots : Journals) (x : Played) (slots : ℕ) (cache after : Cache) →
+    PurgedRow partitions roots x slots cache after → PurgesAll partitions roots x.line slots cache
 unfolding whole_purge
 purged_was partitions roots x slots cache after (acts, counted, none) = (acts, counted)
 
@@ -173,40 +194,54 @@ slice_rest k xs = let long = length-drop k xs in take_all (length xs - k) (drop 
 
 pub put_row : (roots : Journals) (line p class stays : ℕ) (slot : Numbered) (cache after : Cache) (list whole items more : List Numbered)
     → list ≡ cache p class → whole ≡ slot ∷ list → items ≡ whole → more ≡ whole
-    → take stays items ≡ kept class items → drop stays items ≡ spilled class items → OnlyActs roots line p (gives (drop stays more)) → after ≡ with_list cache p class (take stays whole)
+    → take stays items ≡ kept class items → drop stays items ≡ spilled class items → OnlyActs roots line p (gives (drop stays more)) →
+    after ≡ with_list cache p class (take stays whole)
     → BackRow roots line p class slot cache after
 put_row roots line p class stays slot cache after list whole items more there is same same' keeps spills only became =
     let all : items ≡ slot ∷ cache p class = same ∙ is ∙ ap (λ z. slot ∷ z) there in
-    let gone : drop stays more ≡ spilled class (slot ∷ cache p class) = ap (drop stays) (same' ∙ sym same) ∙ spills ∙ ap (spilled class) all in
-    let left : take stays whole ≡ kept class (slot ∷ cache p class) = ap (take stays) (sym same) ∙ keeps ∙ ap (kept class) all in
-    (subst (λ z. OnlyActs roots line p (gives z)) gone only, same_as after (with_list cache p class (kept class (slot ∷ cache p class))) (became ∙ ap (λ z. with_list cache p class z) left))
+    let gone : drop stays more ≡ spilled class (slot ∷ cache p class) =
+    ap (drop stays) (same' ∙ sym same) ∙ spills ∙ ap (spilled class) all in
+    let left : take stays whole ≡ kept class (slot ∷ cache p class) = ap (take stays) (sym same) ∙ keeps ∙ ap (kept class) all in (
+      subst (λ z. OnlyActs roots line p (gives z)) gone only,
+      same_as after (with_list cache p class (kept class (slot ∷ cache p class))) (became ∙ ap (λ z. with_list cache p class z) left),
+    )
 
 pub class_row : (roots : Journals) (line p class : ℕ) (seen : Seen) (cache after : Cache) (list xs rest left : List Numbered)
     → list ≡ cache p class → FilledFirst roots line p class list xs → FrontIs seen xs rest → left ≡ rest
     → after ≡ with_list cache p class left → ClassRow roots line p class seen cache after
-class_row roots line p class seen cache after list xs rest left there filled front same became =
-    (xs, rest, subst (λ z. FilledFirst roots line p class z xs) there filled, front, same_as after (with_list cache p class rest) (became ∙ ap (λ z. with_list cache p class z) same))
+class_row roots line p class seen cache after list xs rest left there filled front same became = (
+  xs,
+  rest,
+  subst (λ z. FilledFirst roots line p class z xs) there filled,
+  front,
+  same_as after (with_list cache p class rest) (became ∙ ap (λ z. with_list cache p class z) same),
+)
 
-pub class_none : (roots : Journals) (line p class : ℕ) (seen : Seen) (cache : Cache) (list : List Numbered) → list ≡ cache p class → ((xs : List Numbered) → FilledFirst roots line p class list xs → ⊥)
+pub class_none : (roots : Journals) (line p class : ℕ) (seen : Seen) (cache : Cache) (list : List Numbered) → list ≡ cache p class →
+    ((xs : List Numbered) → FilledFirst roots line p class list xs → ⊥)
     → (next : Cache) → ClassRow roots line p class seen cache next → ⊥
-class_none roots line p class seen cache list there none next (xs, rest, filled, front, becomes) = none xs (subst (λ z. FilledFirst roots line p class z xs) (sym there) filled)
+class_none roots line p class seen cache list there none next (xs, rest, filled, front, becomes) =
+    none xs (subst (λ z. FilledFirst roots line p class z xs) (sym there) filled)
 
 pub class_other : (roots : Journals) (line p class : ℕ) (seen : Seen) (cache : Cache) (list xs : List Numbered) → list ≡ cache p class
     → FilledFirst roots line p class list xs → ((rest : List Numbered) → FrontIs seen xs rest → ⊥)
     → (next : Cache) → ClassRow roots line p class seen cache next → ⊥
 class_other roots line p class seen cache list xs there filled other next (ys, rest, filled', front, becomes) =
-    let same : ys ≡ xs = filled_one roots line p class list ys xs (subst (λ z. FilledFirst roots line p class z ys) (sym there) filled') filled in
+    let same : ys ≡ xs =
+    filled_one roots line p class list ys xs (subst (λ z. FilledFirst roots line p class z ys) (sym there) filled') filled in
     other rest (sym same ∙ front)
 
 -- what is found by a look for the list from which a slot is taken
 pub filled_is : (IsAsked : List Numbered → Type 0) (xs : List Numbered) (b : Bool) → TellsFilled IsAsked xs b → b ≡ true → IsAsked xs
 filled_is IsAsked xs b told fits = subst (TellsFilled IsAsked xs) fits told
 
-pub filled_not : (IsAsked : List Numbered → Type 0) (xs : List Numbered) (b : Bool) → TellsFilled IsAsked xs b → b ≡ false → (ys : List Numbered) → IsAsked ys → ⊥
+pub filled_not : (IsAsked : List Numbered → Type 0) (xs : List Numbered) (b : Bool) → TellsFilled IsAsked xs b → b ≡ false →
+    (ys : List Numbered) → IsAsked ys → ⊥
 filled_not IsAsked xs b told misfits = subst (TellsFilled IsAsked xs) misfits told
 
 -- what a test of the slots says of the list that has them
-pub front_told : (seen : Seen) (slots xs : List Numbered) (b : Bool) → slots ≡ xs → IsTrue b ↔ FrontIs seen slots (drop 1 slots) → IsTrue b ↔ FrontIs seen xs (drop 1 xs)
+pub front_told : (seen : Seen) (slots xs : List Numbered) (b : Bool) → slots ≡ xs → IsTrue b ↔ FrontIs seen slots (drop 1 slots) →
+    IsTrue b ↔ FrontIs seen xs (drop 1 xs)
 front_told seen slots xs b same told = subst (λ (ys : List Numbered). IsTrue b ↔ FrontIs seen ys (drop 1 ys)) same told
 
 pub front_drop : (seen : Seen) (xs rest : List Numbered) → FrontIs seen xs rest → FrontIs seen xs (drop 1 xs)
@@ -216,13 +251,18 @@ front_drop seen xs rest front =
 
 -- ---- a thread's row among all threads
 
-pub play_next : (partitions : ℕ) (roots : Journals) (x : Played) (threads : List VersionLists) (d lists : VersionLists) (b : Bool) → x.thread < length threads
+pub play_next : (partitions : ℕ) (roots : Journals) (x : Played) (threads : List VersionLists) (d lists : VersionLists) (b : Bool) →
+    x.thread < length threads
     → TellsRow (CacheRow partitions roots x x.answer (cache_in (get_or threads x.thread d))) (cache_in lists) b
     → TellsNext partitions roots x (caches_in threads) (caches_in (set threads x.thread lists)) b
 play_next partitions roots x threads d lists b below h = by_test b
-    (subst (λ (z : VersionLists). TellsRow (CacheRow partitions roots x x.answer (cache_in z)) (cache_in lists) b) (get_or_default threads x.thread d no_lists below) h)
+    (subst (λ (z : VersionLists). TellsRow (CacheRow partitions roots x x.answer (cache_in z)) (cache_in lists) b)
+    (get_or_default threads x.thread d no_lists below) h)
   where
     by_test : (b : Bool) → TellsRow (CacheRow partitions roots x x.answer (caches_in threads x.thread)) (cache_in lists) b
         → TellsNext partitions roots x (caches_in threads) (caches_in (set threads x.thread lists)) b
-    by_test true row = record { fits = λ e. (cache_in lists, row, caches_set threads x.thread lists below); misfits = λ e. absurd (false≢true (sym e)) }
+    by_test true row = record {
+      fits = λ e. (cache_in lists, row, caches_set threads x.thread lists below);
+      misfits = λ e. absurd (false≢true (sym e));
+    }
     by_test false none = record { fits = λ e. absurd (false≢true e); misfits = λ e. none }

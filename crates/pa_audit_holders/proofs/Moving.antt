@@ -21,7 +21,8 @@ use Rattle.pa_legal.specs.Numbers.{all_moves}
 -- the last of some moves
 pub all_more : (ps : List Played) (ms xs : List Move) (m : Move) → AllFit ps ms xs → MoveFits ps (ms ++ xs) m → AllFit ps ms (xs ++ m ∷ [])
 all_more ps ms [] m all fits = (subst (λ z. MoveFits ps z m) (append-nil ms) fits, tt)
-all_more ps ms (x ∷ xs) m (first, rest) fits = (first, all_more ps (ms ++ x ∷ []) xs m rest (subst (λ z. MoveFits ps z m) (sym (append_assoc ms (x ∷ []) xs)) fits))
+all_more ps ms (x ∷ xs) m (first, rest) fits =
+    (first, all_more ps (ms ++ x ∷ []) xs m rest (subst (λ z. MoveFits ps z m) (sym (append_assoc ms (x ∷ []) xs)) fits))
 
 pub all_less : (ps : List Played) (ms xs : List Move) (m : Move) → AllFit ps ms (xs ++ m ∷ []) → AllFit ps ms xs × MoveFits ps (ms ++ xs) m
 all_less ps ms [] m (fits, none) = (tt, subst (λ z. MoveFits ps z m) (sym (append-nil ms)) fits)
@@ -30,11 +31,13 @@ all_less ps ms (x ∷ xs) m (first, rest) =
     ((first, all), subst (λ z. MoveFits ps z m) (append_assoc ms (x ∷ []) xs) fits)
 
 -- what is known of the first slots
-pub record AreMoved (ps : List Played) (line : ℕ) (course : Course) (slots : List Numbered) (f g : ℕ → Option Owner) (i : ℕ) (all : Bool) : Type 0 where
+pub record AreMoved (ps : List Played) (line : ℕ) (course : Course) (slots : List Numbered) (f g : ℕ → Option Owner) (i : ℕ)
+    (all : Bool) : Type 0 where
   pub owners : (ms : List Move) → HasOwners ps ms f → HasOwners ps (ms ++ map (move_on line course) (take i slots)) g
   pub fits : (ms : List Move) → HasOwners ps ms f → IsTrue all ↔ AllFit ps ms (map (move_on line course) (take i slots))
 
-pub moved_start : (ps : List Played) (line : ℕ) (course : Course) (slots : List Numbered) (f : ℕ → Option Owner) → AreMoved ps line course slots f f 0 true
+pub moved_start : (ps : List Played) (line : ℕ) (course : Course) (slots : List Numbered) (f : ℕ → Option Owner) →
+    AreMoved ps line course slots f f 0 true
 moved_start ps line course slots f = record {
   owners = λ ms h. subst (λ z. HasOwners ps z f) (sym (append-nil ms)) h;
   fits = λ ms h. (λ yes. tt, λ all. refl);
@@ -43,14 +46,16 @@ moved_start ps line course slots f = record {
 pub moved_more : (ps : List Played) (line : ℕ) (course : Course) (slots : List Numbered) (f g k : ℕ → Option Owner) (i : ℕ) (d : Numbered)
     (all fits both : Bool) → i < length slots → AreMoved ps line course slots f g i all
     → ((ms : List Move) → HasOwners ps ms g → HasOwners ps (ms ++ move_on line course (get_or slots i d) ∷ []) k)
-    → ((ms : List Move) → HasOwners ps ms g → IsTrue fits ↔ MoveFits ps ms (move_on line course (get_or slots i d))) → IsTrue both ↔ (IsTrue all × IsTrue fits)
+    → ((ms : List Move) → HasOwners ps ms g → IsTrue fits ↔ MoveFits ps ms (move_on line course (get_or slots i d))) →
+    IsTrue both ↔ (IsTrue all × IsTrue fits)
     → AreMoved ps line course slots f k (i + 1) both
 moved_more ps line course slots f g k i d all fits both below h owners fit joint =
     let m = move_on line course (get_or slots i d) in
     let so_far = map (move_on line course) (take i slots) in
     let more : map (move_on line course) (take (i + 1) slots) ≡ so_far ++ m ∷ [] = map_more (move_on line course) slots i d below in
     record {
-      owners = λ ms own. subst (λ z. HasOwners ps z k) (append_assoc ms so_far (m ∷ []) ∙ ap (λ z. ms ++ z) (sym more)) (owners (ms ++ so_far) (h.owners ms own));
+      owners = λ ms own. subst (λ z. HasOwners ps z k) (append_assoc ms so_far (m ∷ []) ∙ ap (λ z. ms ++ z) (sym more))
+          (owners (ms ++ so_far) (h.owners ms own));
       fits = λ ms own.
           let here = fit (ms ++ so_far) (h.owners ms own) in
           let before = h.fits ms own in (
@@ -61,7 +66,8 @@ moved_more ps line course slots f g k i d all fits both below h owners fit joint
 
 -- ---- entry by entry
 
-pub first_next : (P : ℕ → Type 0) (first : Option ℕ) (n : ℕ) (fits : Bool) → FirstSoFar P n first → IsTrue fits ↔ P n → FirstSoFar P (n + 1) (first_place first n fits)
+pub first_next : (P : ℕ → Type 0) (first : Option ℕ) (n : ℕ) (fits : Bool) → FirstSoFar P n first → IsTrue fits ↔ P n →
+    FirstSoFar P (n + 1) (first_place first n fits)
 first_next P (Some i) n fits h is = h
 first_next P None n true h is = λ j less. elim (cases_lt j n) [
   | inl before ↦ h j before
@@ -81,7 +87,8 @@ moves_grown es e =
 
 -- ---- what the clause asks
 
-split_all : (ps : List Played) (ms moves : List Move) → AllFit ps ms moves → (before after : List Move) (m : Move) → moves ≡ before ++ m ∷ after → MoveFits ps (ms ++ before) m
+split_all : (ps : List Played) (ms moves : List Move) → AllFit ps ms moves → (before after : List Move) (m : Move) →
+    moves ≡ before ++ m ∷ after → MoveFits ps (ms ++ before) m
 split_all ps ms [] all [] after m e = absurd (cc e)
 split_all ps ms [] all (b ∷ before) after m e = absurd (cc e)
 split_all ps ms (x ∷ moves) (first, rest) [] after m e =
@@ -90,13 +97,17 @@ split_all ps ms (x ∷ moves) (first, rest) [] after m e =
 split_all ps ms (x ∷ moves) (first, rest) (b ∷ before) after m e =
     let same : x ≡ b = cc e in
     let rest_is : moves ≡ before ++ m ∷ after = cc e in
-    subst (λ z. MoveFits ps z m) (append_assoc ms (x ∷ []) before ∙ ap (λ z. ms ++ z ∷ before) same) (split_all ps (ms ++ x ∷ []) moves rest before after m rest_is)
+    subst (λ z. MoveFits ps z m) (append_assoc ms (x ∷ []) before ∙ ap (λ z. ms ++ z ∷ before) same)
+    (split_all ps (ms ++ x ∷ []) moves rest before after m rest_is)
 
-all_split : (ps : List Played) (ms moves : List Move) → ((before after : List Move) (m : Move) → moves ≡ before ++ m ∷ after → MoveFits ps (ms ++ before) m) → AllFit ps ms moves
+all_split : (ps : List Played) (ms moves : List Move) →
+    ((before after : List Move) (m : Move) → moves ≡ before ++ m ∷ after → MoveFits ps (ms ++ before) m) → AllFit ps ms moves
 all_split ps ms [] h = tt
 all_split ps ms (x ∷ moves) h = (
   subst (λ z. MoveFits ps z x) (append-nil ms) (h [] moves x refl),
-  all_split ps (ms ++ x ∷ []) moves (λ before after m e. subst (λ z. MoveFits ps z m) (sym (append_assoc ms (x ∷ []) before)) (h (x ∷ before) after m (ap (λ z. x ∷ z) e))),
+  all_split ps (ms ++ x ∷ []) moves
+      (λ before after m e. subst (λ z. MoveFits ps z m) (sym (append_assoc ms (x ∷ []) before))
+      (h (x ∷ before) after m (ap (λ z. x ∷ z) e))),
 )
 
 -- the holder that an entry needs for one of its moves, as the clause puts it
@@ -108,12 +119,26 @@ HasHolder ps journal before m =
 pub holds_is : (ps : List Played) (journal : List RootEntry) (moves : List Move) → AllFit ps (all_moves journal) moves
     → (before after : List Move) (m : Move) → moves ≡ before ++ m ∷ after → HasHolder ps journal before m
 holds_is ps journal moves all before after m e =
-    let (x, of, (h, first, to)) = split_all ps (all_moves journal) moves all before after m e in
-    (h, x, first, of, subst (λ z. HolderAfter ps h z (needed_by m.way x)) (filter-append (is_move_of m.slot m.number) (all_moves journal) before) to)
+    let (x, of, (h, first, to)) = split_all ps (all_moves journal) moves all before after m e in (
+      h,
+      x,
+      first,
+      of,
+      subst (λ z. HolderAfter ps h z (needed_by m.way x))
+          (filter-append (is_move_of m.slot m.number) (all_moves journal) before) to,
+    )
 
 pub holds_was : (ps : List Played) (journal : List RootEntry) (moves : List Move)
     → ((before after : List Move) (m : Move) → moves ≡ before ++ m ∷ after → HasHolder ps journal before m)
     → AllFit ps (all_moves journal) moves
 holds_was ps journal moves h = all_split ps (all_moves journal) moves (λ before after m e.
-    let (f, x, first, of, to) = h before after m e in
-    (x, of, (f, first, subst (λ z. HolderAfter ps f z (needed_by m.way x)) (sym (filter-append (is_move_of m.slot m.number) (all_moves journal) before)) to)))
+    let (f, x, first, of, to) = h before after m e in (
+      x,
+      of,
+      (
+        f,
+        first,
+        subst (λ z. HolderAfter ps f z (needed_by m.way x))
+            (sym (filter-append (is_move_of m.slot m.number) (all_moves journal) before)) to,
+      ),
+    ))

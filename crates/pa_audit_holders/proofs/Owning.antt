@@ -33,7 +33,8 @@ use Rattle.pa_verdict.proofs.Holding.{own_move}
 
 -- ---- one first holder
 
-returned_one : (ps : List Played) (s : SlotName) (k : ℕ) (x y : Played) → AreOfRuns ps → IsReturnedBy ps s k x → IsReturnedBy ps s k y → x ≡ y
+returned_one : (ps : List Played) (s : SlotName) (k : ℕ) (x y : Played) → AreOfRuns ps →
+    IsReturnedBy ps s k x → IsReturnedBy ps s k y → x ≡ y
 returned_one ps s k x y known (among, m, p, is, slot, made, back, number) (among', n, q, is', slot', made', back', number') =
     let ms = marks_of ps in
     let differ = records_differ ps known.rising in
@@ -51,36 +52,44 @@ returned_one ps s k x y known (among, m, p, is, slot, made, back, number) (among
     let mark = one_mark ms s n.found m n p q (marks_differ ps differ) (subst (λ z. IsFirstAt ms s z m p) word first) second in
     same_record ps x y differ among among' (sym (mark_line x m is) ∙ ap (λ (z : Mark). z.line) mark ∙ mark_line y n is')
 
-first_one : (ps : List Played) (s : SlotName) (k : ℕ) (h g : Holder) → AreOfRuns ps → IsFirstHolder ps s k h → IsFirstHolder ps s k g → h ≡ g
+first_one : (ps : List Played) (s : SlotName) (k : ℕ) (h g : Holder) → AreOfRuns ps → IsFirstHolder ps s k h →
+    IsFirstHolder ps s k g → h ≡ g
 first_one ps s k h g known (inl (none, is)) (inl (none', is')) = is ∙ sym is'
 first_one ps s k h g known (inl (none, is)) (inr (x, (among, m, p, of, slot, made, back, number), is')) = absurd (omega arith)
 first_one ps s k h g known (inr (x, (among, m, p, of, slot, made, back, number), is)) (inl (none, is')) = absurd (omega arith)
-first_one ps s k h g known (inr (x, back, is)) (inr (y, back', is')) = is ∙ ap (λ (z : Played). WithThread z.thread) (returned_one ps s k x y known back back') ∙ sym is'
+first_one ps s k h g known (inr (x, back, is)) (inr (y, back', is')) =
+    is ∙ ap (λ (z : Played). WithThread z.thread) (returned_one ps s k x y known back back') ∙ sym is'
 
 -- ---- one holder
 
 line_one : (ps : List Played) (line : ℕ) (x y : Played) → AreOfRuns ps → IsOfLine ps line x → IsOfLine ps line y → y ≡ x
 line_one ps line x y known (among, is) (among', is') = same_record ps y x (records_differ ps known.rising) among' among (is' ∙ sym is)
 
-after_one : (ps : List Played) (h : Holder) (ms : List Move) (a b : Holder) → AreOfRuns ps → HolderAfter ps h ms a → HolderAfter ps h ms b → a ≡ b
+after_one : (ps : List Played) (h : Holder) (ms : List Move) (a b : Holder) → AreOfRuns ps →
+    HolderAfter ps h ms a → HolderAfter ps h ms b → a ≡ b
 after_one ps h [] a b known x y = x ∙ sym y
 after_one ps h (m ∷ ms) a b known (x, of, to) (y, of', to') =
-    after_one ps (made_by m.way x) ms a b known to (subst (λ (z : Played). HolderAfter ps (made_by m.way z) ms b) (line_one ps m.line x y known of of') to')
+    after_one ps (made_by m.way x) ms a b known to
+    (subst (λ (z : Played). HolderAfter ps (made_by m.way z) ms b) (line_one ps m.line x y known of of') to')
 
-pub holder_one : (ps : List Played) (own : List Move) (s : SlotName) (k : ℕ) (a b : Holder) → AreOfRuns ps → HolderNow ps own s k a → HolderNow ps own s k b → a ≡ b
+pub holder_one : (ps : List Played) (own : List Move) (s : SlotName) (k : ℕ) (a b : Holder) → AreOfRuns ps → HolderNow ps own s k a →
+    HolderNow ps own s k b → a ≡ b
 holder_one ps own s k a b known (h, first, to) (g, first', to') =
     after_one ps h own a b known to (subst (λ z. HolderAfter ps z own b) (first_one ps s k g h known first' first) to')
 
 -- one move more
-after_more : (ps : List Played) (h mid : Holder) (ms : List Move) (m : Move) (x : Played) → HolderAfter ps h ms mid → IsOfLine ps m.line x → HolderAfter ps h (ms ++ m ∷ []) (made_by m.way x)
+after_more : (ps : List Played) (h mid : Holder) (ms : List Move) (m : Move) (x : Played) → HolderAfter ps h ms mid → IsOfLine ps m.line x →
+    HolderAfter ps h (ms ++ m ∷ []) (made_by m.way x)
 after_more ps h mid [] m x to of = (x, of, refl)
 after_more ps h mid (n ∷ ms) m x (y, of', to) of = (y, of', after_more ps (made_by n.way y) mid ms m x to of)
 
-after_less : (ps : List Played) (h last : Holder) (ms : List Move) (m : Move) → HolderAfter ps h (ms ++ m ∷ []) last → (mid : Holder) × HolderAfter ps h ms mid
+after_less : (ps : List Played) (h last : Holder) (ms : List Move) (m : Move) → HolderAfter ps h (ms ++ m ∷ []) last →
+    (mid : Holder) × HolderAfter ps h ms mid
 after_less ps h last [] m to = (h, refl)
 after_less ps h last (n ∷ ms) m (y, of, to) = let (mid, to') = after_less ps (made_by n.way y) last ms m to in (mid, (y, of, to'))
 
-after_line : (ps : List Played) (h last : Holder) (ms : List Move) (m : Move) → HolderAfter ps h (ms ++ m ∷ []) last → (x : Played) × IsOfLine ps m.line x
+after_line : (ps : List Played) (h last : Holder) (ms : List Move) (m : Move) → HolderAfter ps h (ms ++ m ∷ []) last →
+    (x : Played) × IsOfLine ps m.line x
 after_line ps h last [] m (x, of, to) = (x, of)
 after_line ps h last (n ∷ ms) m (y, of, to) = after_line ps (made_by n.way y) last ms m to
 
@@ -92,11 +101,15 @@ other_move m s k other = elim (same_slot_cases m.slot s) [
   | inr apart ↦ rw (same_slot_no m.slot s apart) refl
 ]
 
-filter_hit : (s : SlotName) (k : ℕ) (ms : List Move) (m : Move) → is_move_of s k m ≡ true → filter (is_move_of s k) (ms ++ m ∷ []) ≡ filter (is_move_of s k) ms ++ m ∷ []
+filter_hit : (s : SlotName) (k : ℕ) (ms : List Move) (m : Move) → is_move_of s k m ≡ true →
+    filter (is_move_of s k) (ms ++ m ∷ []) ≡ filter (is_move_of s k) ms ++ m ∷ []
 filter_hit s k ms m e = filter-append (is_move_of s k) ms (m ∷ []) ∙ ap (λ z. filter (is_move_of s k) ms ++ z) (rw e refl)
 
-filter_miss : (s : SlotName) (k : ℕ) (ms : List Move) (m : Move) → is_move_of s k m ≡ false → filter (is_move_of s k) (ms ++ m ∷ []) ≡ filter (is_move_of s k) ms
-filter_miss s k ms m e = filter-append (is_move_of s k) ms (m ∷ []) ∙ ap (λ z. filter (is_move_of s k) ms ++ z) (rw e refl) ∙ append-nil (filter (is_move_of s k) ms)
+filter_miss : (s : SlotName) (k : ℕ) (ms : List Move) (m : Move) → is_move_of s k m ≡ false →
+    filter (is_move_of s k) (ms ++ m ∷ []) ≡ filter (is_move_of s k) ms
+filter_miss s k ms m e =
+    filter-append (is_move_of s k) ms (m ∷ []) ∙ ap (λ z. filter (is_move_of s k) ms ++ z) (rw e refl) ∙
+    append-nil (filter (is_move_of s k) ms)
 
 not_empty : (ms : List Move) (m : Move) → ms ++ m ∷ [] ≡ [] → ⊥
 not_empty [] m e = cc
@@ -116,17 +129,23 @@ tells_after ps own s k line thread Back x same now = now
 owner_moved : (ps : List Played) (own : List Move) (line : ℕ) (thread : Option ℕ) (course : Course) (slot : Numbered) (held : Owner)
     → TellsThread ps line thread → TellsOwner ps own slot.slot slot.number held
     → TellsOwner ps (own ++ move_on line course slot ∷ []) slot.slot slot.number (made_owner held course thread)
-owner_moved ps own line thread course slot Nobody of none = λ last (h, first, to). let (mid, to') = after_less ps h last own (move_on line course slot) to in none mid (h, first, to')
-owner_moved ps own line None course slot Root of now = λ last (h, first, to). let (x, on) = after_line ps h last own (move_on line course slot) to in of x on
-owner_moved ps own line None course slot (Thread t) of now = λ last (h, first, to). let (x, on) = after_line ps h last own (move_on line course slot) to in of x on
+owner_moved ps own line thread course slot Nobody of none = λ last (h, first, to). let (mid, to') =
+    after_less ps h last own (move_on line course slot) to in none mid (h, first, to')
+owner_moved ps own line None course slot Root of now = λ last (h, first, to). let (x, on) =
+    after_line ps h last own (move_on line course slot) to in of x on
+owner_moved ps own line None course slot (Thread t) of now = λ last (h, first, to). let (x, on) =
+    after_line ps h last own (move_on line course slot) to in of x on
 owner_moved ps own line (Some thread) course slot Root (x, of, same) now =
-    tells_after ps (own ++ move_on line course slot ∷ []) slot.slot slot.number line thread course x same (moved ps own slot.slot slot.number InRoot (move_on line course slot) x now of)
+    tells_after ps (own ++ move_on line course slot ∷ []) slot.slot slot.number line thread course x same
+    (moved ps own slot.slot slot.number InRoot (move_on line course slot) x now of)
 owner_moved ps own line (Some thread) course slot (Thread t) (x, of, same) now =
-    tells_after ps (own ++ move_on line course slot ∷ []) slot.slot slot.number line thread course x same (moved ps own slot.slot slot.number (WithThread t) (move_on line course slot) x now of)
+    tells_after ps (own ++ move_on line course slot ∷ []) slot.slot slot.number line thread course x same
+    (moved ps own slot.slot slot.number (WithThread t) (move_on line course slot) x now of)
 
 pub owners_more : (ps : List Played) (ms : List Move) (f g : ℕ → Option Owner) (line : ℕ) (thread : Option ℕ) (course : Course)
     (slot : Numbered) (held : Owner) → IsSized slot.slot slot.number → TellsThread ps line thread
-    → TellsOwner ps (filter (is_move_of slot.slot slot.number) ms) slot.slot slot.number held → Puts f g (word_key slot.slot slot.number) (made_owner held course thread) → HasOwners ps ms f
+    → TellsOwner ps (filter (is_move_of slot.slot slot.number) ms) slot.slot slot.number held →
+    Puts f g (word_key slot.slot slot.number) (made_owner held course thread) → HasOwners ps ms f
     → HasOwners ps (ms ++ move_on line course slot ∷ []) g
 owners_more ps ms f g line thread course slot held within of tells puts h =
     let m = move_on line course slot in
@@ -136,11 +155,15 @@ owners_more ps ms f g line thread course slot held within of tells puts h =
     record {
       hit = λ s k o sized at. elim (same_place_cases s k) [
         | inl (e, e') ↦
-            let one : made_owner held course thread ≡ o = of_some (made_owner held course thread) o (sym puts.here ∙ ap (λ z. g (word_key z k')) (sym e) ∙ ap (λ z. g (word_key s z)) (sym e') ∙ at) in
+            let one : made_owner held course thread ≡ o =
+            of_some (made_owner held course thread) o
+            (sym puts.here ∙ ap (λ z. g (word_key z k')) (sym e) ∙ ap (λ z. g (word_key s z)) (sym e') ∙ at) in
             let now : TellsOwner ps (filter (is_move_of s' k') (ms ++ m ∷ [])) s' k' o =
             subst (λ z. TellsOwner ps (filter (is_move_of s' k') (ms ++ m ∷ [])) s' k' z) one
-            (subst (λ own. TellsOwner ps own s' k' (made_owner held course thread)) (sym grown) (owner_moved ps (filter (is_move_of s' k') ms) line thread course slot held of tells)) in (
-              subst (λ z. TellsOwner ps (filter (is_move_of z k) (ms ++ m ∷ [])) z k o) (sym e) (subst (λ z. TellsOwner ps (filter (is_move_of s' z) (ms ++ m ∷ [])) s' z o) (sym e') now),
+            (subst (λ own. TellsOwner ps own s' k' (made_owner held course thread)) (sym grown)
+            (owner_moved ps (filter (is_move_of s' k') ms) line thread course slot held of tells)) in (
+              subst (λ z. TellsOwner ps (filter (is_move_of z k) (ms ++ m ∷ [])) z k o) (sym e)
+                  (subst (λ z. TellsOwner ps (filter (is_move_of s' z) (ms ++ m ∷ [])) s' z o) (sym e') now),
               λ none. not_empty (filter (is_move_of s' k') ms) m
                   (sym grown ∙ ap (λ z. filter (is_move_of z k') (ms ++ m ∷ [])) (sym e)
                   ∙ ap (λ z. filter (is_move_of s z) (ms ++ m ∷ [])) (sym e') ∙ none),
@@ -152,10 +175,13 @@ owners_more ps ms f g line thread course slot held within of tells puts h =
             (subst (λ own. TellsOwner ps own s k o) (sym stays) tells', λ none. some (sym stays ∙ none))
       ];
       miss = λ s k sized at. elim (same_place_cases s k) [
-        | inl (e, e') ↦ absurd (not_some (made_owner held course thread) (sym at ∙ ap (λ z. g (word_key z k)) e ∙ ap (λ z. g (word_key s' z)) e' ∙ puts.here))
+        | inl (e, e') ↦
+            absurd (not_some (made_owner held course thread)
+            (sym at ∙ ap (λ z. g (word_key z k)) e ∙ ap (λ z. g (word_key s' z)) e' ∙ puts.here))
         | inr apart ↦
             let key : word_key s k ≡ word_key s' k' → ⊥ = λ e. let (a, b) = same_place s s' k k' sized within e in apart a b in
-            filter_miss s k ms m (other_move m s k (λ a b. apart (sym a) (sym b))) ∙ h.miss s k sized (sym (puts.other (word_key s k) key) ∙ at)
+            filter_miss s k ms m (other_move m s k (λ a b. apart (sym a) (sym b))) ∙
+            h.miss s k sized (sym (puts.other (word_key s k) key) ∙ at)
       ];
     }
   where
@@ -180,18 +206,29 @@ held_needed : (ps : List Played) (own : List Move) (s : SlotName) (k thread : �
     → held ≡ needed_owner course thread
 held_needed ps own s k thread course x Nobody known same none now = absurd (none (needed_by (way_of course) x) now)
 held_needed ps own s k thread Out x Root known same tells now = refl
-held_needed ps own s k thread Back x Root known same tells now = let e = holder_one ps own s k InRoot (WithThread x.thread) known tells now in absurd (cc e)
-held_needed ps own s k thread Out x (Thread t) known same tells now = let e = holder_one ps own s k (WithThread t) InRoot known tells now in absurd (cc e)
-held_needed ps own s k thread Back x (Thread t) known same tells now = ap Thread (thread_of t x.thread (holder_one ps own s k (WithThread t) (WithThread x.thread) known tells now) ∙ sym same)
+held_needed ps own s k thread Back x Root known same tells now = let e =
+    holder_one ps own s k InRoot (WithThread x.thread) known tells now in absurd (cc e)
+held_needed ps own s k thread Out x (Thread t) known same tells now = let e =
+    holder_one ps own s k (WithThread t) InRoot known tells now in absurd (cc e)
+held_needed ps own s k thread Back x (Thread t) known same tells now =
+    ap Thread (thread_of t x.thread (holder_one ps own s k (WithThread t) (WithThread x.thread) known tells now) ∙ sym same)
 
-pub fits_is : (ps : List Played) (ms : List Move) (line : ℕ) (thread : Option ℕ) (course : Course) (slot : Numbered) (held : Owner) → AreOfRuns ps → TellsThread ps line thread
-    → TellsOwner ps (filter (is_move_of slot.slot slot.number) ms) slot.slot slot.number held → IsNeeded held course thread ↔ MoveFits ps ms (move_on line course slot)
+pub fits_is : (ps : List Played) (ms : List Move) (line : ℕ) (thread : Option ℕ) (course : Course) (slot : Numbered) (held : Owner) →
+    AreOfRuns ps → TellsThread ps line thread
+    → TellsOwner ps (filter (is_move_of slot.slot slot.number) ms) slot.slot slot.number held →
+    IsNeeded held course thread ↔ MoveFits ps ms (move_on line course slot)
 fits_is ps ms line None course slot held known of tells = (λ none. absurd none, λ (y, on, now). of y on)
 fits_is ps ms line (Some thread) course slot held known (x, of, same) tells =
     let own = filter (is_move_of slot.slot slot.number) ms in (
-      λ e. (x, of, needed_tells ps own slot.slot slot.number thread course x same (subst (λ z. TellsOwner ps own slot.slot slot.number z) e tells)),
+      λ e. (
+        x,
+        of,
+        needed_tells ps own slot.slot slot.number thread course x same
+            (subst (λ z. TellsOwner ps own slot.slot slot.number z) e tells),
+      ),
       λ (y, of', now). held_needed ps own slot.slot slot.number thread course x held known same tells
-          (subst (λ (z : Played). HolderNow ps own slot.slot slot.number (needed_by (way_of course) z)) (line_one ps line x y known of of') now),
+          (subst (λ (z : Played). HolderNow ps own slot.slot slot.number (needed_by (way_of course) z))
+          (line_one ps line x y known of of') now),
     )
 
 -- ---- before any move
@@ -199,10 +236,13 @@ fits_is ps ms line (Some thread) course slot held known (x, of, same) tells =
 pub first_root : (ps : List Played) (s : SlotName) (k : ℕ) → k ≡ 0 → TellsOwner ps [] s k Root
 first_root ps s k none = (InRoot, inl (none, refl), refl)
 
-pub first_thread : (ps : List Played) (at : ℕ → Option ℕ) (s : SlotName) (k t : ℕ) → HasReturns ps at → IsSized s k → at (word_key s k) ≡ Some t → TellsOwner ps [] s k (Thread t)
-first_thread ps at s k t h sized is = let (x, back, same) = h.hit s k t sized is in (WithThread x.thread, inr (x, back, refl), ap WithThread same)
+pub first_thread : (ps : List Played) (at : ℕ → Option ℕ) (s : SlotName) (k t : ℕ) → HasReturns ps at → IsSized s k →
+    at (word_key s k) ≡ Some t → TellsOwner ps [] s k (Thread t)
+first_thread ps at s k t h sized is = let (x, back, same) = h.hit s k t sized is in
+    (WithThread x.thread, inr (x, back, refl), ap WithThread same)
 
-pub first_nobody : (ps : List Played) (at : ℕ → Option ℕ) (s : SlotName) (k : ℕ) → HasReturns ps at → IsSized s k → (k ≡ 0 → ⊥) → at (word_key s k) ≡ None → TellsOwner ps [] s k Nobody
+pub first_nobody : (ps : List Played) (at : ℕ → Option ℕ) (s : SlotName) (k : ℕ) → HasReturns ps at → IsSized s k → (k ≡ 0 → ⊥) →
+    at (word_key s k) ≡ None → TellsOwner ps [] s k Nobody
 first_nobody ps at s k h sized some is last (f, inl (none, e), to) = some none
 first_nobody ps at s k h sized some is last (f, inr (x, back, e), to) = h.miss s k x sized is back
 
@@ -212,12 +252,17 @@ pub entered_no_return : (x : Played) (f : ℕ → Option ℕ) → ((s : SlotName
 entered_no_return x f none = record { hit = λ s k t sized at. inl at; kept = λ s k sized at. at; has = λ s k sized back at. none s k back }
 
 pub returns_start : (ps : List Played) (f : ℕ → Option ℕ) → ((q : ℕ) → f q ≡ None) → HasReturnsTo ps 0 f
-returns_start ps f none = record { hit = λ s k t sized at. absurd (not_some t (sym (none (word_key s k)) ∙ at)); miss = λ s k i x sized at less. absurd (omega (arith, less)) }
+returns_start ps f none =
+    record {
+      hit = λ s k t sized at. absurd (not_some t (sym (none (word_key s k)) ∙ at));
+      miss = λ s k i x sized at less. absurd (omega (arith, less));
+    }
 
 returned_by : (ps : List Played) (s : SlotName) (k : ℕ) (x : Played) → Contains ps x → HasReturned x s k → IsReturnedBy ps s k x
 returned_by ps s k x among (m, p, is, slot, made, back, number) = (among, m, p, is, slot, made, back, number)
 
-pub returns_next : (ps : List Played) (f g : ℕ → Option ℕ) (j : ℕ) (d : Played) → j < length ps → HasReturnsTo ps j f → EntersReturn (get_or ps j d) f g → HasReturnsTo ps (j + 1) g
+pub returns_next : (ps : List Played) (f g : ℕ → Option ℕ) (j : ℕ) (d : Played) → j < length ps → HasReturnsTo ps j f →
+    EntersReturn (get_or ps j d) f g → HasReturnsTo ps (j + 1) g
 returns_next ps f g j d below h more =
     let x = get_or ps j d in
     record {
@@ -238,5 +283,6 @@ pub returns_whole : (ps : List Played) (f : ℕ → Option ℕ) (j : ℕ) → le
 returns_whole ps f j end h = record {
   hit = h.hit;
   miss = λ s k x sized at ((i, below, is), m, p, marked, slot, made, back, number).
-      h.miss s k i x sized at (omega (arith, below, end)) (slice_get-get_or ps i x below ∙ ap Some is) (m, p, marked, slot, made, back, number);
+      h.miss s k i x sized at (omega (arith, below, end)) (slice_get-get_or ps i x below ∙ ap Some is)
+      (m, p, marked, slot, made, back, number);
 }

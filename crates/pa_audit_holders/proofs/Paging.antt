@@ -25,10 +25,14 @@ line_known roots lines ps line known (i, x, at, on) =
     subst (λ k. KnowsLine roots lines k) on (of_all (λ (x : Played). KnowsLine roots lines x.line) ps i x known at)
 
 -- the page of the record in a place
-pub on_page : (b : RunBooks) (lines : List (List (List ℕ))) (at : ℕ → Option Home) (i : ℕ) (d : Played) → AreBooks b lines at → i < length b.records → IsOnPage b (get_or b.records i d)
+pub on_page : (b : RunBooks) (lines : List (List (List ℕ))) (at : ℕ → Option Home) (i : ℕ) (d : Played) → AreBooks b lines at →
+    i < length b.records → IsOnPage b (get_or b.records i d)
 on_page b lines at i d h below =
     let is = slice_get-get_or b.records i d below in
-    record { among = (i, get_or b.records i d, is, refl); within = of_all (IsOfThreads b.version) b.records i (get_or b.records i d) h.within is }
+    record {
+      among = (i, get_or b.records i d, is, refl);
+      within = of_all (IsOfThreads b.version) b.records i (get_or b.records i d) h.within is;
+    }
 
 -- a journal that has entries is one of four
 journal_within : (roots : List (List RootEntry)) (p k : ℕ) → length roots ≤ 4 → k < length (journal_at roots p) → p < 4
@@ -37,10 +41,12 @@ journal_within roots p k few more = elim (cases_lt p (length roots)) [
   | inr past ↦ let none = ap (λ (es : List RootEntry). length es) (get_or_past roots p [] past) in absurd (omega (arith, more, none))
 ]
 
-home_in : (roots : List (List RootEntry)) (s : SlotName) (p : ℕ) (class : Option ℕ) → length roots ≤ 4 → IsHomeIn (journal_at roots) s p class → p < 4
+home_in : (roots : List (List RootEntry)) (s : SlotName) (p : ℕ) (class : Option ℕ) → length roots ≤ 4 →
+    IsHomeIn (journal_at roots) s p class → p < 4
 home_in roots s p (Some class) few ((e, asked, slots, (k, more, is), act, names), low) = journal_within roots p k few more
 home_in roots s p None few (e, asked, len, (k, more, is), act) = journal_within roots p k few more
 
 -- a slot's home is one of four partitions
-pub home_within : (roots : List (List RootEntry)) (s : SlotName) (h : Home) → length roots ≤ 4 → IsHomeOf (journal_at roots) s h → h.partition < 4
+pub home_within : (roots : List (List RootEntry)) (s : SlotName) (h : Home) → length roots ≤ 4 →
+    IsHomeOf (journal_at roots) s h → h.partition < 4
 home_within roots s h few is = home_in roots s h.partition h.class few is.goes

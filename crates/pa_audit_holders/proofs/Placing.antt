@@ -28,11 +28,13 @@ tables_more ps roots tables after t n is here h =
     subst (λ ts. HaveTablesTo ps roots ts (n + 1)) (sym is) (record {
       many = omega (arith, long, many);
       each = λ p d less. elim (cases_lt p n) [
-        | inl before ↦ subst (λ z. KnowsJournal ps (journal_at roots p) z) (sym (get_or_append_left tables (t ∷ []) d p (omega (arith, before, many)))) (h.each p d before)
+        | inl before ↦ subst (λ z. KnowsJournal ps (journal_at roots p) z)
+            (sym (get_or_append_left tables (t ∷ []) d p (omega (arith, before, many)))) (h.each p d before)
         | inr least ↦
             let place : n ≡ p = omega (arith, less, least) in
             let last : length tables ≡ p = many ∙ place in
-            subst (λ z. KnowsJournal ps (journal_at roots p) z) (sym (get_or_push tables t d p last)) (subst (λ z. KnowsJournal ps (journal_at roots z) t) place here)
+            subst (λ z. KnowsJournal ps (journal_at roots p) z) (sym (get_or_push tables t d p last))
+            (subst (λ z. KnowsJournal ps (journal_at roots z) t) place here)
       ];
     })
 
@@ -47,7 +49,8 @@ entries_by : (ps : List Played) (roots : Journals) (n : ℕ) (misfit : Option (�
 entries_by ps roots n (Some (p, j)) at h tells = h
 entries_by ps roots n None None h tells = λ p j less. elim (cases_lt p n) [
   | inl before ↦ h p j before
-  | inr least ↦ let same : n ≡ p = omega (arith, less, least) in subst (λ q. HoldersDemand ps roots (places.Root q j)) same ((demand_is ps roots n j).0 (tells j))
+  | inr least ↦ let same : n ≡ p = omega (arith, less, least) in
+      subst (λ q. HoldersDemand ps roots (places.Root q j)) same ((demand_is ps roots n j).0 (tells j))
 ]
 entries_by ps roots n None (Some at) h (unmet, before) = (
   λ met. unmet ((demand_is ps roots n at).1 met),
@@ -60,17 +63,20 @@ entries_by ps roots n None (Some at) h (unmet, before) = (
 pub entries_next : (ps : List Played) (roots : List (List RootEntry)) (journal : List RootEntry) (n : ℕ) (misfit : Option (ℕ × ℕ))
     (at : Option ℕ) → journal_at roots n ≡ journal → EntriesSoFar ps (journal_at roots) n misfit →
     TellsFirst (EntryMovesFitAt ps journal) at → EntriesSoFar ps (journal_at roots) (n + 1) (first_in misfit n at)
-entries_next ps roots journal n misfit at is h tells = entries_by ps (journal_at roots) n misfit at h (subst (λ es. TellsFirst (EntryMovesFitAt ps es) at) (sym is) tells)
+entries_next ps roots journal n misfit at is h tells =
+    entries_by ps (journal_at roots) n misfit at h (subst (λ es. TellsFirst (EntryMovesFitAt ps es) at) (sym is) tells)
 
 -- ---- all places
 
-past_entries : (ps : List Played) (roots : List (List RootEntry)) (n p j : ℕ) → length roots ≤ n → n ≤ p → HoldersDemand ps (journal_at roots) (places.Root p j)
+past_entries : (ps : List Played) (roots : List (List RootEntry)) (n p j : ℕ) → length roots ≤ n → n ≤ p →
+    HoldersDemand ps (journal_at roots) (places.Root p j)
 past_entries ps roots n p j end past e at =
     let none : journal_at roots p ≡ [] = get_or_past roots p [] (omega (arith, end, past)) in
     let within = slice_get_within (journal_at roots p) j e at in
     absurd (omega (arith, within, ap (λ (es : List RootEntry). length es) none))
 
-pub tells_entry : (ps : List Played) (roots : List (List RootEntry)) (n : ℕ) (misfit : Option (ℕ × ℕ)) → length roots ≤ n → EntriesSoFar ps (journal_at roots) n misfit →
+pub tells_entry : (ps : List Played) (roots : List (List RootEntry)) (n : ℕ) (misfit : Option (ℕ × ℕ)) → length roots ≤ n →
+    EntriesSoFar ps (journal_at roots) n misfit →
     TellsFirst (λ i. HoldersDemand ps (journal_at roots) (places.Record i)) None → TellsHolders ps (journal_at roots) (entry_place misfit)
 tells_entry ps roots n (Some (p, j)) end (unmet, before) records = (unmet, records, before)
 tells_entry ps roots n None end h records = each

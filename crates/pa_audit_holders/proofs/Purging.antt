@@ -111,7 +111,8 @@ module _ {partitions : ℕ} {roots : Journals} {line slots : ℕ} {cache : Cache
       let sum = all.1 in
       none (all.0 p less) (omega (arith, counted, here, sum))
 
-  pub all_more : (rest : ℕ) → TellsPurge (acts_of roots line p) (cache p) left (Some rest) → ArePurging partitions roots line slots cache (p + 1) rest
+  pub all_more : (rest : ℕ) → TellsPurge (acts_of roots line p) (cache p) left (Some rest) →
+      ArePurging partitions roots line slots cache (p + 1) rest
   all_more rest told =
       let counted = h.counted in
       let here = listed_here in

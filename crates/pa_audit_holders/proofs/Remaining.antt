@@ -60,5 +60,6 @@ unfolding listed_slots
 slots_shifted f g a b zero same = refl
 slots_shifted f g a b (suc n) same =
     let head = ap length (same a b 0 (omega arith) (omega arith) (omega arith)) in
-    let tail = slots_shifted f g (a + 1) (b + 1) n (λ c d i e k less. same c d (i + 1) (omega (arith, e)) (omega (arith, k)) (omega (arith, less))) in
+    let tail = slots_shifted f g (a + 1) (b + 1) n
+    (λ c d i e k less. same c d (i + 1) (omega (arith, e)) (omega (arith, k)) (omega (arith, less))) in
     omega (arith, head, tail)

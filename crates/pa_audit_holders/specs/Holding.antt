@@ -96,8 +96,8 @@ abbrev pub entry_place : Option (ℕ × ℕ) → Option Place
 entry_place None = None
 entry_place (Some (p, j)) = Some (places.Root p j)
 
--- Nothing is found if each record and each entry of the journals meets what is required of it, and else the first place in the text that
--- doesn't.
+-- Nothing is found if each record and each entry of the journals meets what is required of it,
+-- and else the first place in the text that doesn't.
 abbrev pub TellsHolders : List Played → Journals → Option Place → Type 0
 TellsHolders ps roots None = (place : Place) → HoldersDemand ps roots place
 TellsHolders ps roots (Some (places.Record i)) =

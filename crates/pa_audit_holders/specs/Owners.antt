@@ -30,7 +30,8 @@ HasReturned x s k =
 -- the table has the thread that returned each slot at each number, by the first j records
 pub record HasReturnsTo (ps : List Played) (j : ℕ) (at : ℕ → Option ℕ) : Type 0 where
   pub hit : (s : SlotName) (k t : ℕ) → IsSized s k → at (word_key s k) ≡ Some t → (x : Played) × IsReturnedBy ps s k x × (t ≡ x.thread)
-  pub miss : (s : SlotName) (k i : ℕ) (x : Played) → IsSized s k → at (word_key s k) ≡ None → i < j → IsRecord ps i x → HasReturned x s k → ⊥
+  pub miss : (s : SlotName) (k i : ℕ) (x : Played) → IsSized s k → at (word_key s k) ≡ None → i < j →
+      IsRecord ps i x → HasReturned x s k → ⊥
 
 -- the table has the thread that returned each slot at each number, by all records
 pub record HasReturns (ps : List Played) (at : ℕ → Option ℕ) : Type 0 where
@@ -110,7 +111,8 @@ IsNeeded held course (Some thread) = held ≡ needed_owner course thread
 
 -- the table has what it had, and the thread of the record if its step returned a slot
 pub record EntersReturn (x : Played) (f g : ℕ → Option ℕ) : Type 0 where
-  pub hit : (s : SlotName) (k t : ℕ) → IsSized s k → g (word_key s k) ≡ Some t → (f (word_key s k) ≡ Some t) ⊎ (HasReturned x s k × (t ≡ x.thread))
+  pub hit : (s : SlotName) (k t : ℕ) → IsSized s k → g (word_key s k) ≡ Some t →
+      (f (word_key s k) ≡ Some t) ⊎ (HasReturned x s k × (t ≡ x.thread))
   pub kept : (s : SlotName) (k : ℕ) → IsSized s k → g (word_key s k) ≡ None → f (word_key s k) ≡ None
   pub has : (s : SlotName) (k : ℕ) → IsSized s k → HasReturned x s k → g (word_key s k) ≡ None → ⊥
 

@@ -65,7 +65,8 @@ impl<'a> Books<'a> {
         requires entries { (p : ℕ) → length (journal_at roots.now p) < 2 ^ 32 }
         requires homes { KnowsHomes (journal_at roots.now) (value_at homes.now) }
         requires kinds { (s : Name) → HasOneHome version (journal_at roots.now) s }
-        ensures { IfOk result (λ books. books ≡ record { version = version; partitions = partitions; records = records.now; roots = roots.now }) }
+        ensures { IfOk result (λ books. books ≡
+            record { version = version; partitions = partitions; records = records.now; roots = roots.now }) }
     {
         let lines = lines_of(alloc, lines_below(records), roots)?;
         Ok(Books {

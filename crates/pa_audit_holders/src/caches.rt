@@ -28,8 +28,8 @@ pub struct CachesFound {
 }
 
 /// The index of the first record whose line's entries, or whose answer, aren't those that its thread's lists of free slots require. If
-/// there is none, what the lists of the first threads had at the end of each phase is beside it: the records of the first phases end at
-/// these indices.
+/// there is none, what the lists of the first threads had at the end of each phase is beside it:
+/// the records of the first phases end at these indices.
 pub fn caches_meet(
     alloc: Global,
     books: &Books<'_>,

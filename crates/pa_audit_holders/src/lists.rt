@@ -1,12 +1,13 @@
-ghost use Rattle.std.specs.Prelude.{◌≡◌, ℕ, ◌+◌, ◌*◌, ◌-◌, ◌<◌, ◌≤◌, [], ◌∷◌, ◌↔◌, All, IfOk, IsTrue, OnErr, OnOk, drop, length, slice_index_or, take};
-ghost use Rattle.pa_buckets.specs.Limits.{first_class};
+ghost use Rattle.std.specs.Prelude.{◌≡◌, ℕ, ◌+◌, ◌<◌, ◌≤◌, [], ◌∷◌, ◌↔◌, All, IfOk, IsTrue, OnErr, OnOk, drop, length, slice_index_or, take};
 ghost use Rattle.pa_trace.specs.Limits.{most_partitions};
 ghost use Rattle.pa_rules.specs.Caches.{listed_slots, with_list};
-ghost use Rattle.pa_rules.specs.Sizes.{HasClass, class_total};
-ghost use Rattle.pa_audit_holders.specs.Lists.{AreSummed, HasPart, IsListedBy, cache_in, changed_by, no_slots};
+ghost use Rattle.pa_rules.specs.Lists.{IsTallyOf};
+ghost use Rattle.pa_rules.specs.Sizes.{HasClass};
+ghost use Rattle.pa_audit_holders.specs.Lists.{AreSummed, cache_in};
 
-use pa_buckets::{Class, first_class, past_class, slot_size};
+use pa_buckets::Class;
 use pa_record::{Numbered, Tally};
+use pa_rules::{cache_place, changed_by, class_total, no_sums};
 use pa_slot::OutOfMemory;
 use pa_trace::MOST_PARTITIONS;
 use std::alloc::Global;
@@ -140,7 +141,7 @@ impl ThreadLists {
         ensures empty { IfOk result (λ t. cache_in t ≡ (λ p class. [])) }
     {
         let mut lists = Vec::new(alloc);
-        for _ in 0..PARTITIONS * classes(version) {
+        for _ in 0..MOST_PARTITIONS * class_total(version) {
             lists.push(FreeSlots::new(alloc))?;
         }
         Ok(ThreadLists {
@@ -173,7 +174,7 @@ impl ThreadLists {
         ensures slots { result.now ≡ cache_in self.now partition class }
         ensures few { length result.now ≤ 64 }
     {
-        self.lists[place(self.version, partition, class)].items()
+        self.lists[cache_place(self.version, partition, class)].items()
     }
 
     // Replaces the slots of a partition's list by others, at most 64, and returns the old ones.
@@ -186,11 +187,11 @@ impl ThreadLists {
         ensures few { length result ≤ 64 }
         ensures after { cache_in self.new ≡ with_list (cache_in self.old) partition class slots }
     {
-        let at = place(self.version, partition, class);
-        let after = slots.len();
+        let at = cache_place(self.version, partition, class);
+        let after = slots.len() as u32;
         let replaced = mem::replace(&mut self.lists[at], slots);
-        let before = replaced.len();
-        let sum = changed(self.sums[partition as usize], class, before, after);
+        let before = replaced.len() as u32;
+        let sum = changed_by(self.sums[partition as usize], class, before, after);
         self.sums[partition as usize] = sum;
         replaced
     }
@@ -198,31 +199,12 @@ impl ThreadLists {
     // What the lists of a partition have together.
     pub(crate) fn sum(&self, partition: u32) -> Tally
         requires partition { partition < most_partitions }
-        ensures listed { IsListedBy (cache_in self.now) partition result }
+        ensures listed { IsTallyOf (cache_in self.now partition) result }
         ensures few { result.slots ≤ 10880 }
         ensures small { result.bytes ≤ 10695475200 }
     {
         self.sums[partition as usize]
     }
-}
-
-// How many classes the version has.
-fn classes(version: u32) -> usize
-    ensures count { result ≡ class_total version }
-    ensures few { result ≤ 111 }
-{
-    (past_class(version) - first_class(version)) as usize
-}
-
-// Where a partition's list of a class of the version is.
-fn place(version: u32, partition: u32, class: Class) -> usize
-    requires partition { partition < most_partitions }
-    requires class { HasClass version class }
-    ensures place { result ≡ class_total version * partition + (class - first_class version) }
-    ensures within { result < most_partitions * class_total version }
-{
-    let number = class.number() - first_class(version);
-    classes(version) * partition as usize + number as usize
 }
 
 // Puts unused entries before the slots, more than there are slots. Returns how many.
@@ -240,14 +222,6 @@ fn put_unused(slots: &mut Vec<Numbered>) -> Result<usize, OutOfMemory>
     Ok(unused)
 }
 
-// The sums of lists that are all empty.
-fn no_sums() -> [Tally; MOST_PARTITIONS as usize]
-    ensures { result ≡ no_slots ∷ no_slots ∷ no_slots ∷ no_slots ∷ [] }
-{
-    let none = Tally { slots: 0, bytes: 0 };
-    [none, none, none, none]
-}
-
 // Empties the lists of a version, of which each partition's have this sum.
 fn clear_all(lists: &mut Vec<FreeSlots>, version: u32, sums: &[Tally; MOST_PARTITIONS as usize])
     requires { AreSummed (record { version = version; lists = lists.old.items }) sums.now }
@@ -255,13 +229,13 @@ fn clear_all(lists: &mut Vec<FreeSlots>, version: u32, sums: &[Tally; MOST_PARTI
     ensures empty { All (λ slots. slots ≡ []) lists.new.items }
 {
     for partition in 0..PARTITIONS {
-        let count = classes(version);
-        clear_from(lists, count * partition, count, sums[partition].slots);
+        let count = class_total(version) as usize;
+        clear_from(lists, partition * count, count, sums[partition].slots);
     }
 }
 
-// Empties a partition's lists, which begin at this index, are so many, and have this many slots. Those after the last of them that has
-// some are left alone.
+// Empties a partition's lists, which begin at this index, are so many, and have this many slots.
+// Those after the last of them that has some are left alone.
 fn clear_from(lists: &mut Vec<FreeSlots>, first: usize, count: usize, slots: u64)
     requires few { count ≤ 111 }
     requires within { first + count ≤ length lists.old.items }
@@ -277,17 +251,5 @@ fn clear_from(lists: &mut Vec<FreeSlots>, first: usize, count: usize, slots: u64
         rest -= lists[at].len();
         lists[at].clear();
         at += 1;
-    }
-}
-
-// The tally after one list of this class went from `before` to `after` slots.
-fn changed(sum: Tally, class: Class, before: usize, after: usize) -> Tally
-    requires { HasPart sum class before after }
-    ensures { result ≡ changed_by sum class before after }
-{
-    let bytes = u64::from(slot_size(class));
-    Tally {
-        slots: sum.slots - before as u64 + after as u64,
-        bytes: sum.bytes - bytes * before as u64 + bytes * after as u64,
     }
 }

@@ -15,8 +15,8 @@ use pa_rules::Played;
 use pa_slot::OutOfMemory;
 use std::alloc::Global;
 
-// What is found of a line: the thread of its record, if there is one, and how far a line is above its record's index, as it was found
-// last.
+// What is found of a line: the thread of its record, if there is one,
+// and how far a line is above its record's index, as it was found last.
 #[derive(Clone, Copy)]
 pub(crate) struct Found {
     pub(crate) thread: Option<u32>,

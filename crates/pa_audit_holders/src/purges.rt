@@ -40,8 +40,8 @@ fn purges_all(page: &Page<'_>, slots: u32, cache: &ThreadLists) -> bool
     left == 0
 }
 
-// How many slots are left to be counted after the line's entries purged this partition. None if they don't purge it, or if its lists have
-// more slots.
+// How many slots are left to be counted after the line's entries purged this partition. None if they don't purge it,
+// or if its lists have more slots.
 fn purges_one(page: &Page<'_>, partition: u32, slots: usize, cache: &ThreadLists) -> Option<usize>
     requires partition { partition < most_partitions }
     ensures { TellsPurge (acts_of (journal_at page.now.roots) page.now.told.line partition) (cache_in cache.now partition) slots result }
@@ -50,8 +50,8 @@ fn purges_one(page: &Page<'_>, partition: u32, slots: usize, cache: &ThreadLists
     purges_lists(page.journal(partition), places, partition, slots, cache)
 }
 
-// How many slots are left to be counted after the entries at these indices purged this partition. None if they don't purge it, or if its
-// lists have more slots.
+// How many slots are left to be counted after the entries at these indices purged this partition. None if they don't purge it,
+// or if its lists have more slots.
 fn purges_lists(
     journal: &[DenseEntry],
     places: &[u32],

@@ -70,7 +70,8 @@ fn put_back(
 ) -> Result<bool, OutOfMemory>
     requires version { cache.old.version ≡ page.now.version }
     ensures version { cache.new.version ≡ cache.old.version }
-    ensures row { IfOk result (TellsRow (ReturnRow (journal_at page.now.roots) page.now.told slot (cache_in cache.old)) (cache_in cache.new)) }
+    ensures row { IfOk result
+        (TellsRow (ReturnRow (journal_at page.now.roots) page.now.told slot (cache_in cache.old)) (cache_in cache.new)) }
 {
     match page.home_of(slot.slot) {
         Some(home) => go_home(alloc, page, home, slot, cache),
@@ -91,7 +92,8 @@ fn go_home(
     requires one { HasOneHome page.now.version (journal_at page.now.roots) slot.slot }
     requires version { cache.old.version ≡ page.now.version }
     ensures version { cache.new.version ≡ cache.old.version }
-    ensures row { IfOk result (TellsRow (ReturnRow (journal_at page.now.roots) page.now.told slot (cache_in cache.old)) (cache_in cache.new)) }
+    ensures row { IfOk result
+        (TellsRow (ReturnRow (journal_at page.now.roots) page.now.told slot (cache_in cache.old)) (cache_in cache.new)) }
 {
     let partition = home.partition;
     match home.class {

@@ -50,7 +50,8 @@ fn made(
 ) -> Result<bool, OutOfMemory>
     requires version { cache.old.version ≡ page.now.version }
     ensures version { cache.new.version ≡ cache.old.version }
-    ensures row { IfOk result (TellsRow (MadeRow (journal_at page.now.roots) page.now.told seen (cache_in cache.old)) (cache_in cache.new)) }
+    ensures row { IfOk result
+        (TellsRow (MadeRow (journal_at page.now.roots) page.now.told seen (cache_in cache.old)) (cache_in cache.new)) }
 {
     let told = page.told();
     match class_asked(told) {

@@ -14,8 +14,8 @@ use pa_rules::Played;
 use pa_slot::OutOfMemory;
 use std::alloc::Global;
 
-// What is known of a journal's slots: the owner of each at each number that an entry names, and the least number at which each direct map
-// went back.
+// What is known of a journal's slots: the owner of each at each number that an entry names,
+// and the least number at which each direct map went back.
 #[derive(Drop)]
 pub(crate) struct Table {
     pub(crate) owners: ByKey<Owner>,

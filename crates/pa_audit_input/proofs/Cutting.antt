@@ -81,13 +81,15 @@ run_begins rest r e h = text_begins rest (drop 6 rest) ((begins_is rest r e).0 h
 
 pub empty_is : (rest : List ℕ) (r : Bool) → r ≡ (length rest == 0) → r ≡ true → rest ≡ []
 empty_is [] r e h = refl
-empty_is (x ∷ rest) r e h = let none : length (x ∷ rest) ≡ 0 = (Decides-eqb (length (x ∷ rest)) 0).0 (sym e ∙ h) in absurd (omega (arith, none))
+empty_is (x ∷ rest) r e h = let none : length (x ∷ rest) ≡ 0 =
+    (Decides-eqb (length (x ∷ rest)) 0).0 (sym e ∙ h) in absurd (omega (arith, none))
 
 pub none_begins : (rest : List ℕ) (r : Bool) → r ≡ (length rest == 0) → r ≡ true → BeginsRun (lines_of rest)
 none_begins rest r e h = subst (λ (z : List (List ℕ)). BeginsRun z) (sym (ap lines_of (empty_is rest r e h) ∙ no_lines)) tt
 
 -- a first line that isn't `run 1`
-pub not_run : (rest after : List ℕ) (r : Bool) → r ≡ starts_with eqb rest run_line → r ≡ false → (b : IsBehindLine rest after) → b.line ≡ run_line → ⊥
+pub not_run : (rest after : List ℕ) (r : Bool) → r ≡ starts_with eqb rest run_line → r ≡ false →
+    (b : IsBehindLine rest after) → b.line ≡ run_line → ⊥
 not_run rest after r e h b same =
     false≢true (sym h ∙ (begins_is rest r e).1 after (b.parts ∙ ap (λ (z : List ℕ). z ++ after) same))
 
@@ -106,17 +108,20 @@ back_is bytes back a rest parts e =
     e ∙ ap (λ (k : ℕ). drop k bytes) count ∙ ap (λ (z : List ℕ). drop (length a) z) parts ∙ drop-append_seam a rest
 
 -- the lines of the bytes before the rest
-cut_front : (P : List ℕ → Type 0) (bytes rest front : List ℕ) (n : ℕ) → (c : IsCutAt P bytes rest n) → front ≡ take (length bytes - length rest) bytes
+cut_front : (P : List ℕ → Type 0) (bytes rest front : List ℕ) (n : ℕ) → (c : IsCutAt P bytes rest n) →
+    front ≡ take (length bytes - length rest) bytes
     → lines_of front ≡ c.before
 cut_front P bytes rest front n c e =
     ap lines_of (front_is bytes front (joined c.before) rest c.parts e) ∙ (lines_taken bytes c.before (lines_of rest) c.lines).0
 
-pub cut_count : (P : List ℕ → Type 0) (bytes rest front : List ℕ) (n : ℕ) → IsCutAt P bytes rest n → front ≡ take (length bytes - length rest) bytes
+pub cut_count : (P : List ℕ → Type 0) (bytes rest front : List ℕ) (n : ℕ) → IsCutAt P bytes rest n →
+    front ≡ take (length bytes - length rest) bytes
     → n ≡ length (lines_of front)
 cut_count P bytes rest front n c e = c.count ∙ ap length (sym (cut_front P bytes rest front n c e))
 
 -- if the rest begins with the run, or is none, these are the parts
-pub cut_parted : (bytes rest front back : List ℕ) (n : ℕ) → IsCutAt (λ line. line ≡ run_line → ⊥) bytes rest n → front ≡ take (length bytes - length rest) bytes
+pub cut_parted : (bytes rest front back : List ℕ) (n : ℕ) → IsCutAt (λ line. line ≡ run_line → ⊥) bytes rest n →
+    front ≡ take (length bytes - length rest) bytes
     → back ≡ drop (length bytes - length rest) bytes → BeginsRun (lines_of rest) → IsParted front back bytes
 cut_parted bytes rest front back n c e f begins =
     let before = cut_front (λ line. line ≡ run_line → ⊥) bytes rest front n c e in
@@ -124,7 +129,8 @@ cut_parted bytes rest front back n c e f begins =
     let second = back_is bytes back (joined c.before) rest c.parts f in
     record {
       parts = c.parts ∙ ap (λ (z : List ℕ). z ++ rest) (sym first) ∙ ap (λ (z : List ℕ). front ++ z) (sym second);
-      lines = c.lines ∙ ap (λ (z : List (List ℕ)). z ++ lines_of rest) (sym before) ∙ ap (λ (z : List ℕ). lines_of front ++ lines_of z) (sym second);
+      lines = c.lines ∙ ap (λ (z : List (List ℕ)). z ++ lines_of rest) (sym before) ∙
+          ap (λ (z : List ℕ). lines_of front ++ lines_of z) (sym second);
       before = subst (AllByRecursion (λ line. line ≡ run_line → ⊥)) (sym before) c.each;
       behind = subst (λ (z : List ℕ). BeginsRun (lines_of z)) (sym second) begins;
     }

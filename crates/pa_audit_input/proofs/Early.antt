@@ -21,7 +21,8 @@ use Rattle.pa_audit_input.proofs.Parting.{some_parting}
 
 -- ---- the trace's part
 
-long_fault : (e : TraceFault) (p z w : List ℕ) → length p ≡ 4194305 → IsFirstFault last_version e (p ++ z) → IsFirstFault last_version e (p ++ w)
+long_fault : (e : TraceFault) (p z w : List ℕ) → length p ≡ 4194305 → IsFirstFault last_version e (p ++ z) →
+    IsFirstFault last_version e (p ++ w)
 long_fault e p z w full h =
     let found = some_fault last_version (omega arith) p (λ t recent input. let s = input.short in omega (arith, s, full)) in
     let same : found.0 ≡ e = one_fault last_version found.0 e (p ++ z) (first_early last_version found.0 p z full found.1) h in
@@ -71,7 +72,8 @@ last_stays n before last x y ys e full longer (inr (inl h)) = absurd (let s = h.
 last_stays n before last x y ys e full longer (inr (inr h)) = absurd (let s = h.0 in omega (arith, s, full))
 
 -- a line that comes before others
-later_stays : (n before : ℕ) (last : Option Item) (x : List ℕ) (lines others : List (List ℕ)) (e : TraceFault) → IsFirstOfRun n before last (x ∷ lines) e
+later_stays : (n before : ℕ) (last : Option Item) (x : List ℕ) (lines others : List (List ℕ)) (e : TraceFault) →
+    IsFirstOfRun n before last (x ∷ lines) e
     → ((k : Option Item) → before + length x ≤ most_audited → IsFirstOfRun (n + 1) (before + length x) k lines e
     → IsFirstOfRun (n + 1) (before + length x) k others e) → IsFirstOfRun n before last (x ∷ others) e
 later_stays n before last x lines others e (inl h) rest = inl h
@@ -86,7 +88,8 @@ lf_splits b lines c x lf e =
     let long = ap length first in
     omega (arith, long)
 
-other_whole : (b : ℕ) (x : List ℕ) (lines : List (List ℕ)) → (b ≡ 10 → ⊥) → (lines ≡ [] → ⊥) → with_front b lines ≡ (b ∷ x) ∷ [] → lines ≡ x ∷ []
+other_whole : (b : ℕ) (x : List ℕ) (lines : List (List ℕ)) → (b ≡ 10 → ⊥) → (lines ≡ [] → ⊥) →
+    with_front b lines ≡ (b ∷ x) ∷ [] → lines ≡ x ∷ []
 other_whole b x [] other none e = absurd (none refl)
 other_whole b x (line ∷ lines) other none e = let split : (b ∷ line) ∷ lines ≡ (b ∷ x) ∷ [] = sym (other_front b line lines other) ∙ e in cc
 
@@ -124,7 +127,8 @@ run_stays (x ∷ w ∷ lines) bytes more n before last e same room full h =
     let whole : bytes ≡ x ++ rest = sym (lines_joined bytes) ∙ ap joined same in
     let cut = lines_taken bytes (x ∷ []) (w ∷ lines) same in
     let one : lines_of x ≡ x ∷ [] = ap lines_of (sym (append-nil x)) ∙ cut.0 in
-    let front : lines_of (x ++ rest) ≡ lines_of x ++ w ∷ lines = ap lines_of (sym whole) ∙ same ∙ ap (λ (z : List (List ℕ)). z ++ w ∷ lines) (sym one) in
+    let front : lines_of (x ++ rest) ≡ lines_of x ++ w ∷ lines =
+    ap lines_of (sym whole) ∙ same ∙ ap (λ (z : List (List ℕ)). z ++ w ∷ lines) (sym one) in
     let split : lines_of (x ++ (rest ++ more)) ≡ x ∷ lines_of (rest ++ more) =
     lines_cut x rest (rest ++ more) w lines cut.1 front ∙ ap (λ (z : List (List ℕ)). z ++ lines_of (rest ++ more)) one in
     let all : lines_of (bytes ++ more) ≡ x ∷ lines_of (rest ++ more) =
@@ -150,7 +154,8 @@ begun_fault e front back more full (inr h) =
     )
 
 -- a part that is too long for a trace has the fault itself
-first_part : (e : TraceFault) (front back : List ℕ) → length front ≡ most_audited + 1 → IsFirstOfParts e front back → IsFirstFault last_version e front
+first_part : (e : TraceFault) (front back : List ℕ) → length front ≡ most_audited + 1 → IsFirstOfParts e front back →
+    IsFirstFault last_version e front
 first_part e front back full (inl h) = h
 first_part e front back full (inr h) = absurd (let s = h.1.short in omega (arith, s, full))
 
@@ -203,14 +208,16 @@ front_long bytes more front back (line ∷ lines) same full none parted short =
     has_run (lines_of front) (lines_of v.0) (subst (λ (z : List (List ℕ)). AllByRecursion (λ line. line ≡ run_line → ⊥) z) there none)
 
 -- texts that begin with the same 4,194,305 bytes have the same fault
-shared_front : (e : TraceFault) (bytes front p z w : List ℕ) → length p ≡ 4194305 → bytes ≡ p ++ w → front ≡ p ++ z → IsFirstFault last_version e bytes
+shared_front : (e : TraceFault) (bytes front p z w : List ℕ) → length p ≡ 4194305 → bytes ≡ p ++ w → front ≡ p ++ z →
+    IsFirstFault last_version e bytes
     → IsFirstFault last_version e front
 shared_front e bytes front p z w full first second h =
     subst (IsFirstFault last_version e) (sym second) (long_fault e p w z full (subst (IsFirstFault last_version e) first h))
 
 -- the part before `run 1` has the fault that the first bytes have
 front_fault : (e : TraceFault) (bytes more front back : List ℕ) → length bytes ≡ most_audited + 1 → IsFirstFault last_version e bytes
-    → AllByRecursion (λ line. line ≡ run_line → ⊥) (lines_of bytes) → IsParted front back (bytes ++ more) → IsFirstFault last_version e front
+    → AllByRecursion (λ line. line ≡ run_line → ⊥) (lines_of bytes) → IsParted front back (bytes ++ more) →
+    IsFirstFault last_version e front
 front_fault e bytes more front back full h none parted =
     let long : 4194305 ≤ length front =
     elim (cases_lt (length front) 4194305) [
@@ -234,14 +241,16 @@ whole_early e bytes more full h none =
       fault = inl (front_fault e bytes more parts.0 parts.1 full h none parts.2);
     }
 
-early_by : (e : TraceFault) (bytes more front back : List ℕ) (lines : List (List ℕ)) → lines_of back ≡ lines → length bytes ≡ most_audited + 1
+early_by : (e : TraceFault) (bytes more front back : List ℕ) (lines : List (List ℕ)) → lines_of back ≡ lines →
+    length bytes ≡ most_audited + 1
     → IsParted front back bytes → IsFirstOfParts e front back → IsFirstAuditFault e (bytes ++ more)
 early_by e bytes more front back [] none full parted fault =
     let empty : back ≡ [] = sym (lines_joined back) ∙ ap joined none in
     let same : front ≡ bytes = sym (append-nil front) ∙ ap (λ (z : List ℕ). front ++ z) (sym empty) ∙ sym parted.parts in
     whole_early e bytes more full (subst (IsFirstFault last_version e) same (first_part e front back (ap length same ∙ full) fault))
     (subst (λ (z : List ℕ). AllByRecursion (λ line. line ≡ run_line → ⊥) (lines_of z)) same parted.before)
-early_by e bytes more front back (line ∷ lines) some full parted fault = begun_early e bytes more front back line lines some full parted fault
+early_by e bytes more front back (line ∷ lines) some full parted fault =
+    begun_early e bytes more front back line lines some full parted fault
 
 -- what was read to one byte past the limit has the fault of all that follows it
 pub audit_fault_early : (e : TraceFault) (bytes more : List ℕ) → length bytes ≡ most_audited + 1 → IsFirstAuditFault e bytes

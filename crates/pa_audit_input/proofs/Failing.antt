@@ -90,13 +90,15 @@ lines_within t r (places.Report i) unmet above = absurd (unmet tt)
 abbrev report_key : ReportLine → ℕ × ℕ
 report_key l = (l.phase, l.partition)
 
-report_within : (t : Trace) (r : Run) (place : Place) → (Demand clauses.Report t (told_by r) place → ⊥) → HoldsAbove clauses.Report t r place
+report_within : (t : Trace) (r : Run) (place : Place) → (Demand clauses.Report t (told_by r) place → ⊥) →
+    HoldsAbove clauses.Report t r place
     → line_at r place ≤ last_line r
 report_within t r (places.Report i) unmet above =
     let n = length r.report.items in
     elim (cases_lt n i) [
       | inl past ↦ absurd (unmet (
-        same_beyond (map report_key r.report.items) (phases_of t.partitions 1 (phases_in t.lines)) n i (sym (length-map r.report.items report_key)) past
+        same_beyond (map report_key r.report.items) (phases_of t.partitions 1 (phases_in t.lines)) n i
+            (sym (length-map r.report.items report_key)) past
             (above (places.Report n) (omega (arith, past))).0,
         λ l at. absurd (not_some l (sym (slice_get_past r.report.items i (omega (arith, past))) ∙ at)),
       ))
@@ -114,19 +116,24 @@ clause_within : (c : Clause) (t : Trace) (r : Run) (place : Place) → ((d : Cla
 clause_within clauses.Lines t r place before unmet above = lines_within t r place unmet above
 clause_within clauses.Cells t r place before unmet above = asked_within clauses.Cells t r place (cells_rest t r) unmet
 clause_within clauses.Registers t r place before unmet above =
-    asked_within clauses.Registers t r place (records_rest clauses.Registers t r (asks_records clauses.Registers t r tt) (λ i none x at. absurd (none x at))) unmet
+    asked_within clauses.Registers t r place
+    (records_rest clauses.Registers t r (asks_records clauses.Registers t r tt) (λ i none x at. absurd (none x at))) unmet
 clause_within clauses.Slots t r place before unmet above =
-    asked_within clauses.Slots t r place (records_rest clauses.Slots t r (asks_records clauses.Slots t r tt) (λ i none x m at mark. absurd (none x at))) unmet
+    asked_within clauses.Slots t r place
+    (records_rest clauses.Slots t r (asks_records clauses.Slots t r tt) (λ i none x m at mark. absurd (none x at))) unmet
 clause_within clauses.Contents t r place before unmet above =
-    asked_within clauses.Contents t r place (records_rest clauses.Contents t r (asks_records clauses.Contents t r tt) (λ i none x at. absurd (none x at))) unmet
+    asked_within clauses.Contents t r place
+    (records_rest clauses.Contents t r (asks_records clauses.Contents t r tt) (λ i none x at. absurd (none x at))) unmet
 clause_within clauses.Pool t r place before unmet above = asked_within clauses.Pool t r place (pool_rest t r) unmet
 clause_within clauses.Roots t r place before unmet above = asked_within clauses.Roots t r place (roots_rest t r) unmet
 clause_within clauses.Titles t r place before unmet above = absurd (unmet (titles_never_fail t r before place))
 clause_within clauses.Holders t r place before unmet above = asked_within clauses.Holders t r place (holders_rest t r) unmet
 clause_within clauses.Caches t r place before unmet above =
-    asked_within clauses.Caches t r place (records_rest clauses.Caches t r (asks_records clauses.Caches t r tt) (λ i none x at. absurd (none x at))) unmet
+    asked_within clauses.Caches t r place
+    (records_rest clauses.Caches t r (asks_records clauses.Caches t r tt) (λ i none x at. absurd (none x at))) unmet
 clause_within clauses.Seen t r place before unmet above =
-    asked_within clauses.Seen t r place (records_rest clauses.Seen t r (asks_records clauses.Seen t r tt) (λ i none x at. absurd (none x at))) unmet
+    asked_within clauses.Seen t r place
+    (records_rest clauses.Seen t r (asks_records clauses.Seen t r tt) (λ i none x at. absurd (none x at))) unmet
 clause_within clauses.Report t r place before unmet above = report_within t r place unmet above
 
 pub failing_line : (c : Clause) (n : ℕ) (t : Trace) (r : Run) → IsFirstFailing c n t r → n ≤ report_at r + length r.report.items

@@ -29,7 +29,8 @@ AreCut xs ys = (lines_of (joined xs) ≡ xs) × (lines_of (joined ys) ≡ ys)
 none_taken : (bytes : List ℕ) (ys : List (List ℕ)) → lines_of bytes ≡ ys → AreCut [] ys
 none_taken bytes ys e = (no_lines, ap lines_of (ap joined (sym e) ∙ lines_joined bytes) ∙ e)
 
-lf_taken : (lines : List (List ℕ)) (x : List ℕ) (xs ys : List (List ℕ)) → with_front 10 lines ≡ x ∷ xs ++ ys → (x ≡ 10 ∷ []) × (lines ≡ xs ++ ys)
+lf_taken : (lines : List (List ℕ)) (x : List ℕ) (xs ys : List (List ℕ)) → with_front 10 lines ≡ x ∷ xs ++ ys →
+    (x ≡ 10 ∷ []) × (lines ≡ xs ++ ys)
 lf_taken lines x xs ys e = let split : (10 ∷ []) ∷ lines ≡ x ∷ xs ++ ys = sym (lf_front lines) ∙ e in (cc, cc)
 
 -- if the lines of a text can be cut before the lines ys, they still can with a byte other than LF in front of the text
@@ -96,7 +97,8 @@ no_bytes : (a : List ℕ) → lines_of a ≡ [] → a ≡ []
 no_bytes a e = sym (lines_joined a) ∙ ap joined e
 
 -- a text whose lines come before those of some bytes has them before those of any
-pub lines_cut : (a b c : List ℕ) (line : List ℕ) (lines : List (List ℕ)) → lines_of b ≡ line ∷ lines → lines_of (a ++ b) ≡ lines_of a ++ line ∷ lines
+pub lines_cut : (a b c : List ℕ) (line : List ℕ) (lines : List (List ℕ)) → lines_of b ≡ line ∷ lines →
+    lines_of (a ++ b) ≡ lines_of a ++ line ∷ lines
     → lines_of (a ++ c) ≡ lines_of a ++ lines_of c
 unfolding lines_of
 lines_cut [] b c line lines some e = refl
@@ -104,10 +106,12 @@ lines_cut (x ∷ a) b c line lines some e =
     elim (cases_eq x 10) [
       | inl lf ↦
           let parts : (10 ∷ []) ∷ lines_of (a ++ b) ≡ (10 ∷ []) ∷ lines_of a ++ line ∷ lines =
-          sym (lf_front (lines_of (a ++ b))) ∙ subst (λ (y : ℕ). with_front y (lines_of (a ++ b)) ≡ with_front y (lines_of a) ++ line ∷ lines) lf e
+          sym (lf_front (lines_of (a ++ b))) ∙
+          subst (λ (y : ℕ). with_front y (lines_of (a ++ b)) ≡ with_front y (lines_of a) ++ line ∷ lines) lf e
           ∙ ap (λ (z : List (List ℕ)). z ++ line ∷ lines) (lf_front (lines_of a)) in
           let rest : lines_of (a ++ c) ≡ lines_of a ++ lines_of c = lines_cut a b c line lines some (cc) in
-          rw lf (lf_front (lines_of (a ++ c)) ∙ ap (λ (z : List (List ℕ)). (10 ∷ []) ∷ z) rest ∙ ap (λ (z : List (List ℕ)). z ++ lines_of c) (sym (lf_front (lines_of a))))
+          rw lf (lf_front (lines_of (a ++ c)) ∙ ap (λ (z : List (List ℕ)). (10 ∷ []) ∷ z) rest ∙
+          ap (λ (z : List (List ℕ)). z ++ lines_of c) (sym (lf_front (lines_of a))))
       | inr other ↦
           other_cut x (lines_of a) (lines_of (a ++ b)) (lines_of (a ++ c)) (lines_of c) line lines other
           (λ none. ap (λ (z : List ℕ). lines_of (z ++ b)) (no_bytes a none) ∙ some) e (λ there. lines_cut a b c line lines some there)

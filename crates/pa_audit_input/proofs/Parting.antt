@@ -43,7 +43,8 @@ one_text a b e = sym (lines_joined a) ∙ ap joined e ∙ lines_joined b
 pub one_parting : (front back other behind bytes : List ℕ) → IsParted front back bytes → IsParted other behind bytes
     → (front ≡ other) × (back ≡ behind)
 one_parting front back other behind bytes h k =
-    let cut = one_cut (lines_of front) (lines_of back) (lines_of other) (lines_of behind) (sym h.lines ∙ k.lines) h.before h.behind k.before k.behind in
+    let cut = one_cut (lines_of front) (lines_of back) (lines_of other) (lines_of behind)
+    (sym h.lines ∙ k.lines) h.before h.behind k.before k.behind in
     (one_text front other cut.0, one_text back behind cut.1)
 
 -- any bytes have two parts
@@ -53,7 +54,8 @@ parted_lines [] = ([], [], refl, tt, tt)
 parted_lines (line ∷ lines) =
     elim (same_or line run_line) [
       | inl run ↦ ([], line ∷ lines, refl, tt, run)
-      | inr other ↦ let rest = parted_lines lines in (line ∷ rest.0, rest.1, ap (λ (z : List (List ℕ)). line ∷ z) rest.2, (other, rest.3), rest.4)
+      | inr other ↦ let rest = parted_lines lines in
+          (line ∷ rest.0, rest.1, ap (λ (z : List (List ℕ)). line ∷ z) rest.2, (other, rest.3), rest.4)
     ]
 
 parting_of : (bytes : List ℕ) (xs ys : List (List ℕ)) → lines_of bytes ≡ xs ++ ys → AllByRecursion (λ line. line ≡ run_line → ⊥) xs
@@ -103,7 +105,8 @@ none_of_run (i ∷ is) n before last e order short (inl h) =
 none_of_run (i ∷ is) n before last e order short (inr (inl h)) = h.2 i order.0 order.1 refl
 none_of_run (i ∷ is) n before last e order short (inr (inr h)) =
     let same : i ≡ h.1 = same_item last i h.1 order.0 h.2 order.1 h.3 h.4 in
-    none_of_run is (n + 1) (before + length (item_text i)) (Some i) e order.2 (omega (arith, length-append (item_text i) (flat_map item_text is)))
+    none_of_run is (n + 1) (before + length (item_text i)) (Some i) e order.2
+    (omega (arith, length-append (item_text i) (flat_map item_text is)))
     (subst (λ (k : Item). IsFirstOfRun (n + 1) (before + length (item_text i)) (Some k) (map item_text is) e) (sym same) h.5)
 
 no_fault_of_run : (r : Run) (back : List ℕ) (n before : ℕ) (e : TraceFault) → IsRunText r back → before + length back ≤ most_audited
@@ -117,7 +120,8 @@ no_fault_of_run r back n before e h short first =
 -- ---- the first faulty line of all
 
 -- the first fault of the bytes is that of their parts
-fault_of_parts : (e : TraceFault) (front back bytes : List ℕ) → IsParted front back bytes → IsFirstAuditFault e bytes → IsFirstOfParts e front back
+fault_of_parts : (e : TraceFault) (front back bytes : List ℕ) → IsParted front back bytes →
+    IsFirstAuditFault e bytes → IsFirstOfParts e front back
 fault_of_parts e front back bytes parted h =
     let same = one_parting h.front h.back front back bytes h.parted parted in
     subst (λ (z : List ℕ). IsFirstOfParts e front z) same.1 (subst (λ (z : List ℕ). IsFirstOfParts e z h.back) same.0 h.fault)
@@ -140,6 +144,7 @@ none_of_parts t r front back e input run short (inr h) =
 
 pub no_audit_fault : (t : Trace) (r : Run) (n : ℕ) (bytes : List ℕ) (e : TraceFault) → IsAudited t r n bytes → IsFirstAuditFault e bytes → ⊥
 no_audit_fault t r n bytes e input h =
-    let total : length bytes ≡ length input.front + length input.back = ap length input.parted.parts ∙ length-append input.front input.back in
+    let total : length bytes ≡ length input.front + length input.back =
+    ap length input.parted.parts ∙ length-append input.front input.back in
     none_of_parts t r input.front input.back e input.trace input.run (let s = input.short in omega (arith, total, s))
     (fault_of_parts e input.front input.back bytes input.parted h)

@@ -46,7 +46,8 @@ bad_before d m before last (line ∷ lines) more k short less (inl h) =
     inr (inl (omega (arith, length-append line (joined lines)), ap (λ (x : ℕ). BadLine (d + x)) h.0, h.1))
 bad_before d m before last (line ∷ lines) more k short less (inr h) =
     let next : d + (m + 1) ≡ (d + m) + 1 = omega arith in
-    let rest = bad_before d (m + 1) (before + length line) (Some h.0) lines more k (omega (arith, length-append line (joined lines))) (omega arith) h.4 in
+    let rest = bad_before d (m + 1) (before + length line) (Some h.0) lines more k (omega (arith, length-append line (joined lines)))
+    (omega arith) h.4 in
     inr (inr (
       omega (arith, length-append line (joined lines)),
       h.0,
@@ -61,7 +62,8 @@ abbrev AreGood : Option Item → List (List ℕ) → Type 0
 AreGood last [] = Unit {0}
 AreGood last (line ∷ lines) = (i : Item) × FitsItem i × Follows last i × (line ≡ item_text i) × AreGood (Some i) lines
 
-good_of_bad : (m : ℕ) (last : Option Item) (lines : List (List ℕ)) (k : ℕ) → m + length lines ≤ k → IsFirstBad m last lines k → AreGood last lines
+good_of_bad : (m : ℕ) (last : Option Item) (lines : List (List ℕ)) (k : ℕ) → m + length lines ≤ k →
+    IsFirstBad m last lines k → AreGood last lines
 good_of_bad m last [] k most h = tt
 good_of_bad m last (line ∷ lines) k most (inl h) = absurd (omega (arith, h.0, most))
 good_of_bad m last (line ∷ lines) k most (inr h) = (h.0, h.1, h.2, h.3, good_of_bad (m + 1) (Some h.0) lines k (omega (arith, most)) h.4)
@@ -82,7 +84,8 @@ limit_behind : (n before : ℕ) (last : Option Item) (lines : List (List ℕ)) (
 limit_behind n before last [] line short past good = inl (omega (arith, past), ap (λ (x : ℕ). Limit x) (omega arith))
 limit_behind n before last (first ∷ lines) line short past good =
     let long = length-append first (joined lines) in
-    let rest = limit_behind (n + 1) (before + length first) (Some good.0) lines line (omega (arith, long)) (omega (arith, long, past)) good.4 in
+    let rest = limit_behind (n + 1) (before + length first) (Some good.0) lines line (omega (arith, long))
+    (omega (arith, long, past)) good.4 in
     let at : (n + 1) + length lines ≡ n + length (first ∷ lines) = omega arith in
     inr (inr (
       omega (arith, long),
@@ -113,7 +116,8 @@ past_bad lines before k count back whole last cut some past few h =
     let total = cut_length back whole last count cut in
     let c = cut.count in
     subst (λ (z : List (List ℕ)). IsFirstOfRun (lines + 1) before None z (BadLine (lines + k))) (sym cut.whole)
-    (bad_before lines 1 before None (lines_of whole) (last ∷ []) k (omega (arith, joined_of whole, total, past, some)) (omega (arith, c, few)) h)
+    (bad_before lines 1 before None (lines_of whole) (last ∷ []) k (omega (arith, joined_of whole, total, past, some))
+    (omega (arith, c, few)) h)
 
 past_limit : (lines before count : ℕ) (back whole last : List ℕ) → IsLastCut back whole last count → 0 < length last
     → before + length back ≡ most_audited + 1 → AreGood None (lines_of whole)
@@ -130,7 +134,8 @@ past_limit lines before count back whole last cut some past good =
 pub past_good : (lines before count : ℕ) (back whole last : List ℕ) (r : Run) → IsLastCut back whole last count → 0 < length last
     → before + length back ≡ most_audited + 1 → IsRunText r whole
     → IsFirstOfRun (lines + 1) before None (lines_of back) (Limit (lines + count + 1))
-past_good lines before count back whole last r cut some past h = past_limit lines before count back whole last cut some past (good_of_run r whole h)
+past_good lines before count back whole last r cut some past h =
+    past_limit lines before count back whole last cut some past (good_of_run r whole h)
 
 pub past_end : (lines before k count : ℕ) (back whole last : List ℕ) → IsLastCut back whole last count → 0 < length last
     → before + length back ≡ most_audited + 1 → count < k → IsFirstBad 1 None (lines_of whole) k

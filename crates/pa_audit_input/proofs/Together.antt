@@ -47,7 +47,8 @@ record StandsBefore (front back : List ℕ) : Type 0 where
   pub lines : lines_of (front ++ back) ≡ lines_of front ++ lines_of back
   pub others : AllByRecursion IsOther (lines_of front)
 
-line_before : (first rest back : List ℕ) → IsOneLine first → IsOther (first ++ 10 ∷ []) → StandsBefore rest back → StandsBefore (first ++ 10 ∷ rest) back
+line_before : (first rest back : List ℕ) → IsOneLine first → IsOther (first ++ 10 ∷ []) → StandsBefore rest back →
+    StandsBefore (first ++ 10 ∷ rest) back
 line_before first rest back one other h =
     let cut = cut_lines first rest one in
     record {

@@ -35,8 +35,8 @@ pub record IsParted (front back bytes : List ℕ) : Type 0 where
   pub before : AllByRecursion (λ line. line ≡ run_line → ⊥) (lines_of front)
   pub behind : BeginsRun (lines_of back)
 
--- the bytes, at most 134,217,728 of them, are the text of this trace, which is within its limits, and after it, after that many
--- lines, that of this run
+-- the bytes, at most 134,217,728 of them, are the text of this trace, which is within its limits, and after it,
+-- after that many lines, that of this run
 pub record IsAudited (t : Trace) (r : Run) (lines : ℕ) (bytes : List ℕ) : Type 0 where
   pub front : List ℕ
   pub back : List ℕ

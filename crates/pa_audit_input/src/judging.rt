@@ -33,8 +33,8 @@ pub fn judge(alloc: Global, bytes: &[u8]) -> Result<Verdict, TraceFault>
     }
 }
 
-/// The verdict on the bytes, as `judge` returns it, with the trace and the run if that is legal. A caller that goes on with them has read
-/// and audited them once.
+/// The verdict on the bytes, as `judge` returns it, with the trace and the run if that is legal.
+/// A caller that goes on with them has read and audited them once.
 pub fn judged(alloc: Global, bytes: &[u8]) -> Result<Judgement, TraceFault>
     requires { length bytes.now ≤ 134217729 }
     ensures judged { IfOk result (λ j. IsJudgementOn j bytes.now) }

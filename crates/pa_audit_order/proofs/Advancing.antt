@@ -29,7 +29,8 @@ adds_none ps phase old low within = record {
   few = refl;
 }
 
-pub adds_one : (ps : List Played) (phase : ℕ) (old : List ℕ) (low : ℕ) (now : List ℕ) (high : ℕ) (d : Played) → high < length ps → (get_or ps high d).phase < phase → Adds ps phase old low now high
+pub adds_one : (ps : List Played) (phase : ℕ) (old : List ℕ) (low : ℕ) (now : List ℕ) (high : ℕ) (d : Played) → high < length ps →
+    (get_or ps high d).phase < phase → Adds ps phase old low now high
     → Adds ps phase old low (now ++ high ∷ []) (high + 1)
 adds_one ps phase old low now high d below early h =
     let from = h.from in
@@ -48,7 +49,8 @@ adds_one ps phase old low now high d below early h =
       kept = λ j among. Contains-append_left now (high ∷ []) j (h.kept j among);
       here = λ j least less. elim (cases_lt j high) [
         | inl before ↦ Contains-append_left now (high ∷ []) j (h.here j least before)
-        | inr last ↦ let same : high ≡ j = omega (arith, less, last) in subst (λ z. Contains (now ++ high ∷ []) z) same (Contains-push now high)
+        | inr last ↦ let same : high ≡ j = omega (arith, less, last) in
+            subst (λ z. Contains (now ++ high ∷ []) z) same (Contains-push now high)
       ];
       only = λ j among. elim (Contains-push_cases now high j among) [
         | inl before ↦ elim (h.only j before) [
@@ -60,10 +62,13 @@ adds_one ps phase old low now high d below early h =
       few = omega (arith, few, push);
     }
 
-pub adds_past : (ps : List Played) (phase : ℕ) (old : List ℕ) (low : ℕ) (now : List ℕ) (high : ℕ) → length ps ≤ high → Adds ps phase old low now high → AddsAll ps phase old low now high
-adds_past ps phase old low now high end h = record { adds = h; stop = λ x at. absurd (let below = slice_get_within ps high x at in omega (arith, below, end)) }
+pub adds_past : (ps : List Played) (phase : ℕ) (old : List ℕ) (low : ℕ) (now : List ℕ) (high : ℕ) → length ps ≤ high →
+    Adds ps phase old low now high → AddsAll ps phase old low now high
+adds_past ps phase old low now high end h =
+    record { adds = h; stop = λ x at. absurd (let below = slice_get_within ps high x at in omega (arith, below, end)) }
 
-pub adds_stop : (ps : List Played) (phase : ℕ) (old : List ℕ) (low : ℕ) (now : List ℕ) (high : ℕ) (d : Played) → high < length ps → phase ≤ (get_or ps high d).phase → Adds ps phase old low now high
+pub adds_stop : (ps : List Played) (phase : ℕ) (old : List ℕ) (low : ℕ) (now : List ℕ) (high : ℕ) (d : Played) → high < length ps →
+    phase ≤ (get_or ps high d).phase → Adds ps phase old low now high
     → AddsAll ps phase old low now high
 adds_stop ps phase old low now high d below late h = record {
   adds = h;
@@ -107,20 +112,25 @@ phases_rise ps i j x y never at at' less =
     let two = ap (λ (z : Played). z.phase) (of_some (get_or ps j x) y (sym (here_is ps j x below') ∙ at')) in
     omega (arith, both, one, two)
 
-pub steps_added : (cells : ℕ → List CellEntry) (ps : List Played) (table : List (Option ℕ)) (i : ℕ) (d : Played) (prev giver : Option ℕ) (old s1 s2 new : List ℕ) (low high : ℕ)
+pub steps_added : (cells : ℕ → List CellEntry) (ps : List Played) (table : List (Option ℕ)) (i : ℕ) (d : Played) (prev giver : Option ℕ)
+    (old s1 s2 new : List ℕ) (low high : ℕ)
     → RiseByLine ps → RiseByPhase ps
-    → ArePrevious ps table (length ps) → i < length ps → slice_get table i ≡ Some prev → IfSome giver (λ j. (x : Played) × IsRecord ps j x × HandsTo cells x (get_or ps i d))
-    → ((j : ℕ) (x : Played) → IsRecord ps j x → HandsTo cells x (get_or ps i d) → giver ≡ Some j) → s1 ≡ old ++ as_list prev → s2 ≡ s1 ++ as_list giver
+    → ArePrevious ps table (length ps) → i < length ps → slice_get table i ≡ Some prev →
+    IfSome giver (λ j. (x : Played) × IsRecord ps j x × HandsTo cells x (get_or ps i d))
+    → ((j : ℕ) (x : Played) → IsRecord ps j x → HandsTo cells x (get_or ps i d) → giver ≡ Some j) →
+    s1 ≡ old ++ as_list prev → s2 ≡ s1 ++ as_list giver
     → AddsAll ps (get_or ps i d).phase s2 low new high → AddsSteps cells ps i old low new high
 steps_added cells ps table i d prev giver old s1 s2 new low high rising never tables below is some all first second h =
     let told = get_or ps i d in
     let here = here_is ps i d below in
     let last = tables.last i told prev is here in
-    let in1 : (j : ℕ) → Contains s1 j → Contains new j = λ j among. h.adds.kept j (subst (λ zs. Contains zs j) (sym second) (Contains-append_left s1 (as_list giver) j among)) in
+    let in1 : (j : ℕ) → Contains s1 j → Contains new j =
+    λ j among. h.adds.kept j (subst (λ zs. Contains zs j) (sym second) (Contains-append_left s1 (as_list giver) j among)) in
     record {
       previous = λ j y at is_last.
           let same : told ≡ y = one_at ps i told y here at in
-          let mine : prev ≡ Some j = last_one ps told.thread i j prev last (subst (λ (z : Played). IsLastOf ps z.thread i (Some j)) (sym same) is_last) in
+          let mine : prev ≡ Some j =
+          last_one ps told.thread i j prev last (subst (λ (z : Played). IsLastOf ps z.thread i (Some j)) (sym same) is_last) in
           in1 j (subst (λ zs. Contains zs j) (sym first) (listed_in old prev j mine));
       giver = λ j x y at at' hands.
           let same : y ≡ told = one_at ps i y told at' here in
@@ -156,13 +166,20 @@ steps_added cells ps table i d prev giver old s1 s2 new low high rising never ta
                 inr (x, told, at, here, inl (inl (of, rises ps j i x told rising at here less)))
           ]
           | inr mine ↦
-              let (x, at, hands) = subst (λ o. IfSome o (λ k. (x : Played) × IsRecord ps k x × HandsTo cells x told)) (listed_is giver j mine) some in
+              let (x, at, hands) =
+              subst (λ o. IfSome o (λ k. (x : Played) × IsRecord ps k x × HandsTo cells x told)) (listed_is giver j mine) some in
               inr (x, told, at, here, inr hands)
         ]
         | inr (least, less) ↦
             let within = h.adds.within in
             let there : j < length ps = omega (arith, less, within) in
-            inr (get_or ps j d, told, here_is ps j d there, here, inl (inr (h.adds.passed j (get_or ps j d) least less (here_is ps j d there))))
+            inr (
+              get_or ps j d,
+              told,
+              here_is ps j d there,
+              here,
+              inl (inr (h.adds.passed j (get_or ps j d) least less (here_is ps j d there))),
+            )
       ];
       kept = λ j among. in1 j (subst (λ zs. Contains zs j) (sym first) (Contains-append_left old (as_list prev) j among));
       few =

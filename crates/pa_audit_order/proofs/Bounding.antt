@@ -14,6 +14,7 @@ less_is : (k q : ℕ) → k < q → nat_cmp k q ≡ Less
 less_is k q less = sym (nat_cmp_is k q Less less)
 
 -- what is greater than every key that is there isn't there
-pub none_from : (at : ℕ → Option ℕ) (low high k : ℕ) → k < low → ((q : ℕ) → nat_cmp q high ≡ Less → IsSome (at q) → is_lt (nat_cmp k q) ≡ false) → HasNoKey at low high
+pub none_from : (at : ℕ → Option ℕ) (low high k : ℕ) → k < low →
+    ((q : ℕ) → nat_cmp q high ≡ Less → IsSome (at q) → is_lt (nat_cmp k q) ≡ false) → HasNoKey at low high
 none_from at low high k less most q from below =
     none_of (at q) (λ some. true≢false (sym (ap is_lt (less_is k q (omega (arith, less, from)))) ∙ most q (less_is q high below) some))

@@ -43,7 +43,8 @@ none_exchanged cells none k i e at = elim (cases_lt k (length cells)) [
 phase_order : (ps : List Played) (i j : ℕ) (x y : Played) → RiseByPhase ps → IsRecord ps i x → IsRecord ps j y → i < j → x.phase ≤ y.phase
 phase_order ps i j x y phases at at' less =
     subst (λ (z : Played). z.phase ≤ y.phase) (get_or_from_slice_get ps i x x at)
-    (subst (λ (z : Played). (get_or ps i x).phase ≤ z.phase) (get_or_from_slice_get ps j y x at') (phases i j x less (slice_get_within ps j y at')))
+    (subst (λ (z : Played). (get_or ps i x).phase ≤ z.phase) (get_or_from_slice_get ps j y x at')
+    (phases i j x less (slice_get_within ps j y at')))
 
 one_of : (ps : List Played) (i j : ℕ) (x y : Played) → IsRecord ps i x → IsRecord ps j y → i ≡ j → x ≡ y
 one_of ps i j x y at at' same = one_at ps j x y (ap (slice_get ps) (sym same) ∙ at) at'
@@ -78,7 +79,8 @@ stands_above cells ps i j x y rising phases none at at' (Between z among first s
     omega (arith, low, high)
 
 -- records are seen in order if their numbers rise and no cell has an exchange
-pub seen_met : (cells : ℕ → List CellEntry) (ps : List Played) → RiseByLine ps → RiseByPhase ps → HasNoExchange cells → NumbersRise ps → (i : ℕ) → SeenDemand cells ps (places.Record i)
+pub seen_met : (cells : ℕ → List CellEntry) (ps : List Played) → RiseByLine ps → RiseByPhase ps → HasNoExchange cells → NumbersRise ps →
+    (i : ℕ) → SeenDemand cells ps (places.Record i)
 seen_met cells ps rising phases none rise i y at = (
   λ before. let less : i < i = stands_above cells ps i i y y rising phases none at at before in omega (arith, less),
   λ x m n among before tells tells' slot.
@@ -90,14 +92,18 @@ seen_met cells ps rising phases none rise i y at = (
 
 -- the numbers of the records so far rise, and the table has for each slot a number that none of them left a greater one than
 pub record RisesSoFar (ps : List Played) (at : ℕ → Option ℕ) (k : ℕ) : Type 0 where
-  pub rise : (i j : ℕ) (x y : Played) (m n : Mark) → i < j → j < k → IsRecord ps i x → IsRecord ps j y → mark_of x ≡ Some m → mark_of y ≡ Some n → m.slot ≡ n.slot → left_number m ≤ number_of n.found
-  pub left : (i : ℕ) (x : Played) (m : Mark) → i < k → IsRecord ps i x → mark_of x ≡ Some m → (v : ℕ) × (at (word_key m.slot 0) ≡ Some v) × (left_number m ≤ v)
+  pub rise : (i j : ℕ) (x y : Played) (m n : Mark) → i < j → j < k → IsRecord ps i x → IsRecord ps j y → mark_of x ≡ Some m →
+      mark_of y ≡ Some n → m.slot ≡ n.slot → left_number m ≤ number_of n.found
+  pub left : (i : ℕ) (x : Played) (m : Mark) → i < k → IsRecord ps i x → mark_of x ≡ Some m →
+      (v : ℕ) × (at (word_key m.slot 0) ≡ Some v) × (left_number m ≤ v)
 
 -- the record at place k
 here_k : (ps : List Played) (k j : ℕ) (d y : Played) → k < length ps → j < k + 1 → k ≤ j → IsRecord ps j y → get_or ps k d ≡ y
-here_k ps k j d y below less from at = let same : j ≡ k = omega (arith, less, from) in sym (one_of ps j k y (get_or ps k d) at (here_is ps k d below) same)
+here_k ps k j d y below less from at = let same : j ≡ k = omega (arith, less, from) in
+    sym (one_of ps j k y (get_or ps k d) at (here_is ps k d below) same)
 
-pub rises_quiet : (ps : List Played) (at : ℕ → Option ℕ) (k : ℕ) (d : Played) → k < length ps → None ≡ option_map look_by (mark_of (get_or ps k d)) → RisesSoFar ps at k → RisesSoFar ps at (k + 1)
+pub rises_quiet : (ps : List Played) (at : ℕ → Option ℕ) (k : ℕ) (d : Played) → k < length ps →
+    None ≡ option_map look_by (mark_of (get_or ps k d)) → RisesSoFar ps at k → RisesSoFar ps at (k + 1)
 rises_quiet ps at k d below tells h =
     let none = look_none (mark_of (get_or ps k d)) tells in
     record {
@@ -150,7 +156,8 @@ rises_told ps f g k q d l old below tells key was puts enough h =
     let at : q ≡ word_key m.slot 0 = key ∙ ap (λ (z : Look). word_key z.slot 0) same in
     let left = ap (λ (z : Look). z.left) same in
     let put = subst (λ z. Puts f g z (left_number m)) at (subst (λ z. Puts f g q z) left puts) in
-    let found : unwrap_or (f q) 0 ≤ number_of m.found = subst (λ (z : Look). unwrap_or (f q) 0 ≤ z.found) same (subst (λ o. unwrap_or o 0 ≤ l.found) was enough) in
+    let found : unwrap_or (f q) 0 ≤ number_of m.found =
+    subst (λ (z : Look). unwrap_or (f q) 0 ≤ z.found) same (subst (λ o. unwrap_or o 0 ≤ l.found) was enough) in
     rises_more ps f g k d m below is put (subst (λ z. unwrap_or (f z) 0 ≤ number_of m.found) at found) h
 
 pub rises_end : (ps : List Played) (at : ℕ → Option ℕ) (k : ℕ) → length ps ≤ k → RisesSoFar ps at k → NumbersRise ps

@@ -35,14 +35,16 @@ set_other (x ∷ xs) (suc i) (suc j) v other = set_other xs i j v (λ e. other (
 -- what is marked stays so, and nothing else comes but the place
 pub still_marked : (marked : List Bool) (i j : ℕ) → IsMarked marked j → IsMarked (set marked i true) j
 still_marked marked i j is = elim (cases_eq j i) [
-  | inl same ↦ subst (λ z. IsMarked (set marked i true) z) (sym same) (set_here marked i true (slice_get_within marked i true (subst (IsMarked marked) same is)))
+  | inl same ↦ subst (λ z. IsMarked (set marked i true) z) (sym same)
+      (set_here marked i true (slice_get_within marked i true (subst (IsMarked marked) same is)))
   | inr other ↦ set_other marked i j true other ∙ is
 ]
 
 pub was_marked : (marked : List Bool) (i j : ℕ) → (j ≡ i → ⊥) → IsMarked (set marked i true) j → IsMarked marked j
 was_marked marked i j other is = sym (set_other marked i j true other) ∙ is
 
-pub fewer_unmarked : (marked : List Bool) (i : ℕ) (d : Bool) → i < length marked → get_or marked i d ≡ false → unmarked (set marked i true) + 1 ≡ unmarked marked
+pub fewer_unmarked : (marked : List Bool) (i : ℕ) (d : Bool) → i < length marked → get_or marked i d ≡ false →
+    unmarked (set marked i true) + 1 ≡ unmarked marked
 fewer_unmarked marked i d below miss =
     let f : Bool → ℕ = λ b. if b then 0 else 1 in
     let sums = sum_by-set f marked i true d below in
@@ -56,12 +58,14 @@ none_marked (suc n) (suc i) is = none_marked n i is
 
 -- ---- what is in
 
-pub in_more : (marked : List Bool) (old new : List ℕ) (j : ℕ) → ((k : ℕ) → Contains old k → Contains new k) → IsTakenUp marked old j → IsTakenUp marked new j
+pub in_more : (marked : List Bool) (old new : List ℕ) (j : ℕ) → ((k : ℕ) → Contains old k → Contains new k) →
+    IsTakenUp marked old j → IsTakenUp marked new j
 in_more marked old new j kept (inl is) = inl is
 in_more marked old new j kept (inr among) = inr (kept j among)
 
 -- a cut says as much of what is ahead of less
-pub cut_weaker : (cells : ℕ → List CellEntry) (ps : List Played) (A B : Played → Type 0) (but : ℕ) (marked : List Bool) (stack : List ℕ) (floor : ℕ) (left : ℕ → Option ℕ) → ((x : Played) → A x → B x)
+pub cut_weaker : (cells : ℕ → List CellEntry) (ps : List Played) (A B : Played → Type 0) (but : ℕ) (marked : List Bool) (stack : List ℕ)
+    (floor : ℕ) (left : ℕ → Option ℕ) → ((x : Played) → A x → B x)
     → IsGrown cells ps A but marked stack floor left → IsGrown cells ps B but marked stack floor left
 cut_weaker cells ps A B but marked stack floor left weaker h = record {
   long = h.long;
@@ -97,7 +101,8 @@ cut_start cells ps A left none = record {
     nothing i (inr among) = not_in_none i among
 
 -- the cut of which nothing is left out says as much but for one record
-pub cut_but : (cells : ℕ → List CellEntry) (ps : List Played) (A : Played → Type 0) (k : ℕ) (marked : List Bool) (stack : List ℕ) (floor : ℕ) (left : ℕ → Option ℕ)
+pub cut_but : (cells : ℕ → List CellEntry) (ps : List Played) (A : Played → Type 0) (k : ℕ) (marked : List Bool) (stack : List ℕ)
+    (floor : ℕ) (left : ℕ → Option ℕ)
     → IsGrown cells ps A (length ps) marked stack floor left
     → IsGrown cells ps A k marked stack floor left
 cut_but cells ps A k marked stack floor left h = record {
@@ -106,12 +111,14 @@ cut_but cells ps A k marked stack floor left h = record {
   within = h.within;
   ahead = h.ahead;
   below = h.below;
-  near = λ i j other is near. h.near i j (λ e. let low = slice_get_within marked i true is in let long = h.long in omega (arith, low, long, e)) is near;
+  near = λ i j other is near. h.near i j (λ e. let low = slice_get_within marked i true is in let long = h.long in
+      omega (arith, low, long, e)) is near;
   numbers = h.numbers;
 }
 
 -- if the nearest steps to the record that was left out come from records that are taken up, no record is left out any more
-pub cut_all : (cells : ℕ → List CellEntry) (ps : List Played) (A : Played → Type 0) (k : ℕ) (marked : List Bool) (stack : List ℕ) (floor : ℕ) (left : ℕ → Option ℕ)
+pub cut_all : (cells : ℕ → List CellEntry) (ps : List Played) (A : Played → Type 0) (k : ℕ) (marked : List Bool) (stack : List ℕ)
+    (floor : ℕ) (left : ℕ → Option ℕ)
     → ((j : ℕ) → IsNear cells ps j k → IsTakenUp marked stack j)
     → IsGrown cells ps A k marked stack floor left → IsGrown cells ps A (length ps) marked stack floor left
 cut_all cells ps A k marked stack floor left steps h = record {
@@ -129,8 +136,10 @@ cut_all cells ps A k marked stack floor left steps h = record {
 
 -- ---- the steps to a record come in
 
-pub cut_steps : (cells : ℕ → List CellEntry) (ps : List Played) (A : Played → Type 0) (k : ℕ) (marked : List Bool) (old new : List ℕ) (low high : ℕ) (left : ℕ → Option ℕ)
-    → ((x y : Played) → IsRecord ps k y → IsStepTo cells x y → A x) → AddsSteps cells ps k old low new high → IsGrown cells ps A k marked old low left → IsGrown cells ps A k marked new high left
+pub cut_steps : (cells : ℕ → List CellEntry) (ps : List Played) (A : Played → Type 0) (k : ℕ) (marked : List Bool) (old new : List ℕ)
+    (low high : ℕ) (left : ℕ → Option ℕ)
+    → ((x y : Played) → IsRecord ps k y → IsStepTo cells x y → A x) → AddsSteps cells ps k old low new high →
+    IsGrown cells ps A k marked old low left → IsGrown cells ps A k marked new high left
 cut_steps cells ps A k marked old new low high left steps adds h = record {
   long = h.long;
   ground = adds.within;
@@ -154,15 +163,17 @@ cut_steps cells ps A k marked old new low high left steps adds h = record {
       | inr (z, y, at', here, step) ↦ subst A (one_at ps i z x at' at) (steps z y here step)
     ]
 
-pub steps_in : (cells : ℕ → List CellEntry) (ps : List Played) (A : Played → Type 0) (k : ℕ) (marked : List Bool) (old new : List ℕ) (low high : ℕ) (left : ℕ → Option ℕ)
+pub steps_in : (cells : ℕ → List CellEntry) (ps : List Played) (A : Played → Type 0) (k : ℕ) (marked : List Bool) (old new : List ℕ)
+    (low high : ℕ) (left : ℕ → Option ℕ)
     → AddsSteps cells ps k old low new high
     → IsGrown cells ps A k marked old low left → (j : ℕ) → IsNear cells ps j k → IsTakenUp marked new j
 steps_in cells ps A k marked old new low high left adds h j (x, y, at, here, inl last) = inr (adds.previous j y here last)
 steps_in cells ps A k marked old new low high left adds h j (x, y, at, here, inr (inl hands)) = inr (adds.giver j x y at here hands)
-steps_in cells ps A k marked old new low high left adds h j (x, y, at, here, inr (inr phase)) = elim (adds.floor j (adds.phases j x y at here phase)) [
-  | inl before ↦ in_more marked old new j adds.kept (h.below j before)
-  | inr there ↦ inr there
-]
+steps_in cells ps A k marked old new low high left adds h j (x, y, at, here, inr (inr phase)) =
+    elim (adds.floor j (adds.phases j x y at here phase)) [
+      | inl before ↦ in_more marked old new j adds.kept (h.below j before)
+      | inr there ↦ inr there
+    ]
 
 -- ---- a record leaves the stack
 
@@ -171,7 +182,8 @@ pub marked_at : (marked : List Bool) (i : ℕ) (d : Bool) → i < length marked 
 marked_at marked i d below is = here_is marked i d below ∙ ap Some is
 
 -- what was in stays in if the record is marked
-pub in_skip : (marked : List Bool) (rest : List ℕ) (k j : ℕ) → IsMarked marked k → IsTakenUp marked (rest ++ k ∷ []) j → IsTakenUp marked rest j
+pub in_skip : (marked : List Bool) (rest : List ℕ) (k j : ℕ) → IsMarked marked k →
+    IsTakenUp marked (rest ++ k ∷ []) j → IsTakenUp marked rest j
 in_skip marked rest k j is (inl there) = inl there
 in_skip marked rest k j is (inr among) = elim (Contains-push_cases rest k j among) [
   | inl early ↦ inr early
@@ -179,10 +191,12 @@ in_skip marked rest k j is (inr among) = elim (Contains-push_cases rest k j amon
 ]
 
 -- a record that was marked before only leaves the stack
-pub cut_skip : (cells : ℕ → List CellEntry) (ps : List Played) (A : Played → Type 0) (but k : ℕ) (marked : List Bool) (rest : List ℕ) (floor : ℕ) (left : ℕ → Option ℕ) → IsMarked marked k
+pub cut_skip : (cells : ℕ → List CellEntry) (ps : List Played) (A : Played → Type 0) (but k : ℕ) (marked : List Bool) (rest : List ℕ)
+    (floor : ℕ) (left : ℕ → Option ℕ) → IsMarked marked k
     → IsGrown cells ps A but marked (rest ++ k ∷ []) floor left → IsGrown cells ps A but marked rest floor left
 cut_skip cells ps A but k marked rest floor left is h =
-    let out : (j : ℕ) → IsTakenUp marked rest j → IsTakenUp marked (rest ++ k ∷ []) j = λ j. in_more marked rest (rest ++ k ∷ []) j (λ i. Contains-append_left rest (k ∷ []) i) in
+    let out : (j : ℕ) → IsTakenUp marked rest j →
+    IsTakenUp marked (rest ++ k ∷ []) j = λ j. in_more marked rest (rest ++ k ∷ []) j (λ i. Contains-append_left rest (k ∷ []) i) in
     record {
       long = h.long;
       ground = h.ground;
@@ -193,7 +207,8 @@ cut_skip cells ps A but k marked rest floor left is h =
       numbers = h.numbers;
     }
 
-pub in_mark : (marked : List Bool) (rest : List ℕ) (k j : ℕ) → k < length marked → IsTakenUp marked (rest ++ k ∷ []) j → IsTakenUp (set marked k true) rest j
+pub in_mark : (marked : List Bool) (rest : List ℕ) (k j : ℕ) → k < length marked → IsTakenUp marked (rest ++ k ∷ []) j →
+    IsTakenUp (set marked k true) rest j
 in_mark marked rest k j below (inl is) = inl (still_marked marked k j is)
 in_mark marked rest k j below (inr among) = elim (Contains-push_cases rest k j among) [
   | inl early ↦ inr early
@@ -201,7 +216,8 @@ in_mark marked rest k j below (inr among) = elim (Contains-push_cases rest k j a
 ]
 
 -- a record leaves the stack and is marked, and the steps to it are still to come
-pub cut_mark : (cells : ℕ → List CellEntry) (ps : List Played) (A : Played → Type 0) (k : ℕ) (marked : List Bool) (rest : List ℕ) (floor : ℕ) (left next : ℕ → Option ℕ)
+pub cut_mark : (cells : ℕ → List CellEntry) (ps : List Played) (A : Played → Type 0) (k : ℕ) (marked : List Bool) (rest : List ℕ)
+    (floor : ℕ) (left next : ℕ → Option ℕ)
     → AreLeft ps (set marked k true) next
     → IsGrown cells ps A (length ps) marked (rest ++ k ∷ []) floor left → IsGrown cells ps A k (set marked k true) rest floor next
 cut_mark cells ps A k marked rest floor left next has h =
@@ -235,7 +251,8 @@ IsClosedAt cells ps marked i = (j : ℕ) → IsNear cells ps j i → IsMarked ma
 -- the earlier records of a marked record's thread are marked, if the nearest steps to it come from marked ones
 thread_look : (n : ℕ) (cells : ℕ → List CellEntry) (ps : List Played) (marked : List Bool) (i j : ℕ) (x y : Played) (o : Option ℕ)
     → i < suc n → ((p : ℕ) (z : Played) → p < n → IsRecord ps p z → IsMarked marked p → x.thread ≡ z.thread → j < p → IsMarked marked j)
-    → IsLastOf ps y.thread i o → IsClosedAt cells ps marked i → IsRecord ps j x → IsRecord ps i y → x.thread ≡ y.thread → j < i → IsMarked marked j
+    → IsLastOf ps y.thread i o → IsClosedAt cells ps marked i → IsRecord ps j x → IsRecord ps i y →
+    x.thread ≡ y.thread → j < i → IsMarked marked j
 thread_look n cells ps marked i j x y None below again none closed at here same less = absurd (none j x less at same)
 thread_look n cells ps marked i j x y (Some p) below again last closed at here same less =
     let (z, there, before, of, none) = last in
@@ -248,18 +265,23 @@ thread_look n cells ps marked i j x y (Some p) below again last closed at here s
       ]
     ]
 
-thread_marked : (n : ℕ) (cells : ℕ → List CellEntry) (ps : List Played) (table : List (Option ℕ)) (marked : List Bool) (i j : ℕ) (x y : Played) → i < n → ArePrevious ps table (length ps)
-    → ((k : ℕ) → IsMarked marked k → IsClosedAt cells ps marked k) → IsClosedAt cells ps marked i → IsRecord ps j x → IsRecord ps i y → x.thread ≡ y.thread → j < i → IsMarked marked j
+thread_marked : (n : ℕ) (cells : ℕ → List CellEntry) (ps : List Played) (table : List (Option ℕ)) (marked : List Bool) (i j : ℕ)
+    (x y : Played) → i < n → ArePrevious ps table (length ps)
+    → ((k : ℕ) → IsMarked marked k → IsClosedAt cells ps marked k) → IsClosedAt cells ps marked i → IsRecord ps j x → IsRecord ps i y →
+    x.thread ≡ y.thread → j < i → IsMarked marked j
 thread_marked zero cells ps table marked i j x y below tables all closed at here same less = absurd (omega (arith, below))
 thread_marked (suc n) cells ps table marked i j x y below tables all closed at here same less =
     let long = tables.long in
     let within : i < length table = let low = slice_get_within ps i y here in omega (arith, low, long) in
     let last = tables.last i y (get_or table i None) (here_is table i None within) here in
     thread_look n cells ps marked i j x y (get_or table i None) below
-    (λ p z low there mine of early. thread_marked n cells ps table marked p j x z low tables all (all p mine) at there of early) last closed at here same less
+    (λ p z low there mine of early. thread_marked n cells ps table marked p j x z low tables all (all p mine) at there of early) last closed
+    at here same less
 
-step_marked : (cells : ℕ → List CellEntry) (ps : List Played) (table : List (Option ℕ)) (marked : List Bool) (i j : ℕ) (x y : Played) → RiseByLine ps → ArePrevious ps table (length ps)
-    → ((k : ℕ) → IsMarked marked k → IsClosedAt cells ps marked k) → IsClosedAt cells ps marked i → IsRecord ps j x → IsRecord ps i y → IsStepTo cells x y → IsMarked marked j
+step_marked : (cells : ℕ → List CellEntry) (ps : List Played) (table : List (Option ℕ)) (marked : List Bool) (i j : ℕ) (x y : Played) →
+    RiseByLine ps → ArePrevious ps table (length ps)
+    → ((k : ℕ) → IsMarked marked k → IsClosedAt cells ps marked k) → IsClosedAt cells ps marked i → IsRecord ps j x → IsRecord ps i y →
+    IsStepTo cells x y → IsMarked marked j
 step_marked cells ps table marked i j x y rising tables all closed at here (inr hands) = closed j (x, y, at, here, inr (inl hands))
 step_marked cells ps table marked i j x y rising tables all closed at here (inl (inr phase)) = closed j (x, y, at, here, inr (inr phase))
 step_marked cells ps table marked i j x y rising tables all closed at here (inl (inl (same, line))) = elim (cases_lt j i) [
@@ -274,10 +296,14 @@ step_marked cells ps table marked i j x y rising tables all closed at here (inl 
   ]
 ]
 
-pub before_marked : (cells : ℕ → List CellEntry) (ps : List Played) (table : List (Option ℕ)) (marked : List Bool) (i j : ℕ) (x y : Played) → RiseByLine ps → ArePrevious ps table (length ps)
-    → ((k : ℕ) → IsMarked marked k → IsClosedAt cells ps marked k) → IsClosedAt cells ps marked i → IsRecord ps j x → IsRecord ps i y → IsBefore cells ps x y → IsMarked marked j
-before_marked cells ps table marked i j x y rising tables all closed at here (Standing stands) = step_marked cells ps table marked i j x y rising tables all closed at here (inl stands)
-before_marked cells ps table marked i j x y rising tables all closed at here (Handing hands) = step_marked cells ps table marked i j x y rising tables all closed at here (inr hands)
+pub before_marked : (cells : ℕ → List CellEntry) (ps : List Played) (table : List (Option ℕ)) (marked : List Bool) (i j : ℕ)
+    (x y : Played) → RiseByLine ps → ArePrevious ps table (length ps)
+    → ((k : ℕ) → IsMarked marked k → IsClosedAt cells ps marked k) → IsClosedAt cells ps marked i → IsRecord ps j x → IsRecord ps i y →
+    IsBefore cells ps x y → IsMarked marked j
+before_marked cells ps table marked i j x y rising tables all closed at here (Standing stands) =
+    step_marked cells ps table marked i j x y rising tables all closed at here (inl stands)
+before_marked cells ps table marked i j x y rising tables all closed at here (Handing hands) =
+    step_marked cells ps table marked i j x y rising tables all closed at here (inr hands)
 before_marked cells ps table marked i j x y rising tables all closed at here (Between z among first second) =
     let (k, there) = in_at ps z among in
     let mine = before_marked cells ps table marked i k z y rising tables all closed there here second in

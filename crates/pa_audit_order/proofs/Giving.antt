@@ -53,9 +53,11 @@ walk_only : (version : ℕ) (cells : ℕ → List CellEntry) (ps : List Played) 
 walk_only version cells ps list i x regs rising at h (before, after, all, parts, rows, is) =
     let there : slice_get ps (length before) ≡ Some x = ap (λ zs. slice_get zs (length before)) parts ∙ slice_get_at before after x in
     let place : length before ≡ i = one_place ps (length before) i x x rising there at refl in
-    let front : before ≡ take i ps = sym (front_of before (x ∷ after)) ∙ ap (take (length before)) (sym parts) ∙ ap (λ n. take n ps) place in
+    let front : before ≡ take i ps =
+    sym (front_of before (x ∷ after)) ∙ ap (take (length before)) (sym parts) ∙ ap (λ n. take n ps) place in
     let facts = facts_by version cells ps in
-    let same : all ≡ regs_in list = rows_one facts no_regs all (regs_in list) (take i ps) (subst (λ zs. RowsTo facts no_regs zs all) front rows) h.rows in
+    let same : all ≡ regs_in list =
+    rows_one facts no_regs all (regs_in list) (take i ps) (subst (λ zs. RowsTo facts no_regs zs all) front rows) h.rows in
     is ∙ ap (λ (z : AllRegs). z x.thread) same
 
 -- ---- a record's read
@@ -73,18 +75,22 @@ may_of : (version : ℕ) (cells : ℕ → List CellEntry) (ps : List Played) (li
     → RiseByLine ps → IsRecord ps i x → RegsSoFar version cells ps list i → IsReadAllowed (usable_of version) cells ps x a
     → MayGive ps (regs_in list x.thread) x a
 may_of version cells ps list i x (answers.Value seen value) rising at h (inl content) = inl content
-may_of version cells ps list i x (answers.Value seen value) rising at h (inr (is, ((reg, place, regs, op, has, holds), y, next, other, phase))) =
+may_of version cells ps list i x (answers.Value seen value) rising at h
+    (inr (is, ((reg, place, regs, op, has, holds), y, next, other, phase))) =
     let same = walk_only version cells ps list i x regs rising at h has in
     inr (is, (reg, place, op, sym (ap (λ (z : Regs). z reg) same) ∙ holds), (y, next, (other, phase)))
 may_of version cells ps list i x (answers.Dangling seen value) rising at h allowed = allowed
 may_of version cells ps list i x a rising at h allowed = tt
 
-pub content_met : (version : ℕ) (cells : ℕ → List CellEntry) (ps : List Played) (list : List Reg) (i : ℕ) (d : Played) → i < length ps → RegsSoFar version cells ps list i
-    → MayGive ps (regs_in list (get_or ps i d).thread) (get_or ps i d) (get_or ps i d).answer → ContentsDemand (usable_of version) cells ps (places.Record i)
+pub content_met : (version : ℕ) (cells : ℕ → List CellEntry) (ps : List Played) (list : List Reg) (i : ℕ) (d : Played) → i < length ps →
+    RegsSoFar version cells ps list i
+    → MayGive ps (regs_in list (get_or ps i d).thread) (get_or ps i d) (get_or ps i d).answer →
+    ContentsDemand (usable_of version) cells ps (places.Record i)
 content_met version cells ps list i d below h may x at =
     let here = here_is ps i d below in
     let same : get_or ps i d ≡ x = of_some (get_or ps i d) x (sym here ∙ at) in
-    subst (λ (z : Played). IsReadAllowed (usable_of version) cells ps z z.answer) same (allowed_of version cells ps list i (get_or ps i d) (get_or ps i d).answer here h may)
+    subst (λ (z : Played). IsReadAllowed (usable_of version) cells ps z z.answer) same
+    (allowed_of version cells ps list i (get_or ps i d) (get_or ps i d).answer here h may)
 
 pub content_may : (version : ℕ) (cells : ℕ → List CellEntry) (ps : List Played) (list : List Reg) (i : ℕ) (d : Played) → RiseByLine ps
     → i < length ps → RegsSoFar version cells ps list i → ContentsDemand (usable_of version) cells ps (places.Record i)
@@ -97,7 +103,8 @@ content_may version cells ps list i d rising below h demand =
 abbrev MayGiveAt : List Played → Regs → Played → SlotName → ℕ → ℕ → Type 0
 MayGiveAt ps regs x s k value = IsContent ps s k value ⊎ MayFindPoison ps regs x s k value
 
-pub value_may : (ps : List Played) (regs : Regs) (x : Played) (a : Answer) (seen : Seen) (value k : ℕ) → a ≡ answers.Value seen value → k ≡ number_of seen.found.0
+pub value_may : (ps : List Played) (regs : Regs) (x : Played) (a : Answer) (seen : Seen) (value k : ℕ) →
+    a ≡ answers.Value seen value → k ≡ number_of seen.found.0
     → (MayGiveAt ps regs x seen.slot k value → MayGive ps regs x a) × (MayGive ps regs x a → MayGiveAt ps regs x seen.slot k value)
 value_may ps regs x a seen value k is at = (
   λ may. subst (MayGive ps regs x) (sym is) (subst (λ z. MayGiveAt ps regs x seen.slot z value) at may),

@@ -25,7 +25,8 @@ use Rattle.pa_audit_order.proofs.Stamping.{one_place}
 abbrev pub AreLast : List Played → (ℕ → Option ℕ) → ℕ → Type 0
 AreLast ps at k = (t : ℕ) → IsLastOf ps t k (at t)
 
-last_kept : (ps : List Played) (t k : ℕ) (d : Played) (o : Option ℕ) → k < length ps → ((get_or ps k d).thread ≡ t → ⊥) → IsLastOf ps t k o → IsLastOf ps t (k + 1) o
+last_kept : (ps : List Played) (t k : ℕ) (d : Played) (o : Option ℕ) → k < length ps → ((get_or ps k d).thread ≡ t → ⊥) →
+    IsLastOf ps t k o → IsLastOf ps t (k + 1) o
 last_kept ps t k d None below other none = λ j x less at of. elim (cases_lt j k) [
   | inl early ↦ none j x early at of
   | inr late ↦
@@ -47,11 +48,18 @@ last_kept ps t k d (Some i) below other (x, at, before, of, none) = (
   ],
 )
 
-pub last_more : (ps : List Played) (f g : ℕ → Option ℕ) (k v : ℕ) (d : Played) → k < length ps → v ≡ k → Puts f g (get_or ps k d).thread v → AreLast ps f k → AreLast ps g (k + 1)
+pub last_more : (ps : List Played) (f g : ℕ → Option ℕ) (k v : ℕ) (d : Played) → k < length ps → v ≡ k → Puts f g (get_or ps k d).thread v →
+    AreLast ps f k → AreLast ps g (k + 1)
 last_more ps f g k v d below same puts h t = elim (cases_eq t (get_or ps k d).thread) [
   | inl mine ↦
       let is : g t ≡ Some k = ap g mine ∙ puts.here ∙ ap Some same in
-      subst (IsLastOf ps t (k + 1)) (sym is) (get_or ps k d, here_is ps k d below, omega arith, sym mine, λ j y after less at of. omega (arith, after, less))
+      subst (IsLastOf ps t (k + 1)) (sym is) (
+        get_or ps k d,
+        here_is ps k d below,
+        omega arith,
+        sym mine,
+        λ j y after less at of. omega (arith, after, less),
+      )
   | inr other ↦ subst (IsLastOf ps t (k + 1)) (sym (puts.other t other)) (last_kept ps t k d (f t) below (λ e. other (sym e)) (h t))
 ]
 
@@ -66,7 +74,8 @@ previous_more ps table f k d o below is last h = record {
         let long = h.long in
         let index : k ≡ i = omega (arith, end, long) in
         let one : get_or ps k d ≡ y = of_some (get_or ps k d) y (sym (here_is ps k d below) ∙ ap (slice_get ps) index ∙ here) in
-        let there : IsLastOf ps (get_or ps k d).thread k w = subst (IsLastOf ps (get_or ps k d).thread k) (sym is ∙ same) (last (get_or ps k d).thread) in
+        let there : IsLastOf ps (get_or ps k d).thread k w =
+        subst (IsLastOf ps (get_or ps k d).thread k) (sym is ∙ same) (last (get_or ps k d).thread) in
         subst (λ n. IsLastOf ps y.thread n w) index (subst (λ (z : Played). IsLastOf ps z.thread k w) one there)
   ];
 }
@@ -104,7 +113,8 @@ abbrev AsksExchanges : (ℕ → List CellEntry) → List Played → Type 0
 AsksExchanges cells ps = (k j : ℕ) → CellsDemand cells ps (places.Cell k j)
 
 -- a cell has one exchange of a line
-one_exchange : (cells : ℕ → List CellEntry) (ps : List Played) (k i j : ℕ) (e f : CellEntry) → AsksExchanges cells ps → IsExchange cells k i e → IsExchange cells k j f → e.line ≡ f.line → i ≡ j
+one_exchange : (cells : ℕ → List CellEntry) (ps : List Played) (k i j : ℕ) (e f : CellEntry) → AsksExchanges cells ps →
+    IsExchange cells k i e → IsExchange cells k j f → e.line ≡ f.line → i ≡ j
 one_exchange cells ps k i j e f asks at at' same = elim (cases_lt i j) [
   | inl less ↦ absurd ((asks k j f at').once k i e at (inr (refl, less)) same)
   | inr most ↦ elim (cases_lt j i) [
@@ -157,20 +167,25 @@ handed cells ps told x rising swaps exchanges among (k, i, e, f, at, at', line, 
     let names = names_it cells ps k (i + 1) f told rising swaps exchanges among at' line' in
     record { cell = k; reg = names.reg; entry = i + 1; op = names.op; answer = names.answer; giving = (i, e, refl, at, line, gave) }
 
-pub given_all : (cells : ℕ → List CellEntry) (ps : List Played) (told x : Played) (o : Option ℕ) → RiseByLine ps → AsksSwaps cells ps → AsksExchanges cells ps → Contains ps told
-    → ((k reg j l : ℕ) → told.op ≡ Swap k reg → told.answer ≡ Swapped j → IsGiving cells k j l → o ≡ Some l) → HandsTo cells x told → o ≡ Some x.line
+pub given_all : (cells : ℕ → List CellEntry) (ps : List Played) (told x : Played) (o : Option ℕ) → RiseByLine ps → AsksSwaps cells ps →
+    AsksExchanges cells ps → Contains ps told
+    → ((k reg j l : ℕ) → told.op ≡ Swap k reg → told.answer ≡ Swapped j → IsGiving cells k j l → o ≡ Some l) →
+    HandsTo cells x told → o ≡ Some x.line
 given_all cells ps told x o rising swaps exchanges among all hands =
     let h = handed cells ps told x rising swaps exchanges among hands in
     all h.cell h.reg h.entry x.line h.op h.answer h.giving
 
 -- by the record that was found on the line
-pub giver_is : (cells : ℕ → List CellEntry) (ps : List Played) (told : Played) (l : ℕ) (o : Option ℕ) → RiseByLine ps → AsksSwaps cells ps → AsksExchanges cells ps → Contains ps told
-    → (k reg j : ℕ) × (told.op ≡ Swap k reg) × (told.answer ≡ Swapped j) × IsGiving cells k j l → IfSome o (IsOnLine ps l) → IfSome o (λ j. (x : Played) × IsRecord ps j x × HandsTo cells x told)
+pub giver_is : (cells : ℕ → List CellEntry) (ps : List Played) (told : Played) (l : ℕ) (o : Option ℕ) → RiseByLine ps → AsksSwaps cells ps →
+    AsksExchanges cells ps → Contains ps told
+    → (k reg j : ℕ) × (told.op ≡ Swap k reg) × (told.answer ≡ Swapped j) × IsGiving cells k j l → IfSome o (IsOnLine ps l) →
+    IfSome o (λ j. (x : Played) × IsRecord ps j x × HandsTo cells x told)
 giver_is cells ps told l None rising swaps exchanges among given found = tt
 giver_is cells ps told l (Some i) rising swaps exchanges among (k, reg, j, op, answer, giving) (x, here, line) =
     (x, here, gives_to cells ps told x k reg j l rising swaps exchanges among op answer giving line)
 
-pub giver_all : (cells : ℕ → List CellEntry) (ps : List Played) (told x : Played) (l j : ℕ) (o : Option ℕ) → RiseByLine ps → AsksSwaps cells ps → AsksExchanges cells ps → Contains ps told
+pub giver_all : (cells : ℕ → List CellEntry) (ps : List Played) (told x : Played) (l j : ℕ) (o : Option ℕ) → RiseByLine ps →
+    AsksSwaps cells ps → AsksExchanges cells ps → Contains ps told
     → ((k reg j n : ℕ) → told.op ≡ Swap k reg → told.answer ≡ Swapped j → IsGiving cells k j n → Some l ≡ Some n)
     → IfSome o (IsOnLine ps l) → IfNone o (NoneOnLine ps l) → IsRecord ps j x → HandsTo cells x told → o ≡ Some j
 giver_all cells ps told x l j o rising swaps exchanges among all some none here hands =

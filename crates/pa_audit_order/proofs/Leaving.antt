@@ -18,7 +18,8 @@ use Rattle.pa_audit_order.proofs.Cutting.{set_here, still_marked, was_marked}
 pub left_quiet : (ps : List Played) (marked : List Bool) (f : ℕ → Option ℕ) (k : ℕ) (d : Played) → k < length ps
     → mark_of (get_or ps k d) ≡ None → AreLeft ps marked f → AreLeft ps (set marked k true) f
 left_quiet ps marked f k d below none h = record {
-  hit = λ q n at. let (i, x, m, is, here, tells, start, key, left) = h.hit q n at in (i, x, m, still_marked marked k i is, here, tells, start, key, left);
+  hit = λ q n at. let (i, x, m, is, here, tells, start, key, left) = h.hit q n at in
+      (i, x, m, still_marked marked k i is, here, tells, start, key, left);
   whole = λ i x m is here tells. elim (cases_eq i k) [
     | inl same ↦
         let one : get_or ps k d ≡ x = of_some (get_or ps k d) x (sym (here_is ps k d below) ∙ ap (slice_get ps) (sym same) ∙ here) in
@@ -48,7 +49,8 @@ left_more ps marked f g k d m below within tells start raises h = record {
     | inl same ↦
         let one : get_or ps k d ≡ x = of_some (get_or ps k d) x (sym (here_is ps k d below) ∙ ap (slice_get ps) (sym same) ∙ here) in
         let mark : m ≡ o = of_some m o (sym tells ∙ ap mark_of one ∙ tells') in
-        subst (λ (z : Mark). (z.slot.start < 4294967296) × (n : ℕ) × (g (word_key z.slot 0) ≡ Some n) × (left_number z ≤ n)) mark (start, raises.number, raises.here, raises.most)
+        subst (λ (z : Mark). (z.slot.start < 4294967296) × (n : ℕ) × (g (word_key z.slot 0) ≡ Some n) × (left_number z ≤ n)) mark
+        (start, raises.number, raises.here, raises.most)
     | inr other ↦
         let (start', n, at, least) = h.whole i x o (was_marked marked k i other is) here tells' in
         elim (cases_eq (word_key o.slot 0) (word_key m.slot 0)) [
@@ -79,7 +81,8 @@ left_looked ps marked f g k q d l below within tells start key raises h =
     let low : m.slot.start < 4294967296 = subst (λ (z : SlotName). z.start < 4294967296) slot start in
     let at : q ≡ word_key m.slot 0 = key ∙ ap (λ z. word_key z 0) slot in
     let left = ap (λ (z : Look). z.left) same in
-    left_more ps marked f g k d m below within is low (subst (λ z. Raises f g z (left_number m)) at (subst (λ z. Raises f g q z) left raises)) h
+    left_more ps marked f g k d m below within is low
+    (subst (λ z. Raises f g z (left_number m)) at (subst (λ z. Raises f g q z) left raises)) h
 
 pub left_unlooked : (ps : List Played) (marked : List Bool) (f : ℕ → Option ℕ) (k : ℕ) (d : Played) → k < length ps
     → None ≡ option_map look_by (mark_of (get_or ps k d)) → AreLeft ps marked f → AreLeft ps (set marked k true) f

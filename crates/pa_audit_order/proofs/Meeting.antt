@@ -27,12 +27,14 @@ use Rattle.pa_audit_order.proofs.Cutting.{before_marked}
 -- ---- what is ahead
 
 -- what steps to a record of the walk is ahead of it
-pub step_ahead : (cells : ℕ → List CellEntry) (ps : List Played) (k : ℕ) (x y : Played) → RiseByLine ps → IsRecord ps k y → IsStepTo cells x y → IsAheadAt cells ps k x
+pub step_ahead : (cells : ℕ → List CellEntry) (ps : List Played) (k : ℕ) (x y : Played) → RiseByLine ps → IsRecord ps k y →
+    IsStepTo cells x y → IsAheadAt cells ps k x
 step_ahead cells ps k x y rising here step w at j z from there of =
     let same : w ≡ y = one_at ps k w y at here in
     let first : IsBefore cells ps x y = before step in
     elim (cases_lt k j) [
-      | inl less ↦ Between y (at_in ps k y here) first (Standing (inl (ap (λ (v : Played). v.thread) (sym same) ∙ sym of, rises ps k j y z rising here there less)))
+      | inl less ↦ Between y (at_in ps k y here) first
+          (Standing (inl (ap (λ (v : Played). v.thread) (sym same) ∙ sym of, rises ps k j y z rising here there less)))
       | inr most ↦
           let e : k ≡ j = omega (arith, from, most) in
           subst (λ (v : Played). IsBefore cells ps x v) (one_at ps j y z (ap (slice_get ps) (sym e) ∙ here) there) first
@@ -43,43 +45,52 @@ step_ahead cells ps k x y rising here step w at j z from there of =
     before (inr hands) = Handing hands
 
 -- a record with a step to one that is ahead is ahead too
-pub step_behind : (cells : ℕ → List CellEntry) (ps : List Played) (k i : ℕ) (x y : Played) → IsRecord ps i y → IsStepTo cells x y → IsAheadAt cells ps k y → IsAheadAt cells ps k x
-step_behind cells ps k i x y here step ahead w at j z from there of = Between y (at_in ps i y here) (before step) (ahead w at j z from there of)
+pub step_behind : (cells : ℕ → List CellEntry) (ps : List Played) (k i : ℕ) (x y : Played) → IsRecord ps i y → IsStepTo cells x y →
+    IsAheadAt cells ps k y → IsAheadAt cells ps k x
+step_behind cells ps k i x y here step ahead w at j z from there of =
+    Between y (at_in ps i y here) (before step) (ahead w at j z from there of)
   where
     before : IsStepTo cells x y → IsBefore cells ps x y
     before (inl stands) = Standing stands
     before (inr hands) = Handing hands
 
 -- from the walk to its record, and on to the next
-pub ahead_at : (cells : ℕ → List CellEntry) (ps : List Played) (t k : ℕ) (y x : Played) → IsRecord ps k y → y.thread ≡ t → IsAhead cells ps t k x → IsAheadAt cells ps k x
+pub ahead_at : (cells : ℕ → List CellEntry) (ps : List Played) (t k : ℕ) (y x : Played) → IsRecord ps k y → y.thread ≡ t →
+    IsAhead cells ps t k x → IsAheadAt cells ps k x
 ahead_at cells ps t k y x here of ahead w at j z from there mine =
     let same : w ≡ y = one_at ps k w y at here in
     ahead j z from there (mine ∙ ap (λ (v : Played). v.thread) same ∙ of)
 
-pub ahead_on : (cells : ℕ → List CellEntry) (ps : List Played) (t k : ℕ) (y x : Played) → IsRecord ps k y → y.thread ≡ t → IsAheadAt cells ps k x → IsAhead cells ps t (k + 1) x
+pub ahead_on : (cells : ℕ → List CellEntry) (ps : List Played) (t k : ℕ) (y x : Played) → IsRecord ps k y → y.thread ≡ t →
+    IsAheadAt cells ps k x → IsAhead cells ps t (k + 1) x
 ahead_on cells ps t k y x here of ahead j z from there mine = ahead y here j z (omega (arith, from)) there (mine ∙ sym of)
 
-pub ahead_next : (cells : ℕ → List CellEntry) (ps : List Played) (t k : ℕ) (x : Played) → IsAhead cells ps t k x → IsAhead cells ps t (k + 1) x
+pub ahead_next : (cells : ℕ → List CellEntry) (ps : List Played) (t k : ℕ) (x : Played) →
+    IsAhead cells ps t k x → IsAhead cells ps t (k + 1) x
 ahead_next cells ps t k x ahead j z from there of = ahead j z (omega (arith, from)) there of
 
 -- ---- a record's demand
 
 -- with nothing on the stack, the steps to marked records come from marked ones
-closed : (cells : ℕ → List CellEntry) (ps : List Played) (A : Played → Type 0) (marked : List Bool) (floor : ℕ) (left : ℕ → Option ℕ) → IsGrown cells ps A (length ps) marked [] floor left
+closed : (cells : ℕ → List CellEntry) (ps : List Played) (A : Played → Type 0) (marked : List Bool) (floor : ℕ) (left : ℕ → Option ℕ) →
+    IsGrown cells ps A (length ps) marked [] floor left
     → (i : ℕ) → IsMarked marked i → (j : ℕ) → IsNear cells ps j i → IsMarked marked j
-closed cells ps A marked floor left h i is j near = only (h.near i j (λ e. let low = slice_get_within marked i true is in let long = h.long in omega (arith, low, long, e)) is near)
+closed cells ps A marked floor left h i is j near =
+    only (h.near i j (λ e. let low = slice_get_within marked i true is in let long = h.long in omega (arith, low, long, e)) is near)
   where
     only : IsTakenUp marked [] j → IsMarked marked j
     only (inl there) = there
     only (inr among) = absurd (not_in_none j among)
 
-pub fresh_met : (cells : ℕ → List CellEntry) (ps : List Played) (A : Played → Type 0) (table : List (Option ℕ)) (marked : List Bool) (floor k : ℕ) (left : ℕ → Option ℕ) (y : Played)
+pub fresh_met : (cells : ℕ → List CellEntry) (ps : List Played) (A : Played → Type 0) (table : List (Option ℕ)) (marked : List Bool)
+    (floor k : ℕ) (left : ℕ → Option ℕ) (y : Played)
     → RiseByLine ps → ArePrevious ps table (length ps)
     → IsGrown cells ps A (length ps) marked [] floor left → ((j : ℕ) → IsNear cells ps j k → IsMarked marked j) → IsRecord ps k y
     → IsOrderly marked k left (mark_of y) → SeenDemand cells ps (places.Record k)
 fresh_met cells ps A table marked floor k left y rising tables h near here (new, enough) =
     let all = closed cells ps A marked floor left h in
-    let has : (j : ℕ) (x : Played) → IsRecord ps j x → IsBefore cells ps x y → IsMarked marked j = λ j x at before. before_marked cells ps table marked k j x y rising tables all near at here before in
+    let has : (j : ℕ) (x : Played) → IsRecord ps j x → IsBefore cells ps x y →
+    IsMarked marked j = λ j x at before. before_marked cells ps table marked k j x y rising tables all near at here before in
     λ z at.
     let same : y ≡ z = one_at ps k y z here at in
     subst
@@ -97,7 +108,8 @@ fresh_met cells ps A table marked floor k left y rising tables h near here (new,
 
 pub met_fresh : (cells : ℕ → List CellEntry) (ps : List Played) (marked : List Bool) (floor k : ℕ) (left : ℕ → Option ℕ) (y : Played)
     → IsGrown cells ps (IsAheadAt cells ps k) (length ps) marked [] floor left → IsRecord ps k y
-    → ((n : Mark) → mark_of y ≡ Some n → n.slot.start < 4294967296) → SeenDemand cells ps (places.Record k) → IsOrderly marked k left (mark_of y)
+    → ((n : Mark) → mark_of y ≡ Some n → n.slot.start < 4294967296) → SeenDemand cells ps (places.Record k) →
+    IsOrderly marked k left (mark_of y)
 met_fresh cells ps marked floor k left y h here sized demand =
     let (never, rising) = demand y here in (
       λ is. never (h.ahead k y (inl is) here y here k y (omega arith) here refl),
@@ -105,7 +117,8 @@ met_fresh cells ps marked floor k left y h here sized demand =
     )
   where
     enough : (o : Option Mark) → mark_of y ≡ o
-        → ((x : Played) (m n : Mark) → Contains ps x → IsBefore cells ps x y → mark_of x ≡ Some m → mark_of y ≡ Some n → m.slot ≡ n.slot → left_number m ≤ number_of n.found) → FindsEnough left o
+        → ((x : Played) (m n : Mark) → Contains ps x → IsBefore cells ps x y → mark_of x ≡ Some m → mark_of y ≡ Some n → m.slot ≡ n.slot →
+        left_number m ≤ number_of n.found) → FindsEnough left o
     enough None is rising = tt
     enough (Some n) is rising = λ number at.
         let (i, x, m, marks, there, tells, start, key, mine) = h.numbers.hit (word_key n.slot 0) number at in
@@ -116,16 +129,20 @@ met_fresh cells ps marked floor k left y h here sized demand =
 
 -- ---- the threads
 
-met_below : (ps : List Played) (Meets : ℕ → Type 0) (t j : ℕ) (x : Played) → (x.thread < t → Meets j) → (x.thread ≡ t → Meets j) → x.thread < t + 1 → Meets j
+met_below : (ps : List Played) (Meets : ℕ → Type 0) (t j : ℕ) (x : Played) → (x.thread < t → Meets j) →
+    (x.thread ≡ t → Meets j) → x.thread < t + 1 → Meets j
 met_below ps Meets t j x early here less = elim (cases_lt x.thread t) [
   | inl before ↦ early before
   | inr late ↦ here (omega (arith, less, late))
 ]
 
-pub below_more : (ps : List Played) (Meets : ℕ → Type 0) (t : ℕ) (first told : Option ℕ) → TellsBelow ps t Meets first → TellsOf ps t Meets told → TellsBelow ps (t + 1) Meets (earlier_of first told)
+pub below_more : (ps : List Played) (Meets : ℕ → Type 0) (t : ℕ) (first told : Option ℕ) → TellsBelow ps t Meets first →
+    TellsOf ps t Meets told → TellsBelow ps (t + 1) Meets (earlier_of first told)
 below_more ps Meets t None None h k = λ i x at less. met_below ps Meets t i x (h i x at) (k i x at) less
-below_more ps Meets t None (Some b) h (unmet, before) = (unmet, λ j x low at less. met_below ps Meets t j x (h j x at) (before j x low at) less)
-below_more ps Meets t (Some a) None (unmet, before) k = (unmet, λ j x low at less. met_below ps Meets t j x (before j x low at) (k j x at) less)
+below_more ps Meets t None (Some b) h (unmet, before) =
+    (unmet, λ j x low at less. met_below ps Meets t j x (h j x at) (before j x low at) less)
+below_more ps Meets t (Some a) None (unmet, before) k =
+    (unmet, λ j x low at less. met_below ps Meets t j x (before j x low at) (k j x at) less)
 below_more ps Meets t (Some a) (Some b) (unmet, before) (unmet', before') = (
   least,
   λ j x low at less. met_below ps Meets t j x (before j x (omega (arith, low)) at) (before' j x (omega (arith, low)) at) less,

@@ -81,17 +81,20 @@ abbrev IsMaking : Played → SlotName → ℕ → Type 0
 IsMaking x s n = (seen : Seen) × (usable : ℕ) × (x.answer ≡ Made seen usable) × (seen.slot ≡ s) × (number_of seen.found.0 ≡ n)
 
 abbrev IsWriting : Played → SlotName → ℕ → ℕ → Type 0
-IsWriting x s n value = (seen : Seen) × (reg : ℕ) × (x.op ≡ ops.Write reg value) × (x.answer ≡ Done seen) × (seen.slot ≡ s) × (number_of seen.found.0 ≡ n)
+IsWriting x s n value =
+    (seen : Seen) × (reg : ℕ) × (x.op ≡ ops.Write reg value) × (x.answer ≡ Done seen) × (seen.slot ≡ s) × (number_of seen.found.0 ≡ n)
 
 making_fills : (x : Played) (s : SlotName) (n : ℕ) → IsMaking x s n → DoesAt Fill x s n
 making_fills x s n (seen, usable, answer, slot, number) = (seen, ap (seen_by Fill x.op) answer, slot, number)
 
 writing_fills : (x : Played) (s : SlotName) (n value : ℕ) → IsWriting x s n value → DoesAt Fill x s n
-writing_fills x s n value (seen, reg, op, answer, slot, number) = (seen, ap (λ o. seen_by Fill o x.answer) op ∙ ap (seen_by Fill (ops.Write reg value)) answer, slot, number)
+writing_fills x s n value (seen, reg, op, answer, slot, number) =
+    (seen, ap (λ o. seen_by Fill o x.answer) op ∙ ap (seen_by Fill (ops.Write reg value)) answer, slot, number)
 
 -- a fill is one or the other, and puts this value
 abbrev IsEither : Op → Answer → Seen → Type 0
-IsEither op answer seen = ((usable : ℕ) × (answer ≡ Made seen usable) × (put_by op answer ≡ 0)) ⊎ ((reg value : ℕ) × (op ≡ ops.Write reg value) × (answer ≡ Done seen) × (put_by op answer ≡ value))
+IsEither op answer seen = ((usable : ℕ) × (answer ≡ Made seen usable) × (put_by op answer ≡ 0)) ⊎
+    ((reg value : ℕ) × (op ≡ ops.Write reg value) × (answer ≡ Done seen) × (put_by op answer ≡ value))
 
 made_puts : (op : Op) (seen : Seen) (usable : ℕ) → put_by op (Made seen usable) ≡ 0
 made_puts (ops.Alloc reg partition size) seen usable = refl
@@ -110,20 +113,25 @@ either op answer seen e = absurd (not_some seen e)
 
 -- what was made or written at a number is a fill there
 made_there : (ps : List Played) (s : SlotName) (m : ℕ) → IsMadeAt ps s m → (j : ℕ) × (y : Played) × IsRecord ps j y × IsMaking y s m
-made_there ps s m (y, seen, usable, among, answer, slot, number) = let (j, at) = in_at ps y among in (j, y, at, (seen, usable, answer, slot, number))
+made_there ps s m (y, seen, usable, among, answer, slot, number) = let (j, at) = in_at ps y among in
+    (j, y, at, (seen, usable, answer, slot, number))
 
-written_there : (ps : List Played) (s : SlotName) (m value : ℕ) → IsWrittenAt ps s m value → (j : ℕ) × (y : Played) × IsRecord ps j y × IsWriting y s m value
-written_there ps s m value (y, seen, reg, among, op, answer, slot, number) = let (j, at) = in_at ps y among in (j, y, at, (seen, reg, op, answer, slot, number))
+written_there : (ps : List Played) (s : SlotName) (m value : ℕ) → IsWrittenAt ps s m value →
+    (j : ℕ) × (y : Played) × IsRecord ps j y × IsWriting y s m value
+written_there ps s m value (y, seen, reg, among, op, answer, slot, number) = let (j, at) = in_at ps y among in
+    (j, y, at, (seen, reg, op, answer, slot, number))
 
 -- the slot was filled at no number between
 abbrev NoFill : List Played → SlotName → ℕ → ℕ → Type 0
 NoFill ps s low high = (m j : ℕ) (y : Played) → low ≤ m → m < high → IsRecord ps j y → DoesAt Fill y s m → ⊥
 
-no_fill : (ps : List Played) (f : ℕ → Option ℕ) (s : SlotName) (low high q : ℕ) → AreByNumber Fill ps f (length ps) → HasNoKey f q (word_key s high) → q ≤ word_key s low → NoFill ps s low high
+no_fill : (ps : List Played) (f : ℕ → Option ℕ) (s : SlotName) (low high q : ℕ) → AreByNumber Fill ps f (length ps) →
+    HasNoKey f q (word_key s high) → q ≤ word_key s low → NoFill ps s low high
 no_fill ps f s low high q h none from m j y least most at does =
     none_at Fill ps f s q (word_key s high) m j y h none (omega (arith, from, least)) (omega (arith, most)) at does
 
-pub content_none : (ps : List Played) (f : ℕ → Option ℕ) (s : SlotName) (k : ℕ) → AreByNumber Fill ps f (length ps) → HasNoKey f (word_key s 0) (word_key s k) → IsContent ps s k 0
+pub content_none : (ps : List Played) (f : ℕ → Option ℕ) (s : SlotName) (k : ℕ) → AreByNumber Fill ps f (length ps) →
+    HasNoKey f (word_key s 0) (word_key s k) → IsContent ps s k 0
 content_none ps f s k h none =
     let nothing : NoFill ps s 0 k = no_fill ps f s 0 k (word_key s 0) h none (omega arith) in
     inr (
@@ -134,7 +142,8 @@ content_none ps f s k h none =
     )
 
 -- the last fill made the slot
-content_made : (ps : List Played) (s : SlotName) (k n i : ℕ) (x : Played) → IsOneAt Fill ps → IsRecord ps i x → IsMaking x s n → n < k → NoFill ps s (n + 1) k → IsContent ps s k 0
+content_made : (ps : List Played) (s : SlotName) (k n i : ℕ) (x : Played) → IsOneAt Fill ps → IsRecord ps i x → IsMaking x s n → n < k →
+    NoFill ps s (n + 1) k → IsContent ps s k 0
 content_made ps s k n i x one here making below nothing = inr (
   refl,
   λ m other (written, less, between).
@@ -157,13 +166,15 @@ content_made ps s k n i x one here making below nothing = inr (
 )
 
 -- the last fill wrote it
-content_written : (ps : List Played) (s : SlotName) (k n value i : ℕ) (x : Played) → IsRecord ps i x → IsWriting x s n value → n < k → NoFill ps s (n + 1) k → IsContent ps s k value
+content_written : (ps : List Played) (s : SlotName) (k n value i : ℕ) (x : Played) → IsRecord ps i x → IsWriting x s n value → n < k →
+    NoFill ps s (n + 1) k → IsContent ps s k value
 content_written ps s k n value i x here (seen, reg, op, answer, slot, number) below nothing = inl (
   n,
   (
     (x, seen, reg, at_in ps i x here, op, answer, slot, number),
     below,
-    λ m made after less. let (j, y, at, is) = made_there ps s m made in nothing m j y (omega (arith, after)) less at (making_fills y s m is),
+    λ m made after less. let (j, y, at, is) = made_there ps s m made in
+        nothing m j y (omega (arith, after)) less at (making_fills y s m is),
   ),
   λ m other (written, less, between) after.
       let (j, y, at, is) = written_there ps s m other written in
@@ -173,16 +184,20 @@ content_written ps s k n value i x here (seen, reg, op, answer, slot, number) be
 content_of : (ps : List Played) (s : SlotName) (k n i : ℕ) (x : Played) → IsOneAt Fill ps → IsRecord ps i x → DoesAt Fill x s n → n < k
     → NoFill ps s (n + 1) k → IsContent ps s k (put_by x.op x.answer)
 content_of ps s k n i x one here (seen, is, slot, number) below nothing = elim (either x.op x.answer seen is) [
-  | inl (usable, answer, zero) ↦ subst (λ z. IsContent ps s k z) (sym zero) (content_made ps s k n i x one here (seen, usable, answer, slot, number) below nothing)
-  | inr (reg, value, op, answer, puts) ↦ subst (λ z. IsContent ps s k z) (sym puts) (content_written ps s k n value i x here (seen, reg, op, answer, slot, number) below nothing)
+  | inl (usable, answer, zero) ↦
+      subst (λ z. IsContent ps s k z) (sym zero) (content_made ps s k n i x one here (seen, usable, answer, slot, number) below nothing)
+  | inr (reg, value, op, answer, puts) ↦ subst (λ z. IsContent ps s k z) (sym puts)
+      (content_written ps s k n value i x here (seen, reg, op, answer, slot, number) below nothing)
 ]
 
-pub content_last : (ps : List Played) (f : ℕ → Option ℕ) (s : SlotName) (k q i : ℕ) (d : Played) → IsOneAt Fill ps → s.start < 4294967296 → k ≤ 18446744073709551616 → AreByNumber Fill ps f (length ps)
+pub content_last : (ps : List Played) (f : ℕ → Option ℕ) (s : SlotName) (k q i : ℕ) (d : Played) → IsOneAt Fill ps → s.start < 4294967296 →
+    k ≤ 18446744073709551616 → AreByNumber Fill ps f (length ps)
     → IsGreatest f (word_key s 0) (word_key s k) q i → IsContent ps s k (put_by (get_or ps i d).op (get_or ps i d).answer)
 content_last ps f s k q i d one start low h last =
     let found = found_at Fill ps f s 0 k q i d start low h last.here last.from last.below in
     let key = found.key in
-    content_of ps s k found.number i (get_or ps i d) one found.here found.does found.below (no_fill ps f s (found.number + 1) k (q + 1) h last.last (omega (arith, key)))
+    content_of ps s k found.number i (get_or ps i d) one found.here found.does found.below
+    (no_fill ps f s (found.number + 1) k (q + 1) h last.last (omega (arith, key)))
 
 -- ---- frees
 
@@ -191,14 +206,17 @@ frees_does ps s n y (among, seen, reg, op, answer, slot, number) =
     let (j, at) = in_at ps y among in
     (j, at, (seen, ap (λ o. seen_by Free o y.answer) op ∙ ap (seen_by Free (ops.Free reg)) answer, slot, number))
 
-does_free : (op : Op) (answer : Answer) (seen : Seen) → seen_by Free op answer ≡ Some seen → (reg : ℕ) × (op ≡ ops.Free reg) × (answer ≡ Done seen)
+does_free : (op : Op) (answer : Answer) (seen : Seen) → seen_by Free op answer ≡ Some seen →
+    (reg : ℕ) × (op ≡ ops.Free reg) × (answer ≡ Done seen)
 does_free (ops.Free reg) (Done a) seen e = (reg, refl, ap Done (of_some a seen e))
 does_free op answer seen e = absurd (not_some seen e)
 
-pub free_least : (ps : List Played) (f : ℕ → Option ℕ) (s : SlotName) (k q i : ℕ) (d : Played) → s.start < 4294967296 → AreByNumber Free ps f (length ps)
+pub free_least : (ps : List Played) (f : ℕ → Option ℕ) (s : SlotName) (k q i : ℕ) (d : Played) → s.start < 4294967296 →
+    AreByNumber Free ps f (length ps)
     → IsLeast f (word_key s k) (word_key s 18446744073709551615 + 1) q i → IsNextFree ps s k (get_or ps i d)
 free_least ps f s k q i d start h least =
-    let found = found_at Free ps f s k 18446744073709551616 q i d start (omega arith) h least.here least.from (let below = least.below in omega (arith, below)) in
+    let found = found_at Free ps f s k 18446744073709551616 q i d start (omega arith) h least.here least.from
+    (let below = least.below in omega (arith, below)) in
     let (seen, is, slot, number) = found.does in
     let (reg, op, answer) = does_free (get_or ps i d).op (get_or ps i d).answer seen is in
     let key = found.key in (
@@ -222,7 +240,8 @@ free_none ps f s k y h none (n, freed, from, least) =
 
 -- ---- there is one content, and one next free
 
-one_record : (kind : Kind) (ps : List Played) (s : SlotName) (n i j : ℕ) (x y : Played) → IsOneAt kind ps → IsRecord ps i x → IsRecord ps j y → DoesAt kind x s n → DoesAt kind y s n → x ≡ y
+one_record : (kind : Kind) (ps : List Played) (s : SlotName) (n i j : ℕ) (x y : Played) → IsOneAt kind ps → IsRecord ps i x →
+    IsRecord ps j y → DoesAt kind x s n → DoesAt kind y s n → x ≡ y
 one_record kind ps s n i j x y one at at' does does' = of_some x y (sym at ∙ ap (slice_get ps) (one i j x y s n at at' does does') ∙ at')
 
 one_write : (ps : List Played) (s : SlotName) (n a b : ℕ) → IsOneAt Fill ps → IsWrittenAt ps s n a → IsWrittenAt ps s n b → a ≡ b
@@ -248,7 +267,8 @@ one_content ps s k v w one (inl (n, there, last)) (inl (m, there', last')) = eli
   ]
 ]
 
-pub one_next : (ps : List Played) (s : SlotName) (k : ℕ) (y z : Played) → IsOneAt Free ps → IsNextFree ps s k y → IsNextFree ps s k z → y ≡ z
+pub one_next : (ps : List Played) (s : SlotName) (k : ℕ) (y z : Played) → IsOneAt Free ps →
+    IsNextFree ps s k y → IsNextFree ps s k z → y ≡ z
 one_next ps s k y z one (n, freed, low, least) (m, freed', low', least') =
     let a : n ≤ m = least m z freed' low' in
     let b : m ≤ n = least' n y freed low in

@@ -60,7 +60,8 @@ record IsMarked (line : ℕ) (op : Op) (answer : Answer) (seen : Seen) : Type 0 
   step : Step
   made : mark.step ≡ Some step
 
-marked : (line : ℕ) (op : Op) (answer : Answer) (a seen : Seen) (p : Step) → mark_of_answer line op answer ≡ Some (mark_at line a (Some p)) → a ≡ seen → IsMarked line op answer seen
+marked : (line : ℕ) (op : Op) (answer : Answer) (a seen : Seen) (p : Step) →
+    mark_of_answer line op answer ≡ Some (mark_at line a (Some p)) → a ≡ seen → IsMarked line op answer seen
 marked line op answer a seen p is same = record {
   mark = mark_at line a (Some p);
   is = is;
@@ -70,9 +71,11 @@ marked line op answer a seen p is same = record {
   made = refl;
 }
 
-makes_step : (kind : Kind) (line : ℕ) (op : Op) (answer : Answer) (seen : Seen) → seen_by kind op answer ≡ Some seen → IsMarked line op answer seen
+makes_step : (kind : Kind) (line : ℕ) (op : Op) (answer : Answer) (seen : Seen) →
+    seen_by kind op answer ≡ Some seen → IsMarked line op answer seen
 makes_step Fill line op (Made a usable) seen e = marked line op (Made a usable) a seen steps.Issue refl (of_some a seen e)
-makes_step Fill line (ops.Write reg value) (Done a) seen e = marked line (ops.Write reg value) (Done a) a seen steps.Write refl (of_some a seen e)
+makes_step Fill line (ops.Write reg value) (Done a) seen e =
+    marked line (ops.Write reg value) (Done a) a seen steps.Write refl (of_some a seen e)
 makes_step Issue line op (Made a usable) seen e = marked line op (Made a usable) a seen steps.Issue refl (of_some a seen e)
 makes_step Free line (ops.Free reg) (Done a) seen e = marked line (ops.Free reg) (Done a) a seen steps.Free refl (of_some a seen e)
 makes_step kind line op answer seen e = absurd (not_some seen e)
@@ -100,7 +103,8 @@ record IsStepOf (ps : List Played) (x : Played) (s : SlotName) (n : ℕ) : Type 
   among : Contains (0 ∷ words) mark.found
   first : IsFirstAt (marks_of ps) s mark.found mark step
 
-step_of_slot : (kind : Kind) (ps : List Played) (i : ℕ) (x : Played) (s : SlotName) (n : ℕ) → SlotsDemand ps (places.Record i) → IsRecord ps i x → DoesAt kind x s n → IsStepOf ps x s n
+step_of_slot : (kind : Kind) (ps : List Played) (i : ℕ) (x : Played) (s : SlotName) (n : ℕ) → SlotsDemand ps (places.Record i) →
+    IsRecord ps i x → DoesAt kind x s n → IsStepOf ps x s n
 step_of_slot kind ps i x s n slots at (seen, is, slot, number) =
     let a = makes_step kind x.line x.op x.answer seen is in
     let (vs, run, among, used) = slots x a.mark at a.is in
@@ -125,14 +129,16 @@ one_at kind ps rising slots i j x y s n at at' does does' =
     let b = step_of_slot kind ps j y s n (slots j) at' does' in
     let words : a.words ≡ b.words = same_run ms s 0 0 a.words b.words differ refl a.run b.run in
     let among : Contains (0 ∷ b.words) a.mark.found = subst (λ zs. Contains (0 ∷ zs) a.mark.found) words a.among in
-    let word : a.mark.found ≡ b.mark.found = same_word ms s 0 b.words a.mark.found b.mark.found b.run among b.among (a.number ∙ sym b.number) in
+    let word : a.mark.found ≡ b.mark.found =
+    same_word ms s 0 b.words a.mark.found b.mark.found b.run among b.among (a.number ∙ sym b.number) in
     let first = subst (λ z. IsFirstAt ms s z a.mark a.step) word a.first in
     let mark : a.mark ≡ b.mark = one_mark ms s b.mark.found a.mark b.mark a.step b.step differ first b.first in
     one_place ps i j x y rising at at' (sym a.line ∙ ap (λ (z : Mark). z.line) mark ∙ b.line)
 
 -- ---- the table
 
-pub table_skip : (kind : Kind) (ps : List Played) (at : ℕ → Option ℕ) (k : ℕ) (d : Played) → k < length ps → seen_by kind (get_or ps k d).op (get_or ps k d).answer ≡ None → AreByNumber kind ps at k
+pub table_skip : (kind : Kind) (ps : List Played) (at : ℕ → Option ℕ) (k : ℕ) (d : Played) → k < length ps →
+    seen_by kind (get_or ps k d).op (get_or ps k d).answer ≡ None → AreByNumber kind ps at k
     → AreByNumber kind ps at (k + 1)
 table_skip kind ps at k d below none h = record {
   hit = λ q i is. let (x, s, n, less, here, does, key) = h.hit q i is in (x, s, n, omega (arith, less), here, does, key);
@@ -147,7 +153,8 @@ table_skip kind ps at k d below none h = record {
 
 pub table_put : (kind : Kind) (ps : List Played) (f g : ℕ → Option ℕ) (k : ℕ) (d : Played) (seen : Seen) → IsOneAt kind ps
     → k < length ps → seen_by kind (get_or ps k d).op (get_or ps k d).answer ≡ Some seen
-    → IsSized seen.slot (number_of seen.found.0) → Puts f g (word_key seen.slot (number_of seen.found.0)) k → AreByNumber kind ps f k → AreByNumber kind ps g (k + 1)
+    → IsSized seen.slot (number_of seen.found.0) → Puts f g (word_key seen.slot (number_of seen.found.0)) k →
+    AreByNumber kind ps f k → AreByNumber kind ps g (k + 1)
 table_put kind ps f g k d seen one below is sized puts h =
     let here = here_is ps k d below in
     let s = seen.slot in
@@ -158,7 +165,8 @@ table_put kind ps f g k d seen one below is sized puts h =
         | inl same ↦
             let index : k ≡ i = of_some k i (sym puts.here ∙ ap g (sym same) ∙ at) in
             (get_or ps k d, s, n, omega (arith, index), subst (λ z. IsRecord ps z (get_or ps k d)) index here, mine, sym same)
-        | inr other ↦ let (x, t, m, less, there, does, key) = h.hit q i (sym (puts.other q other) ∙ at) in (x, t, m, omega (arith, less), there, does, key)
+        | inr other ↦ let (x, t, m, less, there, does, key) = h.hit q i (sym (puts.other q other) ∙ at) in
+            (x, t, m, omega (arith, less), there, does, key)
       ];
       whole = λ i x t m less there does. elim (cases_lt i k) [
         | inl early ↦

@@ -52,8 +52,8 @@ pub record Adds (ps : List Played) (phase : ℕ) (old : List ℕ) (low : ℕ) (n
   pub only : (j : ℕ) → Contains new j → Contains old j ⊎ ((low ≤ j) × (j < high))
   pub few : length new + low ≡ length old + high
 
--- The indices from `low` on are added to the list, up to the first record that is of this phase or a later one, or to the end of the
--- records.
+-- The indices from `low` on are added to the list, up to the first record that is
+-- of this phase or a later one, or to the end of the records.
 pub record AddsAll (ps : List Played) (phase : ℕ) (old : List ℕ) (low : ℕ) (new : List ℕ) (high : ℕ) : Type 0 where
   pub adds : Adds ps phase old low new high
   pub stop : (x : Played) → IsRecord ps high x → phase ≤ x.phase

@@ -57,8 +57,8 @@ pub fn contents_meet(
     Ok(None)
 }
 
-// Whether the answer is one that a record may report whatever its slot holds: poison for a slot that was freed, or no value
-// at all.
+// Whether the answer is one that a record may report whatever its slot holds:
+// poison for a slot that was freed, or no value at all.
 fn needs_no_content(answer: Answer) -> bool
     ensures { IsTrue result ↔ NeedsNoContent answer }
 {

@@ -49,8 +49,8 @@ fn seen_of(kind: Kind, op: Op, answer: Answer) -> Option<Seen>
     }
 }
 
-/// The indices of the records that filled, made or freed a slot, as the kind says, by the key of the slot and its number. An error means
-/// out of memory.
+/// The indices of the records that filled, made or freed a slot, as the kind says,
+/// by the key of the slot and its number. An error means out of memory.
 pub fn by_number(
     alloc: Global,
     records: &[Played],

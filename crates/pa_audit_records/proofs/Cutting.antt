@@ -23,7 +23,8 @@ each_push R [] y h here (suc i) x at = absurd (not_some x at)
 each_push R (z ∷ zs) y h here zero x at = h zero x at
 each_push R (z ∷ zs) y h here (suc i) x at = each_push (λ k. R (suc k)) zs y (λ k u at'. h (suc k) u at') here i x at
 
-pub each_next : {A : Type 0} (R : ℕ → A → Type 0) (xs ys : List A) (y : A) (n : ℕ) → ys ≡ xs ++ y ∷ [] → length xs ≡ n → HasEach R xs → R n y → HasEach R ys
+pub each_next : {A : Type 0} (R : ℕ → A → Type 0) (xs ys : List A) (y : A) (n : ℕ) → ys ≡ xs ++ y ∷ [] → length xs ≡ n →
+    HasEach R xs → R n y → HasEach R ys
 each_next R xs ys y n is long h here = subst (λ zs. HasEach R zs) (sym is) (each_push R xs y h (subst (λ k. R k y) (sym long) here))
 
 pub long_next : {A : Type 0} (xs ys : List A) (y : A) (n : ℕ) → ys ≡ xs ++ y ∷ [] → length xs ≡ n → length ys ≡ n + 1
@@ -48,7 +49,8 @@ low_more phases n end x at few h =
       ];
     }
 
-pub cut_here : (phases : List ℕ) (n end : ℕ) → AllPairs ◌≤◌ phases → IsLow phases n end → ((m : ℕ) → slice_get phases end ≡ Some m → n < m) → IsCut phases n end
+pub cut_here : (phases : List ℕ) (n end : ℕ) → AllPairs ◌≤◌ phases → IsLow phases n end →
+    ((m : ℕ) → slice_get phases end ≡ Some m → n < m) → IsCut phases n end
 cut_here phases n end rising low stop = record {
   front = low;
   high = λ k m at more. elim (cases_eq k end) [
@@ -88,10 +90,12 @@ cut_tail x xs n end h =
 
 all_past : (ps : List Played) (n : ℕ) → IsCut (map (λ (x : Played). x.phase) ps) n 0 → (x : Played) → Contains ps x → n < x.phase
 all_past ps n h x (i, below, is) =
-    let there : slice_get (map (λ (y : Played). y.phase) ps) i ≡ Some x.phase = at_phase ps i x (slice_get-get_or ps i x below ∙ ap Some is) in
+    let there : slice_get (map (λ (y : Played). y.phase) ps) i ≡ Some x.phase =
+    at_phase ps i x (slice_get-get_or ps i x below ∙ ap Some is) in
     h.high i x.phase there (omega arith)
   where
-    at_phase : (ys : List Played) (k : ℕ) (y : Played) → slice_get ys k ≡ Some y → slice_get (map (λ (z : Played). z.phase) ys) k ≡ Some y.phase
+    at_phase : (ys : List Played) (k : ℕ) (y : Played) → slice_get ys k ≡ Some y →
+        slice_get (map (λ (z : Played). z.phase) ys) k ≡ Some y.phase
     at_phase [] k y at = absurd (not_some y at)
     at_phase (z ∷ zs) zero y at = ap (λ (u : Played). Some u.phase) (of_some z y at)
     at_phase (z ∷ zs) (suc k) y at = at_phase zs k y at
@@ -100,7 +104,8 @@ all_past ps n h x (i, below, is) =
 pub until_is : (ps : List Played) (n end : ℕ) → IsCut (map (λ (x : Played). x.phase) ps) n end → take end ps ≡ until n ps
 until_is [] n zero h = refl
 until_is [] n (suc end) h = refl
-until_is (x ∷ ps) n zero h = sym (filter_none (λ (y : Played). nat_le y.phase n) (x ∷ ps) (λ y among. lt-leb y.phase n (all_past (x ∷ ps) n h y among)))
+until_is (x ∷ ps) n zero h =
+    sym (filter_none (λ (y : Played). nat_le y.phase n) (x ∷ ps) (λ y among. lt-leb y.phase n (all_past (x ∷ ps) n h y among)))
 until_is (x ∷ ps) n (suc end) h =
     let few : x.phase ≤ n = h.front.low 0 x.phase refl (omega arith) in
     rw (le-leb x.phase n few) (ap (λ ys. x ∷ ys) (until_is ps n end (cut_tail x.phase (map (λ (y : Played). y.phase) ps) n end h)))

@@ -25,19 +25,25 @@ pub record DueSoFar (r : Rules) (ls : List Line) (es : List Entry) (rest : List 
   pub asks : (j : ℕ) → slice_get (due r 2 1 ls) (at + j) ≡ slice_get (due r n phase rest) j
 
 pub due_start : (r : Rules) (ls : List Line) (es : List Entry) → DueSoFar r ls es ls 2 0
-due_start r ls es = record { phase = 1; met = λ j below. absurd (omega (arith, below)); asks = λ j. ap (slice_get (due r 2 1 ls)) (omega arith) }
+due_start r ls es = record {
+  phase = 1;
+  met = λ j below. absurd (omega (arith, below));
+  asks = λ j. ap (slice_get (due r 2 1 ls)) (omega arith);
+}
 
 -- the line at a place and those after it
 line_here : (ls : List Line) (i : ℕ) (l : Line) → i < length ls → get_or ls i Phase ≡ l → drop i ls ≡ l ∷ drop (i + 1) ls
 line_here ls i l below is = drop_more ls i Phase below ∙ ap (λ z. z ∷ drop (i + 1) ls) is
 
-phase_on : (r : Rules) (ls : List Line) (es : List Entry) (rest : List Line) (n at : ℕ) → DueSoFar r ls es (Phase ∷ rest) n at → DueSoFar r ls es rest (n + 1) at
+phase_on : (r : Rules) (ls : List Line) (es : List Entry) (rest : List Line) (n at : ℕ) → DueSoFar r ls es (Phase ∷ rest) n at →
+    DueSoFar r ls es rest (n + 1) at
 phase_on r ls es rest n at h = record { phase = h.phase + 1; met = h.met; asks = h.asks }
 
 here : {A : Type 0} (xs : List A) (at : ℕ) → slice_get xs (at + 0) ≡ slice_get xs at
 here xs at = ap (slice_get xs) (omega arith)
 
-due_here : (r : Rules) (ls : List Line) (es : List Entry) (rest : List Line) (n at thread : ℕ) (op : Op) → DueSoFar r ls es (Do thread op ∷ rest) n at → slice_get (due r 2 1 ls) at ≡ Some (n, thread)
+due_here : (r : Rules) (ls : List Line) (es : List Entry) (rest : List Line) (n at thread : ℕ) (op : Op) →
+    DueSoFar r ls es (Do thread op ∷ rest) n at → slice_get (due r 2 1 ls) at ≡ Some (n, thread)
 due_here r ls es rest n at thread op h = sym (here (due r 2 1 ls) at) ∙ h.asks 0
 
 op_on : (r : Rules) (ls : List Line) (es : List Entry) (rest : List Line) (n at thread : ℕ) (op : Op)
@@ -54,7 +60,8 @@ op_on r ls es rest n at thread op h is = record {
   asks = λ j. ap (slice_get (due r 2 1 ls)) (omega arith) ∙ h.asks (suc j);
 }
 
-op_not : (r : Rules) (ls : List Line) (es : List Entry) (rest : List Line) (n at thread : ℕ) (op : Op) → DueSoFar r ls es (Do thread op ∷ rest) n at
+op_not : (r : Rules) (ls : List Line) (es : List Entry) (rest : List Line) (n at thread : ℕ) (op : Op) →
+    DueSoFar r ls es (Do thread op ∷ rest) n at
     → (slice_get (map key_of_entry es) at ≡ Some (n, thread) → ⊥) → TellsFirst (λ i. LinesDemand r ls es (places.Record i)) (Some at)
 op_not r ls es rest n at thread op h other = (λ is. other (is ∙ due_here r ls es rest n at thread op h), h.met)
 
@@ -68,35 +75,42 @@ within [] i h e = omega (arith, h)
 within (x ∷ xs) zero h e = cc
 within (x ∷ xs) (suc i) h e = within xs i (omega (arith, h)) e
 
-over : (r : Rules) (ls : List Line) (es : List Entry) (n at : ℕ) → DueSoFar r ls es [] n at → at < length es → TellsFirst (λ i. LinesDemand r ls es (places.Record i)) (Some at)
+over : (r : Rules) (ls : List Line) (es : List Entry) (n at : ℕ) → DueSoFar r ls es [] n at → at < length es →
+    TellsFirst (λ i. LinesDemand r ls es (places.Record i)) (Some at)
 over r ls es n at h more = (
   λ is. within (map key_of_entry es) at (omega (arith, more, length_map key_of_entry es)) (is ∙ sym (here (due r 2 1 ls) at) ∙ h.asks 0),
   h.met,
 )
 
-all_due : (r : Rules) (ls : List Line) (es : List Entry) (n at : ℕ) → DueSoFar r ls es [] n at → length es ≤ at → TellsFirst (λ i. LinesDemand r ls es (places.Record i)) None
+all_due : (r : Rules) (ls : List Line) (es : List Entry) (n at : ℕ) → DueSoFar r ls es [] n at → length es ≤ at →
+    TellsFirst (λ i. LinesDemand r ls es (places.Record i)) None
 all_due r ls es n at h none i = elim (cases_lt i at) [
   | inl less ↦ h.met i less
   | inr least ↦
       let same : at + (i - at) ≡ i = omega (arith, least) in
-      past (map key_of_entry es) i (omega (arith, none, least, length_map key_of_entry es)) ∙ sym (h.asks (i - at)) ∙ ap (slice_get (due r 2 1 ls)) same
+      past (map key_of_entry es) i (omega (arith, none, least, length_map key_of_entry es)) ∙ sym (h.asks (i - at)) ∙
+      ap (slice_get (due r 2 1 ls)) same
 ]
 
 -- ---- the same at a place of the lines
 
 pub due_phase : (r : Rules) (ls : List Line) (es : List Entry) (i n at : ℕ) → i < length ls → get_or ls i Phase ≡ Phase
     → DueSoFar r ls es (drop i ls) n at → DueSoFar r ls es (drop (i + 1) ls) (n + 1) at
-due_phase r ls es i n at below is h = phase_on r ls es (drop (i + 1) ls) n at (subst (λ zs. DueSoFar r ls es zs n at) (line_here ls i Phase below is) h)
+due_phase r ls es i n at below is h =
+    phase_on r ls es (drop (i + 1) ls) n at (subst (λ zs. DueSoFar r ls es zs n at) (line_here ls i Phase below is) h)
 
-pub due_more : (r : Rules) (ls : List Line) (es : List Entry) (i n at thread : ℕ) (op : Op) → i < length ls → get_or ls i Phase ≡ Do thread op → DueSoFar r ls es (drop i ls) n at
+pub due_more : (r : Rules) (ls : List Line) (es : List Entry) (i n at thread : ℕ) (op : Op) → i < length ls →
+    get_or ls i Phase ≡ Do thread op → DueSoFar r ls es (drop i ls) n at
     → slice_get (map key_of_entry es) at ≡ Some (n, thread) → DueSoFar r ls es (drop (i + 1) ls) (n + 1) (at + 1)
 due_more r ls es i n at thread op below is h same =
     op_on r ls es (drop (i + 1) ls) n at thread op (subst (λ zs. DueSoFar r ls es zs n at) (line_here ls i (Do thread op) below is) h) same
 
-pub due_not : (r : Rules) (ls : List Line) (es : List Entry) (i n at thread : ℕ) (op : Op) → i < length ls → get_or ls i Phase ≡ Do thread op → DueSoFar r ls es (drop i ls) n at
+pub due_not : (r : Rules) (ls : List Line) (es : List Entry) (i n at thread : ℕ) (op : Op) → i < length ls →
+    get_or ls i Phase ≡ Do thread op → DueSoFar r ls es (drop i ls) n at
     → (slice_get (map key_of_entry es) at ≡ Some (n, thread) → ⊥) → TellsFirst (λ k. LinesDemand r ls es (places.Record k)) (Some at)
 due_not r ls es i n at thread op below is h other =
-    op_not r ls es (drop (i + 1) ls) n at thread op (subst (λ zs. DueSoFar r ls es zs n at) (line_here ls i (Do thread op) below is) h) other
+    op_not r ls es (drop (i + 1) ls) n at thread op
+    (subst (λ zs. DueSoFar r ls es zs n at) (line_here ls i (Do thread op) below is) h) other
 
 pub due_over : (r : Rules) (ls : List Line) (es : List Entry) (i n at : ℕ) → length ls ≤ i → DueSoFar r ls es (drop i ls) n at
     → at < length es → TellsFirst (λ k. LinesDemand r ls es (places.Record k)) (Some at)

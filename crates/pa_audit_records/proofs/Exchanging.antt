@@ -28,7 +28,8 @@ use Rattle.pa_lists.proofs.Tests.{met_more}
 
 -- ---- the records
 
-swap_asked : (cells : ℕ → List CellEntry) (op : Op) (answer : Answer) (line k reg : ℕ) → SwapFits cells op answer line → op ≡ Swap k reg → NamesExchange (cells k) answer line
+swap_asked : (cells : ℕ → List CellEntry) (op : Op) (answer : Answer) (line k reg : ℕ) → SwapFits cells op answer line → op ≡ Swap k reg →
+    NamesExchange (cells k) answer line
 swap_asked cells op answer line k reg fits is = subst (λ o. SwapFits cells o answer line) is fits
 
 pub swap_met : (cells : ℕ → List CellEntry) (ps : List Played) (i : ℕ) (d : Played) → i < length ps
@@ -37,7 +38,8 @@ swap_met cells ps i d below fits x k reg at op =
     let same : get_or ps i d ≡ x = of_some (get_or ps i d) x (sym (here_is ps i d below) ∙ at) in
     swap_asked cells x.op x.answer x.line k reg (subst (λ (z : Played). SwapFits cells z.op z.answer z.line) same fits) op
 
-swap_gives : (cells : ℕ → List CellEntry) (op : Op) (answer : Answer) (line : ℕ) → ((k reg : ℕ) → op ≡ Swap k reg → NamesExchange (cells k) answer line) → SwapFits cells op answer line
+swap_gives : (cells : ℕ → List CellEntry) (op : Op) (answer : Answer) (line : ℕ) →
+    ((k reg : ℕ) → op ≡ Swap k reg → NamesExchange (cells k) answer line) → SwapFits cells op answer line
 swap_gives cells (Swap k reg) answer line h = h k reg refl
 swap_gives cells op answer line h = tt
 
@@ -63,19 +65,22 @@ none_or_some (Some n) = inr refl
 
 pub exchange_fits : (cells : ℕ → List CellEntry) (ps : List Played) (known last : ℕ → Option ℕ) (phase : ℕ) (given : Held) (k j : ℕ)
     (e : CellEntry) (x : Played) → RiseByLine ps → AreLinesKnown cells known k j
-    → HasLatest ps (cells k) j last phase → WasGiven (cells k) j given → IsExchange cells k j e → IsRecordOfSwap ps k e x → FitsNow known last phase given e x → ExchangeFits cells ps k j e
-exchange_fits cells ps known last phase given k j e x rising lines latest was here (among, line, (reg, op)) (found, fresh, behind, later) = record {
-  found = subst (WasGiven (cells k) j) (sym found) was;
-  line = (x, reg, (among, line), op);
-  once = λ l i f at above same. false≢true (subst (λ z. IsSome z) fresh (subst (λ n. IsSome (known n)) same (lines.whole l i f at above)));
-  order = λ i m n a b at at' less among' is among'' is' before.
-      let (g, there, is-g) = map_at (λ (f : CellEntry). f.line) (cells k) i m at in
-      let (f, there', is-f) = map_at (λ (f : CellEntry). f.line) (cells k) j n at' in
-      let one : e ≡ f = one_at (cells k) j e f here there' in
-      let two : b ≡ x = one_line ps b x rising among'' among (is' ∙ sym is-f ∙ ap (λ (z : CellEntry). z.line) (sym one) ∙ sym line) in
-      let early : IsEarlier ps (cells k) j a = (i, g, less, there, among', is ∙ sym is-g) in
-      stands a early (subst (λ z. StandsBefore z a) two before);
-}
+    → HasLatest ps (cells k) j last phase → WasGiven (cells k) j given → IsExchange cells k j e → IsRecordOfSwap ps k e x →
+    FitsNow known last phase given e x → ExchangeFits cells ps k j e
+exchange_fits cells ps known last phase given k j e x rising lines latest was here (among, line, (reg, op)) (found, fresh, behind, later) =
+    record {
+      found = subst (WasGiven (cells k) j) (sym found) was;
+      line = (x, reg, (among, line), op);
+      once = λ l i f at above same. false≢true
+          (subst (λ z. IsSome z) fresh (subst (λ n. IsSome (known n)) same (lines.whole l i f at above)));
+      order = λ i m n a b at at' less among' is among'' is' before.
+          let (g, there, is-g) = map_at (λ (f : CellEntry). f.line) (cells k) i m at in
+          let (f, there', is-f) = map_at (λ (f : CellEntry). f.line) (cells k) j n at' in
+          let one : e ≡ f = one_at (cells k) j e f here there' in
+          let two : b ≡ x = one_line ps b x rising among'' among (is' ∙ sym is-f ∙ ap (λ (z : CellEntry). z.line) (sym one) ∙ sym line) in
+          let early : IsEarlier ps (cells k) j a = (i, g, less, there, among', is ∙ sym is-g) in
+          stands a early (subst (λ z. StandsBefore z a) two before);
+    }
   where
     stands : (a : Played) → IsEarlier ps (cells k) j a → StandsBefore x a → ⊥
     stands a early (inl (thread, less)) =
@@ -86,7 +91,8 @@ exchange_fits cells ps known last phase given k j e x rising lines latest was he
 
 pub fits_exchange : (cells : ℕ → List CellEntry) (ps : List Played) (known last : ℕ → Option ℕ) (phase : ℕ) (given : Held) (k j : ℕ)
     (e : CellEntry) → AreLinesKnown cells known k j → HasLatest ps (cells k) j last phase
-    → WasGiven (cells k) j given → IsExchange cells k j e → ExchangeFits cells ps k j e → (x : Played) × IsRecordOfSwap ps k e x × FitsNow known last phase given e x
+    → WasGiven (cells k) j given → IsExchange cells k j e → ExchangeFits cells ps k j e →
+    (x : Played) × IsRecordOfSwap ps k e x × FitsNow known last phase given e x
 fits_exchange cells ps known last phase given k j e lines latest was here h =
     let (x, reg, (among, line), op) = h.line in (
       x,
@@ -104,7 +110,8 @@ fits_exchange cells ps known last phase given k j e lines latest was here h =
 
     -- no record of an exchange so far comes after that of this one
     stands : (x y : Played) → Contains ps x → x.line ≡ e.line → IsEarlier ps (cells k) j y → StandsBefore x y → ⊥
-    stands x y among line (i, g, less, at, among', line') before = h.order i g.line e.line y x (at_map f (cells k) i g at) (at_map f (cells k) j e here) less among' line' among line before
+    stands x y among line (i, g, less, at, among', line') before =
+        h.order i g.line e.line y x (at_map f (cells k) i g at) (at_map f (cells k) j e here) less among' line' among line before
 
     fresh : (known e.line ≡ None) ⊎ IsSome (known e.line) → known e.line ≡ None
     fresh (inl none) = none
@@ -120,7 +127,8 @@ fits_exchange cells ps known last phase given k j e lines latest was here h =
           | inr most ↦ omega (arith, most, low)
         ]
 
-    later : (x : Played) → Contains ps x → x.line ≡ e.line → (phase ≡ 0) ⊎ ((y : Played) × IsEarlier ps (cells k) j y × (y.phase ≡ phase)) → phase ≤ x.phase
+    later : (x : Played) → Contains ps x → x.line ≡ e.line →
+        (phase ≡ 0) ⊎ ((y : Played) × IsEarlier ps (cells k) j y × (y.phase ≡ phase)) → phase ≤ x.phase
     later x among line (inl none) = omega (arith, none)
     later x among line (inr (y, early, mine)) = elim (cases_lt x.phase phase) [
       | inl less ↦ absurd (stands x y among line early (inr (omega (arith, less, mine))))
@@ -143,8 +151,10 @@ earlier_cases ps es j e x y rising here among line (i, g, less, at, among', line
       inr (one_line ps y x rising among' among (line' ∙ ap (λ (z : CellEntry). z.line) one ∙ sym line))
 ]
 
-latest_more : (ps : List Played) (es : List CellEntry) (j : ℕ) (e : CellEntry) (x : Played) (f g : ℕ → Option ℕ) (phase : ℕ) → RiseByLine ps → slice_get es j ≡ Some e → Contains ps x → x.line ≡ e.line
-    → unwrap_or (f x.thread) 0 ≤ x.line → phase ≤ x.phase → Puts f g x.thread x.line → HasLatest ps es j f phase → HasLatest ps es (j + 1) g x.phase
+latest_more : (ps : List Played) (es : List CellEntry) (j : ℕ) (e : CellEntry) (x : Played) (f g : ℕ → Option ℕ) (phase : ℕ) →
+    RiseByLine ps → slice_get es j ≡ Some e → Contains ps x → x.line ≡ e.line
+    → unwrap_or (f x.thread) 0 ≤ x.line → phase ≤ x.phase → Puts f g x.thread x.line → HasLatest ps es j f phase →
+    HasLatest ps es (j + 1) g x.phase
 latest_more ps es j e x f g phase rising here among line behind later puts h = record {
   lines = λ y early. elim (earlier_cases ps es j e x y rising here among line early) [
     | inl before ↦
@@ -173,7 +183,8 @@ latest_more ps es j e x f g phase rising here among line behind later puts h = r
   phase_of = inr (x, (j, e, omega arith, here, among, line), refl);
 }
 
-known_more : (cells : ℕ → List CellEntry) (f g : ℕ → Option ℕ) (k j v : ℕ) (e : CellEntry) → IsExchange cells k j e → Puts f g e.line v → AreLinesKnown cells f k j → AreLinesKnown cells g k (j + 1)
+known_more : (cells : ℕ → List CellEntry) (f g : ℕ → Option ℕ) (k j v : ℕ) (e : CellEntry) → IsExchange cells k j e → Puts f g e.line v →
+    AreLinesKnown cells f k j → AreLinesKnown cells g k (j + 1)
 known_more cells f g k j v e here puts h = record {
   whole = λ l i d at above. go l i d at above;
   only = λ n some. elim (cases_eq n e.line) [
@@ -205,7 +216,8 @@ known_more cells f g k j v e here puts h = record {
     ]
 
 -- What is known along cell k, before its exchange j.
-pub record CellSoFar (cells : ℕ → List CellEntry) (ps : List Played) (known last : ℕ → Option ℕ) (phase : ℕ) (given : Held) (k j : ℕ) : Type 0 where
+pub record CellSoFar (cells : ℕ → List CellEntry) (ps : List Played) (known last : ℕ → Option ℕ) (phase : ℕ) (given : Held)
+    (k j : ℕ) : Type 0 where
   pub met : (i : ℕ) → i < j → CellsDemand cells ps (places.Cell k i)
   pub lines : AreLinesKnown cells known k j
   pub latest : HasLatest ps (cells k) j last phase
@@ -225,7 +237,8 @@ cell_start cells ps known last k lines none = record {
   was = refl;
 }
 
-pub cell_more : (cells : ℕ → List CellEntry) (ps : List Played) (known known' last last' : ℕ → Option ℕ) (phase v : ℕ) (given : Held) (k j : ℕ) (e : CellEntry) (x : Played) → RiseByLine ps
+pub cell_more : (cells : ℕ → List CellEntry) (ps : List Played) (known known' last last' : ℕ → Option ℕ) (phase v : ℕ) (given : Held)
+    (k j : ℕ) (e : CellEntry) (x : Played) → RiseByLine ps
     → CellSoFar cells ps known last phase given k j → IsExchange cells k j e → IsRecordOfSwap ps k e x
     → FitsNow known last phase given e x → Puts known known' e.line v → Puts last last' x.thread x.line
     → CellSoFar cells ps known' last' x.phase e.gave k (j + 1)
@@ -249,7 +262,8 @@ cell_not cells ps known last phase given k j e h here none asks =
     none x taken fits
 
 -- at the end of the cell its lines are known
-pub cell_end : (cells : ℕ → List CellEntry) (known : ℕ → Option ℕ) (k n : ℕ) → length (cells k) ≤ n → AreLinesKnown cells known k n → AreLinesKnown cells known (k + 1) 0
+pub cell_end : (cells : ℕ → List CellEntry) (known : ℕ → Option ℕ) (k n : ℕ) → length (cells k) ≤ n → AreLinesKnown cells known k n →
+    AreLinesKnown cells known (k + 1) 0
 cell_end cells known k n end h = record {
   whole = λ l i f at above. h.whole l i f at (back l i f at above);
   only = λ m some. let (l, i, f, at, above, line) = h.only m some in (l, i, f, at, on l i above, line);
@@ -284,7 +298,8 @@ known_none cells known none = record {
 -- ---- the record of a line
 
 -- no other record of the line exchanges with the cell
-pub swap_none : (ps : List Played) (n i k : ℕ) (d x : Played) → RiseByLine ps → IsOnLine ps n i → (IsSwapOf k (get_or ps i d).op → ⊥) → Contains ps x → x.line ≡ n → IsSwapOf k x.op → ⊥
+pub swap_none : (ps : List Played) (n i k : ℕ) (d x : Played) → RiseByLine ps → IsOnLine ps n i → (IsSwapOf k (get_or ps i d).op → ⊥) →
+    Contains ps x → x.line ≡ n → IsSwapOf k x.op → ⊥
 swap_none ps n i k d x rising on none among line swap =
     let (mine, is) = line_is ps n i d on in
     none (subst (λ (z : Played). IsSwapOf k z.op) (one_line ps x (get_or ps i d) rising among mine (line ∙ sym is)) swap)
@@ -297,7 +312,8 @@ taken_none ps known last phase given k e told x rising (among, line, swap) none 
 
 -- ---- the histories in their list
 
-pub history_is : (cells : List (List CellEntry)) (k : ℕ) (es : List CellEntry) → k < length cells → es ≡ get_or cells k es → es ≡ history_at cells k
+pub history_is : (cells : List (List CellEntry)) (k : ℕ) (es : List CellEntry) → k < length cells →
+    es ≡ get_or cells k es → es ≡ history_at cells k
 history_is [] k es below is = absurd (omega (arith, below))
 history_is (x ∷ xs) zero es below is = is
 history_is (x ∷ xs) (suc k) es below is = history_is xs k es (omega (arith, below)) is
@@ -307,12 +323,14 @@ history_past [] k j e end at = not_some e at
 history_past (x ∷ xs) zero j e end at = omega (arith, end)
 history_past (x ∷ xs) (suc k) j e end at = history_past xs k j e (omega (arith, end)) at
 
-pub exchange_here : (cells : List (List CellEntry)) (k j : ℕ) (es : List CellEntry) (d : CellEntry) → es ≡ history_at cells k → j < length es → IsExchange (history_at cells) k j (get_or es j d)
+pub exchange_here : (cells : List (List CellEntry)) (k j : ℕ) (es : List CellEntry) (d : CellEntry) → es ≡ history_at cells k →
+    j < length es → IsExchange (history_at cells) k j (get_or es j d)
 exchange_here cells k j es d same below = subst (λ zs. slice_get zs j ≡ Some (get_or es j d)) same (here_is es j d below)
 
 -- ---- the walk over the cells
 
-pub pair_at : (P : ℕ → ℕ → Type 0) (k j : ℕ) (o : Option ℕ) → o ≡ Some j → ((l i : ℕ) → l < k → P l i) → TellsFirst (P k) o → TellsPair P (Some (k, j))
+pub pair_at : (P : ℕ → ℕ → Type 0) (k j : ℕ) (o : Option ℕ) → o ≡ Some j → ((l i : ℕ) → l < k → P l i) →
+    TellsFirst (P k) o → TellsPair P (Some (k, j))
 pair_at P k j o is met tells =
     let (unmet, before) = subst (TellsFirst (P k)) is tells in
     (unmet, λ l i above. go before l i above)
@@ -321,7 +339,8 @@ pair_at P k j o is met tells =
     go before l i (inl less) = met l i less
     go before l i (inr (same, less)) = subst (λ z. P z i) (sym same) (before i less)
 
-pub cells_more : (P : ℕ → ℕ → Type 0) (k : ℕ) (o : Option ℕ) → o ≡ None → ((l i : ℕ) → l < k → P l i) → TellsFirst (P k) o → (l i : ℕ) → l < k + 1 → P l i
+pub cells_more : (P : ℕ → ℕ → Type 0) (k : ℕ) (o : Option ℕ) → o ≡ None → ((l i : ℕ) → l < k → P l i) →
+    TellsFirst (P k) o → (l i : ℕ) → l < k + 1 → P l i
 cells_more P k o none met tells l i less = elim (cases_lt l k) [
   | inl early ↦ met l i early
   | inr late ↦

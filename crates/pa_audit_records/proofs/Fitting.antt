@@ -26,7 +26,8 @@ use Rattle.pa_rules.proofs.Rising.{rises}
 
 -- ---- what the clause asks for, by the tables
 
-slot_met_at : (ps : List Played) (firsts reached : ℕ → Option ℕ) (i : ℕ) (d : Played) → RiseByLine ps → AreFirsts ps firsts → AreReached ps reached → i < length ps
+slot_met_at : (ps : List Played) (firsts reached : ℕ → Option ℕ) (i : ℕ) (d : Played) → RiseByLine ps → AreFirsts ps firsts →
+    AreReached ps reached → i < length ps
     → MarkFits firsts reached i (mark_of (get_or ps i d)) → SlotsDemand ps (places.Record i)
 slot_met_at ps firsts reached i d rising f r below fits x m at is =
     let here = here_is ps i d below in
@@ -43,13 +44,15 @@ slot_met_at ps firsts reached i d rising f r below fits x m at is =
           (first_is ps firsts m.slot m.found i d m p rising f sized first tells made, can),
     )
 
-pub slot_met : (ps : List Played) (firsts reached : ℕ → Option ℕ) (i at : ℕ) (d : Played) → at ≡ i → RiseByLine ps → AreFirsts ps firsts → AreReached ps reached → i < length ps
+pub slot_met : (ps : List Played) (firsts reached : ℕ → Option ℕ) (i at : ℕ) (d : Played) → at ≡ i → RiseByLine ps → AreFirsts ps firsts →
+    AreReached ps reached → i < length ps
     → MarkFits firsts reached at (mark_of (get_or ps i d)) → SlotsDemand ps (places.Record i)
 slot_met ps firsts reached i at d same rising f r below fits =
     slot_met_at ps firsts reached i d rising f r below (subst (λ k. MarkFits firsts reached k (mark_of (get_or ps i d))) same fits)
 
 -- the table's record of a first step is the one that made it
-mine_is : (ps : List Played) (firsts : ℕ → Option ℕ) (i : ℕ) (x : Played) (m : Mark) (p : Step) → RiseByLine ps → AreFirsts ps firsts → IsRecord ps i x → mark_of x ≡ Some m → IsSized m.slot m.found
+mine_is : (ps : List Played) (firsts : ℕ → Option ℕ) (i : ℕ) (x : Played) (m : Mark) (p : Step) → RiseByLine ps → AreFirsts ps firsts →
+    IsRecord ps i x → mark_of x ≡ Some m → IsSized m.slot m.found
     → IsFirstAt (marks_of ps) m.slot m.found m p → (o : Option ℕ) → firsts (word_key m.slot m.found) ≡ o → o ≡ Some i
 mine_is ps firsts i x m p rising f here is sized first None e = absurd (first_none ps firsts m.slot m.found m p f e first)
 mine_is ps firsts i x m p rising f here is sized first (Some j) e =
@@ -67,8 +70,10 @@ mine_is ps firsts i x m p rising f here is sized first (Some j) e =
       | inr most ↦ let same : j ≡ i = omega (arith, low, most) in ap {B = Option ℕ} (λ z. Some z) same
     ]
 
-step_fits : (ps : List Played) (firsts : ℕ → Option ℕ) (i : ℕ) (x : Played) (m : Mark) → RiseByLine ps → AreFirsts ps firsts → IsRecord ps i x → mark_of x ≡ Some m → IsSized m.slot m.found
-    → ((p : Step) → m.step ≡ Some p → IsFirstAt (marks_of ps) m.slot m.found m p × CanStep p m.found) → (o : Option Step) → m.step ≡ o → StepFits firsts i m o
+step_fits : (ps : List Played) (firsts : ℕ → Option ℕ) (i : ℕ) (x : Played) (m : Mark) → RiseByLine ps → AreFirsts ps firsts →
+    IsRecord ps i x → mark_of x ≡ Some m → IsSized m.slot m.found
+    → ((p : Step) → m.step ≡ Some p → IsFirstAt (marks_of ps) m.slot m.found m p × CanStep p m.found) → (o : Option Step) →
+    m.step ≡ o → StepFits firsts i m o
 step_fits ps firsts i x m rising f here is sized used None e = tt
 step_fits ps firsts i x m rising f here is sized used (Some p) e =
     let (first, can) = used p e in
@@ -99,7 +104,8 @@ slot_fits ps firsts reached i at d same rising f r all below asks =
 abbrev pub HasSlotsBelow : List Played → (ℕ → Option ℕ) → ℕ → Type 0
 HasSlotsBelow ps at n = (i : ℕ) (x : Played) (m : Mark) → i < n → IsRecord ps i x → mark_of x ≡ Some m → IsSome (at (word_key m.slot 0))
 
-pub slots_more : (ps : List Played) (firsts before at : ℕ → Option ℕ) (n : ℕ) (d : Played) → n < length ps → AreFirsts ps firsts → HasSlotsBelow ps before n
+pub slots_more : (ps : List Played) (firsts before at : ℕ → Option ℕ) (n : ℕ) (d : Played) → n < length ps →
+    AreFirsts ps firsts → HasSlotsBelow ps before n
     → ((t : SlotName) → t.start < 4294967296 → IsSome (before (word_key t 0)) → IsSome (at (word_key t 0)))
     → ((m : Mark) → mark_of (get_or ps n d) ≡ Some m → IsSome (at (word_key m.slot 0))) → HasSlotsBelow ps at (n + 1)
 slots_more ps firsts before at n d below f h kept new i x m less here is = elim (cases_lt i n) [
@@ -125,15 +131,18 @@ pub record RunsSoFar (ps : List Played) (at : ℕ → Option ℕ) (n : ℕ) : Ty
   pub runs : AreReached ps at
   pub all : HasSlotsBelow ps at n
 
-pub runs_told : (ps : List Played) (firsts before at : ℕ → Option ℕ) (n : ℕ) (d : Played) (told : Mark) → n < length ps → AreFirsts ps firsts → RunsSoFar ps before n → AreReached ps at
+pub runs_told : (ps : List Played) (firsts before at : ℕ → Option ℕ) (n : ℕ) (d : Played) (told : Mark) → n < length ps →
+    AreFirsts ps firsts → RunsSoFar ps before n → AreReached ps at
     → ((t : SlotName) → t.start < 4294967296 → IsSome (before (word_key t 0)) → IsSome (at (word_key t 0)))
     → mark_of (get_or ps n d) ≡ Some told → IsSome (at (word_key told.slot 0)) → RunsSoFar ps at (n + 1)
 runs_told ps firsts before at n d told below f h runs kept tells some = record {
   runs = runs;
-  all = slots_more ps firsts before at n d below f h.all kept (λ m is. subst (λ (z : Mark). IsSome (at (word_key z.slot 0))) (of_some told m (sym tells ∙ is)) some);
+  all = slots_more ps firsts before at n d below f h.all kept
+      (λ m is. subst (λ (z : Mark). IsSome (at (word_key z.slot 0))) (of_some told m (sym tells ∙ is)) some);
 }
 
-pub runs_quiet : (ps : List Played) (firsts at : ℕ → Option ℕ) (n : ℕ) (d : Played) → n < length ps → AreFirsts ps firsts → RunsSoFar ps at n → mark_of (get_or ps n d) ≡ None → RunsSoFar ps at (n + 1)
+pub runs_quiet : (ps : List Played) (firsts at : ℕ → Option ℕ) (n : ℕ) (d : Played) → n < length ps → AreFirsts ps firsts →
+    RunsSoFar ps at n → mark_of (get_or ps n d) ≡ None → RunsSoFar ps at (n + 1)
 runs_quiet ps firsts at n d below f h none = record {
   runs = h.runs;
   all = slots_more ps firsts at at n d below f h.all (λ t low some. some) (λ m is. absurd (not_some m (sym none ∙ is)));

@@ -48,7 +48,8 @@ taken (y ∷ ys) zero j x at = absurd (not_some x at)
 taken (y ∷ ys) (suc n) zero x at = (omega arith, at)
 taken (y ∷ ys) (suc n) (suc j) x at = let (less, there) = taken ys n j x at in (omega (arith, less), there)
 
-lines_before : (ps : List Played) (i : ℕ) (x : Played) (m : Mark) → RiseByLine ps → IsRecord ps i x → mark_of x ≡ Some m → (k : Mark) → Contains (marks_of (take i ps)) k → k.line < m.line
+lines_before : (ps : List Played) (i : ℕ) (x : Played) (m : Mark) → RiseByLine ps → IsRecord ps i x → mark_of x ≡ Some m → (k : Mark) →
+    Contains (marks_of (take i ps)) k → k.line < m.line
 lines_before ps i x m rising here is k among =
     let (y, member, is') = mark_from (take i ps) k among in
     let (j, at) = in_at (take i ps) y member in
@@ -56,9 +57,11 @@ lines_before ps i x m rising here is k among =
     let line : y.line < x.line = rises ps j i y x rising at' here less in
     omega (arith, line, mark_line x m is, mark_line y k is')
 
-marks_more : (ps : List Played) (i : ℕ) (d : Played) (o : Option Mark) → i < length ps → mark_of (get_or ps i d) ≡ o → marks_of (take (i + 1) ps) ≡ marks_of (take i ps) ++ cons_option o []
+marks_more : (ps : List Played) (i : ℕ) (d : Played) (o : Option Mark) → i < length ps → mark_of (get_or ps i d) ≡ o →
+    marks_of (take (i + 1) ps) ≡ marks_of (take i ps) ++ cons_option o []
 marks_more ps i d o below is =
-    ap marks_of (take_more ps i d below) ∙ filter_map-append mark_of (take i ps) (get_or ps i d ∷ []) ∙ ap (λ z. marks_of (take i ps) ++ cons_option z []) is
+    ap marks_of (take_more ps i d below) ∙ filter_map-append mark_of (take i ps) (get_or ps i d ∷ []) ∙
+    ap (λ z. marks_of (take i ps) ++ cons_option z []) is
 
 -- ---- the walk along the records
 
@@ -72,17 +75,21 @@ along_start ps f none = runs_none (word_by f) (word_none f none)
 pub along_told : (ps : List Played) (before after : SlotName → ℕ) (i : ℕ) (d : Played) (m : Mark) → RiseByLine ps → i < length ps
     → mark_of (get_or ps i d) ≡ Some m → LeadsOn before after m.slot m.found m.step → RunsTo ps i before →
     RunsTo ps (i + 1) after
-along_told ps before after i d m rising below is goes h = subst (λ ms. HasRuns ms after) (sym (marks_more ps i d (Some m) below is)) (go m.step refl goes)
+along_told ps before after i d m rising below is goes h =
+    subst (λ ms. HasRuns ms after) (sym (marks_more ps i d (Some m) below is)) (go m.step refl goes)
   where
     early : (k : Mark) → Contains (marks_of (take i ps)) k → k.line < m.line
     early = lines_before ps i (get_or ps i d) m rising (here_is ps i d below) is
 
     go : (o : Option Step) → m.step ≡ o → LeadsOn before after m.slot m.found o → HasRuns (marks_of (take i ps) ++ m ∷ []) after
-    go None e (found, same) = runs_same (marks_of (take i ps) ++ m ∷ []) before after same (runs_look (marks_of (take i ps)) m before early found e h)
+    go None e (found, same) =
+        runs_same (marks_of (take i ps) ++ m ∷ []) before after same (runs_look (marks_of (take i ps)) m before early found e h)
     go (Some p) e (found, can, next, other) = runs_step (marks_of (take i ps)) m p before after early found e can next other h
 
-pub along_quiet : (ps : List Played) (word : SlotName → ℕ) (i : ℕ) (d : Played) → i < length ps → mark_of (get_or ps i d) ≡ None → RunsTo ps i word → RunsTo ps (i + 1) word
-along_quiet ps word i d below is h = subst (λ ms. HasRuns ms word) (sym (marks_more ps i d None below is ∙ append-nil (marks_of (take i ps)))) h
+pub along_quiet : (ps : List Played) (word : SlotName → ℕ) (i : ℕ) (d : Played) → i < length ps → mark_of (get_or ps i d) ≡ None →
+    RunsTo ps i word → RunsTo ps (i + 1) word
+along_quiet ps word i d below is h =
+    subst (λ ms. HasRuns ms word) (sym (marks_more ps i d None below is ∙ append-nil (marks_of (take i ps)))) h
 
 pub along_end : (ps : List Played) (word : SlotName → ℕ) (i : ℕ) → length ps ≤ i → RunsTo ps i word → Slots (marks_of ps)
 along_end ps word i end h = slots_of_runs (marks_of ps) word (subst (λ qs. HasRuns (marks_of qs) word) (take_all i ps end) h)

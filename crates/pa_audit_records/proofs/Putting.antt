@@ -22,7 +22,8 @@ unsalted salt key = xor_assoc key salt salt ∙ ap (bit_xor key) (xor_self salt)
 salted_apart : (salt k q : ℕ) → (q ≡ k → ⊥) → nat_eq (bit_xor k salt) (bit_xor q salt) ≡ false
 salted_apart salt k q apart = ne_eqb _ _ (λ same. apart (sym (unsalted salt q) ∙ ap (λ n. bit_xor n salt) (sym same) ∙ unsalted salt k))
 
-pub salted_put : {V : Type 0} (f g : ℕ → Option V) (salt k : ℕ) (v : V) → g (bit_xor k salt) ≡ Some v → ((q : ℕ) → nat_eq (bit_xor k salt) q ≡ false → g q ≡ f q) →
+pub salted_put : {V : Type 0} (f g : ℕ → Option V) (salt k : ℕ) (v : V) → g (bit_xor k salt) ≡ Some v →
+    ((q : ℕ) → nat_eq (bit_xor k salt) q ≡ false → g q ≡ f q) →
     Puts (λ q. f (bit_xor q salt)) (λ q. g (bit_xor q salt)) k v
 salted_put f g salt k v here other = record { here = here; other = λ q apart. other (bit_xor q salt) (salted_apart salt k q apart) }
 
@@ -39,13 +40,16 @@ used_front : (x : Played) (rest : List Played) (seen : Seen) (usable : ℕ) (f g
     → seen.slot.start < 4294967296 → Puts f g (name_key seen.slot) usable → AreUsables rest f →
     AreUsables (x ∷ rest) g
 used_front x rest seen usable f g is start puts h s within =
-    let at : usable_in (x ∷ rest) s ≡ (if same_slot seen.slot s then usable else usable_in rest s) = ap (λ a. usable_or (made_of a) s (usable_in rest s)) is in
+    let at : usable_in (x ∷ rest) s ≡ (if same_slot seen.slot s then usable else usable_in rest s) =
+    ap (λ a. usable_or (made_of a) s (usable_in rest s)) is in
     elim (same_slot_cases seen.slot s) [
       | inl same ↦
-          let one : unwrap_or (g (name_key s)) 0 ≡ usable = ap (λ z. unwrap_or (g (name_key z)) 0) (sym same) ∙ ap (λ o. unwrap_or o 0) puts.here in
+          let one : unwrap_or (g (name_key s)) 0 ≡ usable =
+          ap (λ z. unwrap_or (g (name_key z)) 0) (sym same) ∙ ap (λ o. unwrap_or o 0) puts.here in
           one ∙ sym (at ∙ rw (same_slot_yes seen.slot s same) refl)
       | inr other ↦
-          let one : unwrap_or (g (name_key s)) 0 ≡ usable_in rest s = ap (λ o. unwrap_or o 0) (puts.other (name_key s) (λ e. other (sym (same_key s seen.slot within start e)))) ∙ h s within in
+          let one : unwrap_or (g (name_key s)) 0 ≡ usable_in rest s =
+          ap (λ o. unwrap_or o 0) (puts.other (name_key s) (λ e. other (sym (same_key s seen.slot within start e)))) ∙ h s within in
           one ∙ sym (at ∙ rw (same_slot_no seen.slot s other) refl)
     ]
 

@@ -20,44 +20,53 @@ use Rattle.pa_audit_records.specs.Cuts.{RiseByPhase}
 use Rattle.pa_audit_records.specs.Rows.{NamesRegisters, IsPlayedWithin}
 use Rattle.pa_audit_records.specs.Limits.{RecordsAreWithin}
 
-not_below : (rules : Rules) (n phase : ℕ) (ls : List Line) (es : List Entry) (x : Played) → Contains (map beside (zip (op_lines rules n phase ls) es)) x → n ≤ x.line
+not_below : (rules : Rules) (n phase : ℕ) (ls : List Line) (es : List Entry) (x : Played) →
+    Contains (map beside (zip (op_lines rules n phase ls) es)) x → n ≤ x.line
 not_below rules n phase [] es x among = absurd (not_in_none x among)
 not_below rules n phase (Phase ∷ ls) es x among = let low = not_below rules (n + 1) (phase + 1) ls es x among in omega (arith, low)
 not_below rules n phase (Do thread op ∷ ls) [] x among = absurd (not_in_none x among)
 not_below rules n phase (Do thread op ∷ ls) (e ∷ es) x among =
-    elim (in_cases (beside (record { line = n; thread = thread; phase = phase; rules = rules; op = op }, e)) x (map beside (zip (op_lines rules (n + 1) phase ls) es)) among) [
+    elim (in_cases (beside (record { line = n; thread = thread; phase = phase; rules = rules; op = op }, e)) x
+    (map beside (zip (op_lines rules (n + 1) phase ls) es)) among) [
       | inl same ↦ let line = ap (λ (z : Played). z.line) same in omega (arith, line)
       | inr rest ↦ let low = not_below rules (n + 1) phase ls es x rest in omega (arith, low)
     ]
 
-rising_from : (rules : Rules) (n phase : ℕ) (ls : List Line) (es : List Entry) → RiseByLine (map beside (zip (op_lines rules n phase ls) es))
+rising_from : (rules : Rules) (n phase : ℕ) (ls : List Line) (es : List Entry) →
+    RiseByLine (map beside (zip (op_lines rules n phase ls) es))
 rising_from rules n phase [] es = pairs_none (λ (x y : Played). x.line < y.line)
 rising_from rules n phase (Phase ∷ ls) es = rising_from rules (n + 1) (phase + 1) ls es
 rising_from rules n phase (Do thread op ∷ ls) [] = pairs_none (λ (x y : Played). x.line < y.line)
 rising_from rules n phase (Do thread op ∷ ls) (e ∷ es) =
-    pairs_cons (λ (x y : Played). x.line < y.line) (beside (record { line = n; thread = thread; phase = phase; rules = rules; op = op }, e)) (map beside (zip (op_lines rules (n + 1) phase ls) es))
+    pairs_cons (λ (x y : Played). x.line < y.line) (beside (record { line = n; thread = thread; phase = phase; rules = rules; op = op }, e))
+    (map beside (zip (op_lines rules (n + 1) phase ls) es))
     (λ y among. let low = not_below rules (n + 1) phase ls es y among in omega (arith, low))
     (rising_from rules (n + 1) phase ls es)
 
 pub rising_played : (rules : Rules) (ls : List Line) (es : List Entry) → RiseByLine (played rules ls es)
 rising_played rules ls es = rising_from rules 2 1 ls es
 
-no_earlier : (rules : Rules) (n phase : ℕ) (ls : List Line) (es : List Entry) (x : Played) → Contains (map beside (zip (op_lines rules n phase ls) es)) x → phase ≤ x.phase
+no_earlier : (rules : Rules) (n phase : ℕ) (ls : List Line) (es : List Entry) (x : Played) →
+    Contains (map beside (zip (op_lines rules n phase ls) es)) x → phase ≤ x.phase
 no_earlier rules n phase [] es x among = absurd (not_in_none x among)
 no_earlier rules n phase (Phase ∷ ls) es x among = let low = no_earlier rules (n + 1) (phase + 1) ls es x among in omega (arith, low)
 no_earlier rules n phase (Do thread op ∷ ls) [] x among = absurd (not_in_none x among)
 no_earlier rules n phase (Do thread op ∷ ls) (e ∷ es) x among =
-    elim (in_cases (beside (record { line = n; thread = thread; phase = phase; rules = rules; op = op }, e)) x (map beside (zip (op_lines rules (n + 1) phase ls) es)) among) [
+    elim (in_cases (beside (record { line = n; thread = thread; phase = phase; rules = rules; op = op }, e)) x
+    (map beside (zip (op_lines rules (n + 1) phase ls) es)) among) [
       | inl same ↦ let is = ap (λ (z : Played). z.phase) same in omega (arith, is)
       | inr rest ↦ no_earlier rules (n + 1) phase ls es x rest
     ]
 
-phased_from : (rules : Rules) (n phase : ℕ) (ls : List Line) (es : List Entry) → RiseByPhase (map beside (zip (op_lines rules n phase ls) es))
+phased_from : (rules : Rules) (n phase : ℕ) (ls : List Line) (es : List Entry) →
+    RiseByPhase (map beside (zip (op_lines rules n phase ls) es))
 phased_from rules n phase [] es = pairs_none (λ (x y : Played). x.phase ≤ y.phase)
 phased_from rules n phase (Phase ∷ ls) es = phased_from rules (n + 1) (phase + 1) ls es
 phased_from rules n phase (Do thread op ∷ ls) [] = pairs_none (λ (x y : Played). x.phase ≤ y.phase)
 phased_from rules n phase (Do thread op ∷ ls) (e ∷ es) =
-    pairs_cons (λ (x y : Played). x.phase ≤ y.phase) (beside (record { line = n; thread = thread; phase = phase; rules = rules; op = op }, e)) (map beside (zip (op_lines rules (n + 1) phase ls) es))
+    pairs_cons (λ (x y : Played). x.phase ≤ y.phase)
+    (beside (record { line = n; thread = thread; phase = phase; rules = rules; op = op }, e))
+    (map beside (zip (op_lines rules (n + 1) phase ls) es))
     (λ y among. no_earlier rules (n + 1) phase ls es y among)
     (phased_from rules (n + 1) phase ls es)
 
@@ -74,10 +83,12 @@ names partitions (ops.Read reg place) h = h.0
 names partitions (ops.Swap cell reg) h = h.1
 names partitions ops.Purge h = tt
 
-within_from : (rules : Rules) (partitions threads n phase : ℕ) (ls : List Line) (es : List Entry) (x : Played) → threads ≤ 16 → AllByRecursion (IsLineWithin partitions threads) ls
+within_from : (rules : Rules) (partitions threads n phase : ℕ) (ls : List Line) (es : List Entry) (x : Played) → threads ≤ 16 →
+    AllByRecursion (IsLineWithin partitions threads) ls
     → Contains (map beside (zip (op_lines rules n phase ls) es)) x → IsPlayedWithin x
 within_from rules partitions threads n phase [] es x few h among = absurd (not_in_none x among)
-within_from rules partitions threads n phase (Phase ∷ ls) es x few h among = within_from rules partitions threads (n + 1) (phase + 1) ls es x few h.1 among
+within_from rules partitions threads n phase (Phase ∷ ls) es x few h among =
+    within_from rules partitions threads (n + 1) (phase + 1) ls es x few h.1 among
 within_from rules partitions threads n phase (Do thread op ∷ ls) [] x few h among = absurd (not_in_none x among)
 within_from rules partitions threads n phase (Do thread op ∷ ls) (e ∷ es) x few h among =
     let first : Played = beside (record { line = n; thread = thread; phase = phase; rules = rules; op = op }, e) in

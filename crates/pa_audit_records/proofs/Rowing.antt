@@ -31,7 +31,8 @@ by_less k hit miss less = rw (lt-ltb k 64 less) refl
 by_more : {A : Type 0} (k : ℕ) (hit miss : A) → 64 ≤ k → (if nat_lt k 64 then hit else miss) ≡ miss
 by_more k hit miss more = rw (le-ltb k 64 more) refl
 
-pub set_register : (list : List Reg) (t r : ℕ) (holds : Reg) → 64 * t + r < length list → r < 64 → AreRegsOf (set list (64 * t + r) holds) (with_register (regs_in list) t r holds)
+pub set_register : (list : List Reg) (t r : ℕ) (holds : Reg) → 64 * t + r < length list → r < 64 →
+    AreRegsOf (set list (64 * t + r) holds) (with_register (regs_in list) t r holds)
 set_register list t r holds below within u k = elim (cases_lt k 64) [
   | inl less ↦ elim (cases_eq u t) [
     | inl same ↦ elim (cases_eq k r) [
@@ -40,13 +41,16 @@ set_register list t r holds below within u k = elim (cases_lt k 64) [
           let one : regs_in (set list (64 * t + r) holds) u k ≡ holds =
           by_less k (get_or (set list (64 * t + r) holds) (64 * u + k) Empty) Empty less
           ∙ ap (λ z. get_or (set list (64 * t + r) holds) z Empty) at ∙ get_or-set_same list (64 * t + r) holds Empty below in
-          one ∙ sym (ap (λ (z : Regs). z k) (by_test u t (with (regs_in list t) r holds) (regs_in list u) same) ∙ by_test k r holds (regs_in list t k) here)
+          one ∙ sym (ap (λ (z : Regs). z k) (by_test u t (with (regs_in list t) r holds) (regs_in list u) same) ∙
+          by_test k r holds (regs_in list t k) here)
       | inr other ↦
           let at : 64 * u + k ≡ 64 * t + r → ⊥ = λ e. other (omega (arith, same, e)) in
           let one : regs_in (set list (64 * t + r) holds) u k ≡ regs_in list t k =
           by_less k (get_or (set list (64 * t + r) holds) (64 * u + k) Empty) Empty less
-          ∙ get_or-set_other list (64 * t + r) (64 * u + k) holds Empty at ∙ ap (λ n. get_or list (64 * n + k) Empty) same ∙ sym (by_less k (get_or list (64 * t + k) Empty) Empty less) in
-          one ∙ sym (ap (λ (z : Regs). z k) (by_test u t (with (regs_in list t) r holds) (regs_in list u) same) ∙ by_not k r holds (regs_in list t k) other)
+          ∙ get_or-set_other list (64 * t + r) (64 * u + k) holds Empty at ∙ ap (λ n. get_or list (64 * n + k) Empty) same ∙
+          sym (by_less k (get_or list (64 * t + k) Empty) Empty less) in
+          one ∙ sym (ap (λ (z : Regs). z k) (by_test u t (with (regs_in list t) r holds) (regs_in list u) same) ∙
+          by_not k r holds (regs_in list t k) other)
     ]
     | inr other ↦
         let at : 64 * u + k ≡ 64 * t + r → ⊥ = λ e. other (omega (arith, less, within, e)) in
@@ -56,11 +60,13 @@ set_register list t r holds below within u k = elim (cases_lt k 64) [
         one ∙ sym (ap (λ (z : Regs). z k) (by_not u t (with (regs_in list t) r holds) (regs_in list u) other))
   ]
   | inr more ↦
-      let one : regs_in (set list (64 * t + r) holds) u k ≡ Empty = by_more k (get_or (set list (64 * t + r) holds) (64 * u + k) Empty) Empty more in
+      let one : regs_in (set list (64 * t + r) holds) u k ≡ Empty =
+      by_more k (get_or (set list (64 * t + r) holds) (64 * u + k) Empty) Empty more in
       let old : (v : ℕ) → regs_in list v k ≡ Empty = λ v. by_more k (get_or list (64 * v + k) Empty) Empty more in
       let apart : k ≡ r → ⊥ = λ e. omega (arith, e, more, within) in
       one ∙ sym (elim (cases_eq u t) [
-        | inl same ↦ ap (λ (z : Regs). z k) (by_test u t (with (regs_in list t) r holds) (regs_in list u) same) ∙ by_not k r holds (regs_in list t k) apart ∙ old t
+        | inl same ↦ ap (λ (z : Regs). z k) (by_test u t (with (regs_in list t) r holds) (regs_in list u) same) ∙
+            by_not k r holds (regs_in list t k) apart ∙ old t
         | inr other ↦ ap (λ (z : Regs). z k) (by_not u t (with (regs_in list t) r holds) (regs_in list u) other) ∙ old u
       ])
 ]
@@ -78,19 +84,22 @@ all_empty n t r = elim (cases_lt r 64) [
 
 -- ---- what an answer asks for, without the registers after it
 
-request_may : (facts : Facts) (regs after : Regs) (reg size : ℕ) (answer : Answer) → RequestRow facts regs reg size answer after → AnswersRequest (facts.usable_of size) size answer
+request_may : (facts : Facts) (regs after : Regs) (reg size : ℕ) (answer : Answer) → RequestRow facts regs reg size answer after →
+    AnswersRequest (facts.usable_of size) size answer
 request_may facts regs after reg size answer (inl h) = inl (h.0, h.1)
 request_may facts regs after reg size answer (inr (inl h)) = inr (inl (h.0, h.1, h.2))
 request_may facts regs after reg size answer (inr (inr h)) = inr (inr (h.0, h.1, h.2))
 
-alloc_may : (r : Reg) (facts : Facts) (regs after : Regs) (reg size : ℕ) (answer : Answer) → AllocRow r facts regs reg size answer after → AnswersAlloc r (facts.usable_of size) size answer
+alloc_may : (r : Reg) (facts : Facts) (regs after : Regs) (reg size : ℕ) (answer : Answer) → AllocRow r facts regs reg size answer after →
+    AnswersAlloc r (facts.usable_of size) size answer
 alloc_may Empty facts regs after reg size answer h = request_may facts regs after reg size answer h
 alloc_may (Own s) facts regs after reg size answer h = h.0
 alloc_may (Ref s) facts regs after reg size answer h = h.0
 alloc_may Freed facts regs after reg size answer h = request_may facts regs after reg size answer h
 alloc_may Cleared facts regs after reg size answer h = request_may facts regs after reg size answer h
 
-copy_to_may : (r : Reg) (s : SlotName) (regs after : Regs) (to : ℕ) (answer : Answer) → CopyToRow r s regs to answer after → AnswersCopyTo r s answer
+copy_to_may : (r : Reg) (s : SlotName) (regs after : Regs) (to : ℕ) (answer : Answer) →
+    CopyToRow r s regs to answer after → AnswersCopyTo r s answer
 copy_to_may Empty s regs after to answer h = (h.0, h.1, h.2)
 copy_to_may (Own t) s regs after to answer h = h.0
 copy_to_may (Ref t) s regs after to answer h = h.0
@@ -132,14 +141,16 @@ read_from_may s facts regs after place answer (b, inl h) = inl h
 read_from_may s facts regs after place answer (b, inr (near, seen, value, slot, h)) =
     inr (near, value, (seen, slot, held_by seen.found.0 answer (Value seen value) (Dangling seen value) h))
 
-read_may : (r : Reg) (facts : Facts) (regs after : Regs) (place : ℕ) (answer : Answer) → ReadRow r facts regs place answer after → AnswersRead r facts.usable_at place answer
+read_may : (r : Reg) (facts : Facts) (regs after : Regs) (place : ℕ) (answer : Answer) → ReadRow r facts regs place answer after →
+    AnswersRead r facts.usable_at place answer
 read_may Empty facts regs after place answer h = h.0
 read_may (Own s) facts regs after place answer h = read_from_may s facts regs after place answer h
 read_may (Ref s) facts regs after place answer h = read_from_may s facts regs after place answer h
 read_may Freed facts regs after place answer h = h.0
 read_may Cleared facts regs after place answer h = h.0
 
-pub row_may : (facts : Facts) (op : Op) (regs after : Regs) (answer : Answer) → Row facts op regs answer after → MayAnswer facts op regs answer
+pub row_may : (facts : Facts) (op : Op) (regs after : Regs) (answer : Answer) → Row facts op regs answer after →
+    MayAnswer facts op regs answer
 row_may facts (ops.Alloc reg partition size) regs after answer h = alloc_may (regs reg) facts regs after reg size answer h
 row_may facts (ops.Copy from to) regs after answer h = copy_may (regs from) regs after to answer h
 row_may facts (ops.Reset reg) regs after answer h = reset_may (regs reg) regs after reg answer h
@@ -151,21 +162,33 @@ row_may facts ops.Purge regs after answer h = (h.0, h.1)
 
 -- ---- and the row whose answer it is
 
-keeps : (facts : Facts) (op : Op) (regs : Regs) (answer a : Answer) → answer ≡ a → change_of facts.cells op a ≡ None → Becomes (changed regs (change_of facts.cells op answer)) regs
-keeps facts op regs answer a is none k = ap (λ z. changed regs (change_of facts.cells op z) k) is ∙ ap (λ (o : Option (ℕ × Reg)). changed regs o k) none
+keeps : (facts : Facts) (op : Op) (regs : Regs) (answer a : Answer) → answer ≡ a → change_of facts.cells op a ≡ None →
+    Becomes (changed regs (change_of facts.cells op answer)) regs
+keeps facts op regs answer a is none k =
+    ap (λ z. changed regs (change_of facts.cells op z) k) is ∙ ap (λ (o : Option (ℕ × Reg)). changed regs o k) none
 
-sets : (facts : Facts) (op : Op) (regs : Regs) (answer a : Answer) (r : ℕ) (holds : Reg) → answer ≡ a → change_of facts.cells op a ≡ Some (r, holds)
+sets : (facts : Facts) (op : Op) (regs : Regs) (answer a : Answer) (r : ℕ) (holds : Reg) → answer ≡ a →
+    change_of facts.cells op a ≡ Some (r, holds)
     → Becomes (changed regs (change_of facts.cells op answer)) (with regs r holds)
-sets facts op regs answer a r holds is some k = ap (λ z. changed regs (change_of facts.cells op z) k) is ∙ ap (λ (o : Option (ℕ × Reg)). changed regs o k) some
+sets facts op regs answer a r holds is some k =
+    ap (λ z. changed regs (change_of facts.cells op z) k) is ∙ ap (λ (o : Option (ℕ × Reg)). changed regs o k) some
 
 may_request : (facts : Facts) (regs : Regs) (reg partition size : ℕ) (answer : Answer) → AnswersRequest (facts.usable_of size) size answer
     → RequestRow facts regs reg size answer (changed regs (change_of facts.cells (ops.Alloc reg partition size) answer))
-may_request facts regs reg partition size answer (inl h) = inl (h.0, h.1, keeps facts (ops.Alloc reg partition size) regs answer TooLarge h.1 refl)
+may_request facts regs reg partition size answer (inl h) =
+    inl (h.0, h.1, keeps facts (ops.Alloc reg partition size) regs answer TooLarge h.1 refl)
 may_request facts regs reg partition size answer (inr (inl h)) =
-    inr (inl (h.0, h.1, h.2, sets facts (ops.Alloc reg partition size) regs answer (Made h.1 (facts.usable_of size)) reg (Own h.1.slot) h.2 refl))
-may_request facts regs reg partition size answer (inr (inr h)) = inr (inr (h.0, h.1, h.2, keeps facts (ops.Alloc reg partition size) regs answer (Full h.1) h.2 refl))
+    inr (inl (
+      h.0,
+      h.1,
+      h.2,
+      sets facts (ops.Alloc reg partition size) regs answer (Made h.1 (facts.usable_of size)) reg (Own h.1.slot) h.2 refl,
+    ))
+may_request facts regs reg partition size answer (inr (inr h)) =
+    inr (inr (h.0, h.1, h.2, keeps facts (ops.Alloc reg partition size) regs answer (Full h.1) h.2 refl))
 
-may_alloc : (r : Reg) (facts : Facts) (regs : Regs) (reg partition size : ℕ) (answer : Answer) → AnswersAlloc r (facts.usable_of size) size answer
+may_alloc : (r : Reg) (facts : Facts) (regs : Regs) (reg partition size : ℕ) (answer : Answer) →
+    AnswersAlloc r (facts.usable_of size) size answer
     → AllocRow r facts regs reg size answer (changed regs (change_of facts.cells (ops.Alloc reg partition size) answer))
 may_alloc Empty facts regs reg partition size answer h = may_request facts regs reg partition size answer h
 may_alloc (Own s) facts regs reg partition size answer h = (h, keeps facts (ops.Alloc reg partition size) regs answer Filled h refl)
@@ -174,7 +197,8 @@ may_alloc Freed facts regs reg partition size answer h = may_request facts regs 
 may_alloc Cleared facts regs reg partition size answer h = may_request facts regs reg partition size answer h
 
 copied : (facts : Facts) (regs : Regs) (s : SlotName) (from to : ℕ) (answer : Answer) → IsDoneAt s answer
-    → (seen : Seen) × (seen.slot ≡ s) × (answer ≡ Done seen) × Becomes (changed regs (change_of facts.cells (ops.Copy from to) answer)) (with regs to (Ref s))
+    → (seen : Seen) × (seen.slot ≡ s) × (answer ≡ Done seen) ×
+    Becomes (changed regs (change_of facts.cells (ops.Copy from to) answer)) (with regs to (Ref s))
 copied facts regs s from to answer (seen, slot, is) =
     (seen, slot, is, sets facts (ops.Copy from to) regs answer (Done seen) to (Ref s) is (ap (λ (z : SlotName). Some (to, Ref z)) slot))
 
@@ -194,16 +218,20 @@ may_copy (Ref s) facts regs from to answer h = may_copy_to (regs to) s facts reg
 may_copy Freed facts regs from to answer h = (h, keeps facts (ops.Copy from to) regs answer (StaleUse None) h refl)
 may_copy Cleared facts regs from to answer h = (h, keeps facts (ops.Copy from to) regs answer (StaleUse None) h refl)
 
-may_reset : (r : Reg) (facts : Facts) (regs : Regs) (reg : ℕ) (answer : Answer) → AnswersReset r answer → ResetRow r regs reg answer (changed regs (change_of facts.cells (ops.Reset reg) answer))
+may_reset : (r : Reg) (facts : Facts) (regs : Regs) (reg : ℕ) (answer : Answer) → AnswersReset r answer →
+    ResetRow r regs reg answer (changed regs (change_of facts.cells (ops.Reset reg) answer))
 may_reset Empty facts regs reg answer h = (h, keeps facts (ops.Reset reg) regs answer Nothing h refl)
 may_reset (Own s) facts regs reg answer h = (h, keeps facts (ops.Reset reg) regs answer NotRef h refl)
-may_reset (Ref s) facts regs reg answer (seen, slot, is) = (seen, slot, is, sets facts (ops.Reset reg) regs answer (Done seen) reg Cleared is refl)
+may_reset (Ref s) facts regs reg answer (seen, slot, is) =
+    (seen, slot, is, sets facts (ops.Reset reg) regs answer (Done seen) reg Cleared is refl)
 may_reset Freed facts regs reg answer h = (h, keeps facts (ops.Reset reg) regs answer NotRef h refl)
 may_reset Cleared facts regs reg answer h = (h, keeps facts (ops.Reset reg) regs answer StaleReset h refl)
 
-may_free : (r : Reg) (facts : Facts) (regs : Regs) (reg : ℕ) (answer : Answer) → AnswersFree r answer → FreeRow r regs reg answer (changed regs (change_of facts.cells (ops.Free reg) answer))
+may_free : (r : Reg) (facts : Facts) (regs : Regs) (reg : ℕ) (answer : Answer) → AnswersFree r answer →
+    FreeRow r regs reg answer (changed regs (change_of facts.cells (ops.Free reg) answer))
 may_free Empty facts regs reg answer h = (h, keeps facts (ops.Free reg) regs answer Nothing h refl)
-may_free (Own s) facts regs reg answer (seen, slot, is) = (seen, slot, is, sets facts (ops.Free reg) regs answer (Done seen) reg Freed is refl)
+may_free (Own s) facts regs reg answer (seen, slot, is) =
+    (seen, slot, is, sets facts (ops.Free reg) regs answer (Done seen) reg Freed is refl)
 may_free (Ref s) facts regs reg answer (seen, slot, is) = elim (by_held seen.found.0 (NotOwner seen) (SecondFree (Some seen))) [
   | inl h ↦ (seen, slot, keeps facts (ops.Free reg) regs answer (NotOwner seen) (is ∙ h.1) refl, inl (h.0, is ∙ h.1))
   | inr h ↦ (seen, slot, keeps facts (ops.Free reg) regs answer (SecondFree (Some seen)) (is ∙ h.1) refl, inr (h.0, is ∙ h.1))
@@ -231,7 +259,8 @@ may_read_from s facts regs place answer (inr (near, value, (seen, slot, is))) = 
       | inr h ↦ ((λ k. refl), inr (near, seen, value, slot, inr (h.0, is ∙ h.1)))
     ]
 
-may_read : (r : Reg) (facts : Facts) (regs : Regs) (place : ℕ) (answer : Answer) → AnswersRead r facts.usable_at place answer → ReadRow r facts regs place answer regs
+may_read : (r : Reg) (facts : Facts) (regs : Regs) (place : ℕ) (answer : Answer) → AnswersRead r facts.usable_at place answer →
+    ReadRow r facts regs place answer regs
 may_read Empty facts regs place answer h = (h, λ k. refl)
 may_read (Own s) facts regs place answer h = may_read_from s facts regs place answer h
 may_read (Ref s) facts regs place answer h = may_read_from s facts regs place answer h
@@ -240,10 +269,18 @@ may_read Cleared facts regs place answer h = (h, λ k. refl)
 
 may_swap : (facts : Facts) (regs : Regs) (cell reg : ℕ) (answer : Answer) → AnswersSwap (facts.cells cell) (regs reg) answer
     → SwapRow (facts.cells cell) regs reg answer (changed regs (change_of facts.cells (ops.Swap cell reg) answer))
-may_swap facts regs cell reg answer (entry, e, is, at, gave) =
-    (entry, e, is, at, gave, sets facts (ops.Swap cell reg) regs answer (Swapped entry) reg (reg_of e.found) is (ap (λ (o : Option CellEntry). Some (reg, reg_of (found_in o))) at))
+may_swap facts regs cell reg answer (entry, e, is, at, gave) = (
+  entry,
+  e,
+  is,
+  at,
+  gave,
+  sets facts (ops.Swap cell reg) regs answer (Swapped entry) reg (reg_of e.found) is
+      (ap (λ (o : Option CellEntry). Some (reg, reg_of (found_in o))) at),
+)
 
-pub may_row : (facts : Facts) (op : Op) (regs : Regs) (answer : Answer) → MayAnswer facts op regs answer → Row facts op regs answer (changed regs (change_of facts.cells op answer))
+pub may_row : (facts : Facts) (op : Op) (regs : Regs) (answer : Answer) → MayAnswer facts op regs answer →
+    Row facts op regs answer (changed regs (change_of facts.cells op answer))
 may_row facts (ops.Alloc reg partition size) regs answer h = may_alloc (regs reg) facts regs reg partition size answer h
 may_row facts (ops.Copy from to) regs answer h = may_copy (regs from) facts regs from to answer h
 may_row facts (ops.Reset reg) regs answer h = may_reset (regs reg) facts regs reg answer h

@@ -22,7 +22,8 @@ pub lines_parted : (ps : List Played) (line : ℕ) → RiseByLine ps → IsParti
 lines_parted ps line rising = IsPartitionedBy-ltb (λ x. x.line) ps line (in_order ps rising)
 
 -- the line's record is where they end, or there is none
-pub seek_none : (ps : List Played) (line at : ℕ) → RiseByLine ps → IsPartitionPoint (λ x. ltb x.line line ≡ true) (λ x. ltb x.line line ≡ false) ps at → (IsOnLine ps line at → ⊥) → NoneOnLine ps line
+pub seek_none : (ps : List Played) (line at : ℕ) → RiseByLine ps →
+    IsPartitionPoint (λ x. ltb x.line line ≡ true) (λ x. ltb x.line line ≡ false) ps at → (IsOnLine ps line at → ⊥) → NoneOnLine ps line
 seek_none ps line at rising (before, behind) other i (x, here, mine) =
     let below : i < length ps = slice_get_within ps i x here in
     let one : get_or ps i x ≡ x = get_or_from_slice_get ps i x x here in
@@ -48,7 +49,8 @@ seek_none ps line at rising (before, behind) other i (x, here, mine) =
 pub line_within : (ps : List Played) (line i : ℕ) → IsOnLine ps line i → i < length ps
 line_within ps line i (x, here, mine) = slice_get_within ps i x here
 
-pub line_is : (ps : List Played) (line i : ℕ) (d : Played) → IsOnLine ps line i → Contains ps (get_or ps i d) × ((get_or ps i d).line ≡ line)
+pub line_is : (ps : List Played) (line i : ℕ) (d : Played) → IsOnLine ps line i →
+    Contains ps (get_or ps i d) × ((get_or ps i d).line ≡ line)
 line_is ps line i d (x, here, mine) =
     subst (λ (z : Played). Contains ps z × (z.line ≡ line)) (sym (get_or_from_slice_get ps i x d here)) (at_in ps i x here, mine)
 

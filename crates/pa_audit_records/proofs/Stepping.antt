@@ -92,7 +92,8 @@ firsts_more ps f g k at q d below next here sized puts past =
               step,
               λ j low there. elim (cases_lt k j) [
                 | inl less ↦ least j (omega (arith, less)) there
-                | inr most ↦ absurd (other (one_step_of (get_or ps k d) r q (at_k ps k j d d r below (omega (arith, low, most)) there) here))
+                | inr most ↦
+                    absurd (other (one_step_of (get_or ps k d) r q (at_k ps k j d d r below (omega (arith, low, most)) there) here))
               ],
             )
       ];
@@ -116,7 +117,8 @@ get_at (y ∷ ys) (suc i) d x at = let (below, is) = get_at ys i d x at in (omeg
 
 -- the records at two places have different lines
 pub records_differ : (ps : List Played) → RiseByLine ps → AllPairs OtherRecord ps
-records_differ ps rising i j d less below = λ same. let more : (get_or ps i d).line < (get_or ps j d).line = rising i j d less below in omega (arith, more, same)
+records_differ ps rising i j d less below = λ same. let more : (get_or ps i d).line < (get_or ps j d).line =
+    rising i j d less below in omega (arith, more, same)
 
 -- a record that the table has is one of the list
 pub firsts_within : (ps : List Played) (f : ℕ → Option ℕ) (q i : ℕ) → AreFirsts ps f → f q ≡ Some i → i < length ps
@@ -126,7 +128,8 @@ firsts_within ps f q i h at = let (from, (x, is, step), least) = h.hit q i at in
 pub firsts_step : (ps : List Played) (f : ℕ → Option ℕ) (q i : ℕ) (d : Played) → AreFirsts ps f → f q ≡ Some i → IsStepOf (get_or ps i d) q
 firsts_step ps f q i d h at = let (from, (x, is, step), least) = h.hit q i at in subst (λ z. IsStepOf z q) (sym (get_at ps i d x is).1) step
 
-pub first_is : (ps : List Played) (f : ℕ → Option ℕ) (s : SlotName) (w i : ℕ) (d : Played) (m : Mark) (p : Step) → RiseByLine ps → AreFirsts ps f → IsSized s w → f (word_key s w) ≡ Some i
+pub first_is : (ps : List Played) (f : ℕ → Option ℕ) (s : SlotName) (w i : ℕ) (d : Played) (m : Mark) (p : Step) → RiseByLine ps →
+    AreFirsts ps f → IsSized s w → f (word_key s w) ≡ Some i
     → mark_of (get_or ps i d) ≡ Some m → m.step ≡ Some p → IsFirstAt (marks_of ps) s w m p
 first_is ps f s w i d m p rising h sized at is made =
     let x = get_or ps i d in
@@ -158,7 +161,8 @@ first_is ps f s w i d m p rising h sized at is made =
           ];
     }
 
-pub first_none : (ps : List Played) (f : ℕ → Option ℕ) (s : SlotName) (w : ℕ) (m : Mark) (p : Step) → AreFirsts ps f → f (word_key s w) ≡ None → IsFirstAt (marks_of ps) s w m p → ⊥
+pub first_none : (ps : List Played) (f : ℕ → Option ℕ) (s : SlotName) (w : ℕ) (m : Mark) (p : Step) → AreFirsts ps f →
+    f (word_key s w) ≡ None → IsFirstAt (marks_of ps) s w m p → ⊥
 first_none ps f s w m p h none first =
     let (x, member, is) = mark_from ps m first.among in
     let (j, at) = in_at ps x member in
@@ -166,7 +170,8 @@ first_none ps f s w m p h none first =
     h.miss (word_key s w) j none (omega arith) (x, at, (m, is, subst (λ z. IsSome z) (sym first.step) refl, key))
 
 -- the first step at a word is one
-pub one_first : (ps : List Played) (s : SlotName) (w : ℕ) (m n : Mark) (p q : Step) → RiseByLine ps → IsFirstAt (marks_of ps) s w m p → IsFirstAt (marks_of ps) s w n q → p ≡ q
+pub one_first : (ps : List Played) (s : SlotName) (w : ℕ) (m n : Mark) (p q : Step) → RiseByLine ps → IsFirstAt (marks_of ps) s w m p →
+    IsFirstAt (marks_of ps) s w n q → p ≡ q
 one_first ps s w m n p q rising f g =
     let same = one_mark (marks_of ps) s w m n p q (marks_differ ps (records_differ ps rising)) f g in
     of_some p q (sym f.step ∙ ap (λ (z : Mark). z.step) same ∙ g.step)
@@ -182,7 +187,8 @@ first_told ps f s w i d m rising h sized at is = go m.step refl
     go None e = tt
     go (Some p) e = (m, first_is ps f s w i d m p rising h sized at is e)
 
-pub first_made : (ps : List Played) (f : ℕ → Option ℕ) (q i : ℕ) (d : Played) (m : Mark) (P : Type 0) → AreFirsts ps f → f q ≡ Some i → mark_of (get_or ps i d) ≡ Some m → IfNone m.step P
+pub first_made : (ps : List Played) (f : ℕ → Option ℕ) (q i : ℕ) (d : Played) (m : Mark) (P : Type 0) → AreFirsts ps f → f q ≡ Some i →
+    mark_of (get_or ps i d) ≡ Some m → IfNone m.step P
 first_made ps f q i d m P h at is =
     let (n, tells, some, place) = firsts_step ps f q i d h at in
     let same : n ≡ m = of_some n m (sym tells ∙ is) in
@@ -192,7 +198,8 @@ first_made ps f q i d m P h at is =
     go None e = absurd (false≢true e)
     go (Some p) e = tt
 
-pub first_marked : (ps : List Played) (f : ℕ → Option ℕ) (q i : ℕ) (d : Played) → AreFirsts ps f → f q ≡ Some i → mark_of (get_or ps i d) ≡ None → ⊥
+pub first_marked : (ps : List Played) (f : ℕ → Option ℕ) (q i : ℕ) (d : Played) → AreFirsts ps f → f q ≡ Some i →
+    mark_of (get_or ps i d) ≡ None → ⊥
 first_marked ps f q i d h at none = let (n, tells, some, place) = firsts_step ps f q i d h at in not_some n (sym none ∙ tells)
 
 -- ---- the words that a run reaches
@@ -206,7 +213,8 @@ pub record IsReaching (ps : List Played) (before at : ℕ → Option ℕ) (s : S
   pub others : (q : ℕ) → ((v : ℕ) → IsSized s v → q ≡ word_key s v → ⊥) → at q ≡ before q
 
 -- no word of the slot is in a table that lacks its first
-fresh_words : (ps : List Played) (at : ℕ → Option ℕ) (s : SlotName) (v : ℕ) → AreReached ps at → at (word_key s 0) ≡ None → IsSized s v → IsSome (at (word_key s v)) → ⊥
+fresh_words : (ps : List Played) (at : ℕ → Option ℕ) (s : SlotName) (v : ℕ) → AreReached ps at → at (word_key s 0) ≡ None → IsSized s v →
+    IsSome (at (word_key s v)) → ⊥
 fresh_words ps at s v h none sized some =
     let (vs, run, only, whole) = h s v sized some in
     let first : IsSome (at (word_key s 0)) = whole 0 (sized.0, omega arith) (first_in 0 vs) in
@@ -233,11 +241,13 @@ reach_start ps before at s q n start h none is puts =
       others = λ k apart. put.other k (apart 0 (start, omega arith));
     }
 
-pub reach_more : (ps : List Played) (before at next : ℕ → Option ℕ) (s : SlotName) (w v q n : ℕ) → IsSized s v → IsNextWord ps s w v → q ≡ word_key s v → Puts at next q n → IsReaching ps before at s w
+pub reach_more : (ps : List Played) (before at next : ℕ → Option ℕ) (s : SlotName) (w v q n : ℕ) → IsSized s v → IsNextWord ps s w v →
+    q ≡ word_key s v → Puts at next q n → IsReaching ps before at s w
     → IsReaching ps before next s v
 reach_more ps before at next s w v q n fits (m, p, first, can, is) key puts h =
     let put : Puts at next (word_key s v) n = subst (λ k. Puts at next k n) key puts in
-    let to : IsPath (marks_of ps) s 0 (h.words ++ stepped p w ∷ []) (stepped p w) = path_push (marks_of ps) s 0 h.words w m p h.path first can in
+    let to : IsPath (marks_of ps) s 0 (h.words ++ stepped p w ∷ []) (stepped p w) =
+    path_push (marks_of ps) s 0 h.words w m p h.path first can in
     record {
       words = h.words ++ v ∷ [];
       path = subst (λ z. IsPath (marks_of ps) s 0 (h.words ++ z ∷ []) z) (sym is) to;
@@ -259,11 +269,13 @@ reach_more ps before at next s w v q n fits (m, p, first, can, is) key puts h =
       others = λ k apart. put.other k (apart v fits) ∙ h.others k apart;
     }
 
-pub reach_end : (ps : List Played) (before at : ℕ → Option ℕ) (s : SlotName) (w : ℕ) → s.start < 4294967296 → IsLastWord ps s w → AreReached ps before → IsReaching ps before at s w → AreReached ps at
+pub reach_end : (ps : List Played) (before at : ℕ → Option ℕ) (s : SlotName) (w : ℕ) → s.start < 4294967296 → IsLastWord ps s w →
+    AreReached ps before → IsReaching ps before at s w → AreReached ps at
 reach_end ps before at s w start last h k t v sized some = elim (same_slot_cases t s) [
   | inl same ↦ subst (HasRunOf ps at) (sym same) (k.words, run_of_path (marks_of ps) s 0 k.words w last k.path, k.only, k.whole)
   | inr other ↦
-      let alike : (u : ℕ) → IsSized t u → at (word_key t u) ≡ before (word_key t u) = λ u fits. k.others (word_key t u) (λ x within e. other (same_place t s u x fits within e).0) in
+      let alike : (u : ℕ) → IsSized t u → at (word_key t u) ≡ before (word_key t u) =
+      λ u fits. k.others (word_key t u) (λ x within e. other (same_place t s u x fits within e).0) in
       let (vs, run, only, whole) = h t v sized (subst (λ z. IsSome z) (alike v sized) some) in (
         vs,
         run,
@@ -273,18 +285,21 @@ reach_end ps before at s w start last h k t v sized some = elim (same_slot_cases
 ]
 
 -- the slots whose runs are in the table stay in it
-pub reach_first : (ps : List Played) (before at : ℕ → Option ℕ) (s : SlotName) (w : ℕ) → s.start < 4294967296 → IsReaching ps before at s w → IsSome (at (word_key s 0))
+pub reach_first : (ps : List Played) (before at : ℕ → Option ℕ) (s : SlotName) (w : ℕ) → s.start < 4294967296 →
+    IsReaching ps before at s w → IsSome (at (word_key s 0))
 reach_first ps before at s w start k = k.whole 0 (start, omega arith) (first_in 0 k.words)
 
 pub reach_kept : (ps : List Played) (before at : ℕ → Option ℕ) (s : SlotName) (w : ℕ) → s.start < 4294967296 → IsReaching ps before at s w →
     (t : SlotName) → t.start < 4294967296 → IsSome (before (word_key t 0)) → IsSome (at (word_key t 0))
 reach_kept ps before at s w start k t low some = elim (same_slot_cases t s) [
   | inl same ↦ subst (λ z. IsSome (at (word_key z 0))) (sym same) (reach_first ps before at s w start k)
-  | inr other ↦ subst (λ z. IsSome z) (sym (k.others (word_key t 0) (λ x within e. other (same_place t s 0 x (low, omega arith) within e).0))) some
+  | inr other ↦
+      subst (λ z. IsSome z) (sym (k.others (word_key t 0) (λ x within e. other (same_place t s 0 x (low, omega arith) within e).0))) some
 ]
 
 -- a step that is refused ends the run
 pub refused_last : (ps : List Played) (s : SlotName) (w : ℕ) (m : Mark) (p : Step) (o : Option Word) → RiseByLine ps
     → IsFirstAt (marks_of ps) s w m p → IfNone o (¬ CanStep p w) → IfNone o (IsLastWord ps s w)
-refused_last ps s w m p None rising first h = λ n q other can. h (subst (λ z. CanStep z w) (one_first ps s w n m q p rising other first) can)
+refused_last ps s w m p None rising first h =
+    λ n q other can. h (subst (λ z. CanStep z w) (one_first ps s w n m q p rising other first) can)
 refused_last ps s w m p (Some v) rising first h = tt

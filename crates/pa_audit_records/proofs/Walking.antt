@@ -27,24 +27,28 @@ pub record RegsSoFar (version : ℕ) (cells : ℕ → List CellEntry) (ps : List
 same_regs : (list : List Reg) (all : AllRegs) → AreRegsOf list all → regs_in list ≡ all
 same_regs list all h = λ i t r. (h t r) i
 
-pub regs_start : (version : ℕ) (cells : ℕ → List CellEntry) (ps : List Played) (list : List Reg) → AreRegsOf list no_regs → RegsSoFar version cells ps list 0
+pub regs_start : (version : ℕ) (cells : ℕ → List CellEntry) (ps : List Played) (list : List Reg) → AreRegsOf list no_regs →
+    RegsSoFar version cells ps list 0
 regs_start version cells ps list h = record { met = λ j below. absurd (omega (arith, below)); rows = same_regs list no_regs h }
 
 pub record_among : (ps : List Played) (i : ℕ) (d : Played) → i < length ps → Contains ps (get_or ps i d)
 record_among ps i d below = at_in ps i (get_or ps i d) (here_is ps i d below)
 
-pub regs_not : (version : ℕ) (cells : ℕ → List CellEntry) (ps : List Played) (list : List Reg) (i : ℕ) (d : Played) → i < length ps → RegsSoFar version cells ps list i
+pub regs_not : (version : ℕ) (cells : ℕ → List CellEntry) (ps : List Played) (list : List Reg) (i : ℕ) (d : Played) → i < length ps →
+    RegsSoFar version cells ps list i
     → (MayAnswer (facts_by version cells ps) (get_or ps i d).op (regs_in list (get_or ps i d).thread) (get_or ps i d).answer → ⊥)
     → TellsFirst (λ k. RegistersDemand (usable_of version) cells ps (places.Record k)) (Some i)
 regs_not version cells ps list i d below h other =
     let x = get_or ps i d in (
       λ met. let (all, next, rows, row) = met x (here_is ps i d below) in
           let same : all ≡ regs_in list = rows_one (facts_by version cells ps) no_regs all (regs_in list) (take i ps) rows h.rows in
-          other (subst (λ (z : AllRegs). MayAnswer (facts_by version cells ps) x.op (z x.thread) x.answer) same (row_may (facts_by version cells ps) x.op (all x.thread) next x.answer row)),
+          other (subst (λ (z : AllRegs). MayAnswer (facts_by version cells ps) x.op (z x.thread) x.answer) same
+          (row_may (facts_by version cells ps) x.op (all x.thread) next x.answer row)),
       h.met,
     )
 
-pub regs_more : (version : ℕ) (cells : ℕ → List CellEntry) (ps : List Played) (list later : List Reg) (i : ℕ) (d : Played) → i < length ps → RegsSoFar version cells ps list i
+pub regs_more : (version : ℕ) (cells : ℕ → List CellEntry) (ps : List Played) (list later : List Reg) (i : ℕ) (d : Played) → i < length ps →
+    RegsSoFar version cells ps list i
     → MayAnswer (facts_by version cells ps) (get_or ps i d).op (regs_in list (get_or ps i d).thread) (get_or ps i d).answer
     → AreRegsOf later (regs_next cells (regs_in list) (get_or ps i d)) → RegsSoFar version cells ps later (i + 1)
 regs_more version cells ps list later i d below h may has =
@@ -62,10 +66,12 @@ regs_more version cells ps list later i d below h may has =
             let same : i ≡ j = omega (arith, less, least) in
             subst (λ k. RegistersDemand (usable_of version) cells ps (places.Record k)) same
             (λ y at. let is : x ≡ y = of_some x y (sym (here_is ps i d below) ∙ at) in
-            subst (λ (z : Played). (all : AllRegs) × (next : Regs) × RowsTo facts no_regs (take i ps) all × Row facts z.op (all z.thread) z.answer next) is
+            subst (λ (z : Played). (all : AllRegs) × (next : Regs) × RowsTo facts no_regs (take i ps) all ×
+            Row facts z.op (all z.thread) z.answer next) is
             (regs_in list, next, h.rows, row))
       ];
-      rows = subst (λ (zs : List Played). RowsTo facts no_regs zs (regs_in later)) long (subst (λ (z : AllRegs). RowsTo facts no_regs (take i ps ++ x ∷ []) z) all to);
+      rows = subst (λ (zs : List Played). RowsTo facts no_regs zs (regs_in later)) long
+          (subst (λ (z : AllRegs). RowsTo facts no_regs (take i ps ++ x ∷ []) z) all to);
     }
 
 pub regs_all : (version : ℕ) (cells : ℕ → List CellEntry) (ps : List Played) (list : List Reg) (i : ℕ) → length ps ≤ i

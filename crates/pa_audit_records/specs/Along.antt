@@ -10,8 +10,8 @@ use Rattle.pa_audit_records.specs.Keys.{name_key}
 abbrev pub word_by : (ℕ → Option ℕ) → SlotName → ℕ
 word_by at s = if nat_lt s.start 4294967296 then unwrap_or (at (name_key s)) 0 else 0
 
--- The word of slot s is w. The step, if one is made, is enabled there and leads to the slot's next word, and the other slots keep their
--- words.
+-- The word of slot s is w. The step, if one is made, is enabled there and leads to the slot's next word,
+-- and the other slots keep their words.
 abbrev pub LeadsOn : (SlotName → ℕ) → (SlotName → ℕ) → SlotName → ℕ → Option Step → Type 0
 LeadsOn before after s w None = (w ≡ before s) × ((t : SlotName) → after t ≡ before t)
 LeadsOn before after s w (Some p) =

@@ -49,8 +49,8 @@ abbrev pub AnswersOne : (SlotName → Answer → Type 0) → Result SlotName Ans
 AnswersOne goes (Ok s) answer = goes s answer
 AnswersOne goes (Err refusal) answer = answer ≡ refusal
 
--- An op that its register refuses has the refusal as its answer. Any other makes a step on a slot or looks at it, which have answers of
--- their own.
+-- An op that its register refuses has the refusal as its answer. Any other makes a step on a slot or looks at it,
+-- which have answers of their own.
 abbrev pub AnswersNext : (steps looks : SlotName → Answer → Type 0) → Next SlotName → Answer → Type 0
 AnswersNext steps looks (Refused refusal) answer = answer ≡ refusal
 AnswersNext steps looks (Step s) answer = steps s answer

@@ -22,8 +22,8 @@ IsStepAt ps i q = (x : Played) × IsRecord ps i x × IsStepOf x q
 abbrev pub IsSizedMark : Played → Type 0
 IsSizedMark x = (m : Mark) → mark_of x ≡ Some m → IsSized m.slot m.found
 
--- The table has the first record from k on that made a step at each number, and nothing if none did. From k on, each name and word has
--- the bits of its type.
+-- The table has the first record from k on that made a step at each number, and nothing if none did. From k on,
+-- each name and word has the bits of its type.
 pub record AreFirstsFrom (ps : List Played) (at : ℕ → Option ℕ) (k : ℕ) : Type 0 where
   pub hit : (q i : ℕ) → at q ≡ Some i → (k ≤ i) × IsStepAt ps i q × ((j : ℕ) → k ≤ j → IsStepAt ps j q → i ≤ j)
   pub miss : (q j : ℕ) → at q ≡ None → k ≤ j → IsStepAt ps j q → ⊥

@@ -21,8 +21,8 @@ fn is_word(given: Option<u64>, word: Word) -> bool
     word.0 == given.unwrap_or(0)
 }
 
-// Whether the mark found its slot's word in the table, and made no step that isn't enabled there. The next word is put into
-// the table.
+// Whether the mark found its slot's word in the table, and made no step that isn't enabled there.
+// The next word is put into the table.
 fn continues(words: &mut ByKey<u64>, mark: Marked) -> Result<bool, OutOfMemory>
     ensures { IfOk result (λ b. IsTrue b →
         LeadsOn (word_by (value_at words.old)) (word_by (value_at words.new)) mark.slot mark.found.0 mark.step) }

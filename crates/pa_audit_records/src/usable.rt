@@ -31,8 +31,8 @@ pub(crate) fn usable_for(version: u32, size: u32) -> u32
     }
 }
 
-// For each slot that a record made, by its number, the usable number that the first such record reports. The last record is looked at
-// first.
+// For each slot that a record made, by its number, the usable number that the first such record reports.
+// The last record is looked at first.
 pub(crate) fn usables(
     alloc: Global,
     salt: Salt,

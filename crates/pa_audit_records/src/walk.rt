@@ -22,8 +22,8 @@ use pa_slot::{OutOfMemory, SlotName};
 use pa_trace::Op;
 use std::alloc::Global;
 
-/// The index of the first record with another answer than its thread's registers require by the rules of the version. None if there is no
-/// such record.
+/// The index of the first record with another answer than its thread's registers require by the rules of the version.
+/// None if there is no such record.
 pub fn registers_meet(
     alloc: Global,
     salt: Salt,

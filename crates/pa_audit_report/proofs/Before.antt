@@ -41,7 +41,8 @@ names_within partitions ops.Purge few within = tt
 
 all_of : (version : ℕ) (xs : List Played) → ((x : Played) → Contains xs x → IsOfThreads version x) → All (IsOfThreads version) xs
 all_of version [] h = All-nil (IsOfThreads version)
-all_of version (x ∷ xs) h = All-cons (IsOfThreads version) x xs (h x (first_in x xs)) (all_of version xs (λ y among. h y (later_in x y xs among)))
+all_of version (x ∷ xs) h =
+    All-cons (IsOfThreads version) x xs (h x (first_in x xs)) (all_of version xs (λ y among. h y (later_in x y xs among)))
 
 -- ---- the clauses
 
@@ -66,7 +67,8 @@ module _ (t : Trace) (r : Run) (limits : IsWithinLimits t) (before : HoldBefore 
     version = t.version;
     within = all_of t.version (records_of t (told_by r)) within;
     slots = (slots_are_places t (told_by r) due).1 (before clauses.Slots (omega arith));
-    ordered = seen_in_phases (told_by r).cells (records_of t (told_by r)) ((seen_is_places t (told_by r)).1 (before clauses.Seen (omega arith)));
+    ordered = seen_in_phases (told_by r).cells (records_of t (told_by r))
+        ((seen_is_places t (told_by r)).1 (before clauses.Seen (omega arith)));
     pool = (pool_is_places t (told_by r) due).1 (before clauses.Pool (omega arith));
     journals = (roots_are_places t (told_by r) due).1 (before clauses.Roots (omega arith));
     caches = λ i. before clauses.Caches (omega arith) (places.Record i);
@@ -74,5 +76,7 @@ module _ (t : Trace) (r : Run) (limits : IsWithinLimits t) (before : HoldBefore 
     entries = λ p j e at. before clauses.Roots (omega arith) (places.Root p j) e at;
   }
 
-pub given_before : (t : Trace) (r : Run) (ps : List Played) → IsWithinLimits t → ps ≡ records_of t (told_by r) → HoldBefore t r → IsGiven t.region t.partitions ps r.pool.items (told_by r).roots
-given_before t r ps limits same before = subst (λ xs. IsGiven t.region t.partitions xs r.pool.items (told_by r).roots) (sym same) (given_here t r limits before)
+pub given_before : (t : Trace) (r : Run) (ps : List Played) → IsWithinLimits t → ps ≡ records_of t (told_by r) → HoldBefore t r →
+    IsGiven t.region t.partitions ps r.pool.items (told_by r).roots
+given_before t r ps limits same before =
+    subst (λ xs. IsGiven t.region t.partitions xs r.pool.items (told_by r).roots) (sym same) (given_here t r limits before)

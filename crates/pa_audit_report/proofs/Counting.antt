@@ -49,14 +49,16 @@ if_zero false n e = refl
 
 -- ---- a tally
 
-module _ (test : Step → ℕ → Bool) (at : ℕ → Option Home) (p : ℕ) (xs : List Played) (x : Played) (t : Tally) (h : IsTotal test at p xs t) where
+module _ (test : Step → ℕ → Bool) (at : ℕ → Option Home) (p : ℕ) (xs : List Played) (x : Played) (t : Tally)
+    (h : IsTotal test at p xs t) where
   abbrev ones : SlotName → ℕ
   ones = one_of (home_in at) p
 
   abbrev bytes : SlotName → ℕ
   bytes = bytes_of (home_in at) (size_in at) p
 
-  stays : one_weight test (one_of (home_in at) p) (mark_of x) ≡ 0 → one_weight test (bytes_of (home_in at) (size_in at) p) (mark_of x) ≡ 0 → IsTotal test at p (xs ++ x ∷ []) t
+  stays : one_weight test (one_of (home_in at) p) (mark_of x) ≡ 0 → one_weight test (bytes_of (home_in at) (size_in at) p) (mark_of x) ≡ 0 →
+      IsTotal test at p (xs ++ x ∷ []) t
   stays none nothing =
       let a = weight_push test (one_of (home_in at) p) xs x in
       let b = weight_push test (bytes_of (home_in at) (size_in at) p) xs x in
@@ -65,16 +67,20 @@ module _ (test : Step → ℕ → Bool) (at : ℕ → Option Home) (p : ℕ) (xs
       record { slots = omega arith; bytes = omega arith; few = omega arith; small = omega arith }
 
   quiet : passes test x ≡ false → IsTotal test at p (xs ++ x ∷ []) t
-  quiet not = stays (none_weighs test (one_of (home_in at) p) (mark_of x) not) (none_weighs test (bytes_of (home_in at) (size_in at) p) (mark_of x) not)
+  quiet not = stays (none_weighs test (one_of (home_in at) p) (mark_of x) not)
+      (none_weighs test (bytes_of (home_in at) (size_in at) p) (mark_of x) not)
 
   other : (m : Mark) → mark_of x ≡ Some m → home_in at m.slot ≢ p → IsTotal test at p (xs ++ x ∷ []) t
   other m e away =
       let one : one_of (home_in at) p m.slot ≡ 0 = rw (ne_eqb (home_in at m.slot) p away) refl in
       let all : bytes_of (home_in at) (size_in at) p m.slot ≡ 0 = rw (ne_eqb (home_in at m.slot) p away) refl in
-      stays (slot_weighs test (one_of (home_in at) p) (mark_of x) m (passes test x) e refl ∙ if_zero (passes test x) (one_of (home_in at) p m.slot) one)
-      (slot_weighs test (bytes_of (home_in at) (size_in at) p) (mark_of x) m (passes test x) e refl ∙ if_zero (passes test x) (bytes_of (home_in at) (size_in at) p m.slot) all)
+      stays (slot_weighs test (one_of (home_in at) p) (mark_of x) m (passes test x) e refl ∙
+      if_zero (passes test x) (one_of (home_in at) p m.slot) one)
+      (slot_weighs test (bytes_of (home_in at) (size_in at) p) (mark_of x) m (passes test x) e refl ∙
+      if_zero (passes test x) (bytes_of (home_in at) (size_in at) p m.slot) all)
 
-  more : (m : Mark) (b : Bool) (n : ℕ) → mark_of x ≡ Some m → b ≡ passes test x → IsBytesOf at p m.slot n → n < 4294967296 → IsTotal test at p (xs ++ x ∷ []) (tally_more t b n)
+  more : (m : Mark) (b : Bool) (n : ℕ) → mark_of x ≡ Some m → b ≡ passes test x → IsBytesOf at p m.slot n → n < 4294967296 →
+      IsTotal test at p (xs ++ x ∷ []) (tally_more t b n)
   more m b n e passed is few =
       let one : one_of (home_in at) p m.slot ≡ 1 = rw (eq-eqb (home_in at m.slot) p is.home) refl in
       let all : bytes_of (home_in at) (size_in at) p m.slot ≡ n = rw (eq-eqb (home_in at m.slot) p is.home) is.size in
@@ -82,7 +88,8 @@ module _ (test : Step → ℕ → Bool) (at : ℕ → Option Home) (p : ℕ) (xs
       (slot_weighs test (bytes_of (home_in at) (size_in at) p) (mark_of x) m b e passed ∙ ap (λ k. if b then k else 0) all) few
     where
       by_test : (b : Bool) → one_weight test (one_of (home_in at) p) (mark_of x) ≡ (if b then 1 else 0)
-          → one_weight test (bytes_of (home_in at) (size_in at) p) (mark_of x) ≡ (if b then n else 0) → n < 4294967296 → IsTotal test at p (xs ++ x ∷ []) (tally_more t b n)
+          → one_weight test (bytes_of (home_in at) (size_in at) p) (mark_of x) ≡ (if b then n else 0) → n < 4294967296 →
+          IsTotal test at p (xs ++ x ∷ []) (tally_more t b n)
       by_test false u v few = stays u v
       by_test true u v few =
           let a = weight_push test (one_of (home_in at) p) xs x in
@@ -127,7 +134,8 @@ counted_more at p i n ps x z c there step is few h =
       left = more leaves at p (take i ps) x c.left h.left m z.leaves n step.is step.leaves_is here few;
     })
 
-room : (test : Step → ℕ → Bool) (at : ℕ → Option Home) (p : ℕ) (xs : List Played) (t : Tally) → length xs < 65536 → IsTotal test at p xs t → HasRoomFor t
+room : (test : Step → ℕ → Bool) (at : ℕ → Option Home) (p : ℕ) (xs : List Played) (t : Tally) → length xs < 65536 →
+    IsTotal test at p xs t → HasRoomFor t
 room test at p xs t short h = let a = h.few in let b = h.small in (omega arith, omega arith)
 
 pub has_room : (at : ℕ → Option Home) (p : ℕ) (xs : List Played) (c : Count) → length xs < 65536 → HasCounted at p xs c → HasRoom c
@@ -169,6 +177,7 @@ done_step x seen z e h =
       leaves_is = h.leaves_is ∙ sym (ap (mark_passes leaves) is);
     }
 
-pub done_some : (x : Played) (seen : Seen) (o : Option Stepped) → x.answer ≡ Done seen → IfSome o (IsDoneOf x.op seen) → IfSome o (IsStepOf x)
+pub done_some : (x : Played) (seen : Seen) (o : Option Stepped) → x.answer ≡ Done seen →
+    IfSome o (IsDoneOf x.op seen) → IfSome o (IsStepOf x)
 done_some x seen None e h = h
 done_some x seen (Some z) e h = done_step x seen z e h

@@ -21,7 +21,8 @@ found_there f s o low e = rw (lt-ltb s.start 4294967296 low) e
 none_high : (f : ℕ → Option Home) (s : SlotName) → 4294967296 ≤ s.start → None ≡ home_at f s
 none_high f s high = rw (le-ltb s.start 4294967296 high) refl
 
-pub sized_there : (roots : Journals) (f : ℕ → Option Home) (s : SlotName) (h : Home) → KnowsHomes roots f → home_at f s ≡ Some h → HasSize roots h.partition s h.bytes
+pub sized_there : (roots : Journals) (f : ℕ → Option Home) (s : SlotName) (h : Home) → KnowsHomes roots f → home_at f s ≡ Some h →
+    HasSize roots h.partition s h.bytes
 sized_there roots f s h knows at = elim (cases_lt s.start 4294967296) [
   | inl low ↦ (home_found roots f s h low knows (found_there f s (f (name_key s)) low refl ∙ at)).size
   | inr high ↦ absurd (not_some h (none_high f s high ∙ at))
@@ -38,7 +39,8 @@ left_sized roots f p s e knows (i, below, is) leaves =
     let (h, at) = some_is (f (name_key s)) some in
     (h, sym (found_there f s (f (name_key s)) low refl) ∙ at)
 
-pub size_known : (roots : Journals) (f : ℕ → Option Home) (p : ℕ) (s : SlotName) (len : ℕ) → KnowsHomes roots f → HasSize roots p s len → (h : Home) × (home_at f s ≡ Some h)
+pub size_known : (roots : Journals) (f : ℕ → Option Home) (p : ℕ) (s : SlotName) (len : ℕ) → KnowsHomes roots f → HasSize roots p s len →
+    (h : Home) × (home_at f s ≡ Some h)
 size_known roots f p s len knows (inl (class, (e, asked, slots, among, act, member), is)) =
     left_sized roots f p s e knows among (subst (λ (a : RootAct). Contains (leaves_by a) s) (sym act) member)
 size_known roots f p s len knows (inr (e, asked, among, act)) =

@@ -45,7 +45,8 @@ those at xs = filter (keeps at) xs
 
 -- ---- the marks of a slot that was handed out stay
 
-marks_stay : (at : ℕ → Option Home) (xs : List Played) (m : Mark) → homed at m.slot ≡ true → Contains (marks_of xs) m ↔ Contains (marks_of (those at xs)) m
+marks_stay : (at : ℕ → Option Home) (xs : List Played) (m : Mark) → homed at m.slot ≡ true →
+    Contains (marks_of xs) m ↔ Contains (marks_of (those at xs)) m
 marks_stay at xs m home = (
   λ among.
       let (x, member, is) = mark_from xs m among in
@@ -68,10 +69,12 @@ SameMarks s ms ns = (m : Mark) → m.slot ≡ s → Contains ms m ↔ Contains n
 turned : (s : SlotName) (ms ns : List Mark) → SameMarks s ms ns → SameMarks s ns ms
 turned s ms ns h m of = ((h m of).1, (h m of).0)
 
-same_marks : (at : ℕ → Option Home) (xs : List Played) (s : SlotName) → homed at s ≡ true → SameMarks s (marks_of xs) (marks_of (those at xs))
+same_marks : (at : ℕ → Option Home) (xs : List Played) (s : SlotName) → homed at s ≡ true →
+    SameMarks s (marks_of xs) (marks_of (those at xs))
 same_marks at xs s home m of = marks_stay at xs m (ap (homed at) of ∙ home)
 
-first_same : (ms ns : List Mark) (s : SlotName) (u : ℕ) (m : Mark) (p : Step) → SameMarks s ms ns → IsFirstAt ms s u m p → IsFirstAt ns s u m p
+first_same : (ms ns : List Mark) (s : SlotName) (u : ℕ) (m : Mark) (p : Step) → SameMarks s ms ns →
+    IsFirstAt ms s u m p → IsFirstAt ns s u m p
 first_same ms ns s u m p h f = record {
   among = (h m f.slot).0 f.among;
   slot = f.slot;
@@ -93,7 +96,8 @@ one_same ms ns s ws h one = record {
 slots_stay : (at : ℕ → Option Home) (xs : List Played) → Slots (marks_of xs) → Slots (marks_of (those at xs))
 slots_stay at xs slots s = by_home (homed at s) refl
   where
-    by_home : (b : Bool) → homed at s ≡ b → (vs : List ℕ) × IsRunFrom (marks_of (those at xs)) s 0 vs × IsOneRun (marks_of (those at xs)) s (0 ∷ vs)
+    by_home : (b : Bool) → homed at s ≡ b →
+        (vs : List ℕ) × IsRunFrom (marks_of (those at xs)) s 0 vs × IsOneRun (marks_of (those at xs)) s (0 ∷ vs)
     by_home true home =
         let (vs, run, one) = slots s in
         let h = same_marks at xs s home in
@@ -117,7 +121,8 @@ weighs_none test weight at (Some m) h away = by_test (at_step test m.found m.ste
     by_test true = h m.slot away
     by_test false = refl
 
-weight_stays : (test : Step → ℕ → Bool) (weight : SlotName → ℕ) (at : ℕ → Option Home) (xs : List Played) → ((s : SlotName) → homed at s ≡ false → weight s ≡ 0)
+weight_stays : (test : Step → ℕ → Bool) (weight : SlotName → ℕ) (at : ℕ → Option Home) (xs : List Played) →
+    ((s : SlotName) → homed at s ≡ false → weight s ≡ 0)
     → weight_of test weight (marks_of (those at xs)) ≡ weight_of test weight (marks_of xs)
 weight_stays test weight at [] h = refl
 weight_stays test weight at (x ∷ xs) h = by_keep (keeps at x) refl (weight_stays test weight at xs h)
@@ -136,7 +141,8 @@ weight_stays test weight at (x ∷ xs) h = by_keep (keeps at x) refl (weight_sta
         let b = weight_first test weight x xs in
         let none = weighs_none test weight at (mark_of x) h away in
         let same : those at (x ∷ xs) ≡ those at xs = rw away refl in
-        ap (λ zs. weight_of test weight (marks_of zs)) same ∙ again ∙ sym (b ∙ ap (λ n. n + weight_of test weight (marks_of xs)) none ∙ plain (weight_of test weight (marks_of xs)))
+        ap (λ zs. weight_of test weight (marks_of zs)) same ∙ again ∙
+        sym (b ∙ ap (λ n. n + weight_of test weight (marks_of xs)) none ∙ plain (weight_of test weight (marks_of xs)))
 
 away_home : (at : ℕ → Option Home) (p : ℕ) (s : SlotName) → p < 4 → homed at s ≡ false → home_in at s ≢ p
 away_home at p s low away same = by_size (home_at at s) refl
@@ -153,8 +159,10 @@ bytes_none at p low s away = rw (ne_eqb (home_in at s) p (away_home at p s low a
 
 -- ---- the tally
 
-left_is : (into out : Step → ℕ → Bool) (at : ℕ → Option Home) (p : ℕ) (xs : List Played) (a b tally : Tally) → p < 4 → IsTotal into at p xs a → IsTotal out at p xs b → tally ≡ less_of a b
-    → WentIn into out (home_in at) (size_in at) p (marks_of (those at xs)) → IsLeft into out (home_in at) (size_in at) p (marks_of (those at xs)) tally
+left_is : (into out : Step → ℕ → Bool) (at : ℕ → Option Home) (p : ℕ) (xs : List Played) (a b tally : Tally) → p < 4 →
+    IsTotal into at p xs a → IsTotal out at p xs b → tally ≡ less_of a b
+    → WentIn into out (home_in at) (size_in at) p (marks_of (those at xs)) →
+    IsLeft into out (home_in at) (size_in at) p (marks_of (those at xs)) tally
 left_is into out at p xs a b tally low x y is went =
     let s1 = weight_stays into (one_of (home_in at) p) at xs (one_none at p low) in
     let s2 = weight_stays out (one_of (home_in at) p) at xs (one_none at p low) in
@@ -184,13 +192,19 @@ module _ (supers partitions p : ℕ) (ps xs : List Played) (pools : List PoolEnt
       by_size None e = absurd (false≢true (sym (ap is_some e) ∙ marks_homed at xs m among))
       by_size (Some z) e =
           let sized = sized_there roots at m.slot z knows e in
-          subst (λ k. HasSize roots k m.slot (size_in at m.slot)) (sym (ap partition_by e)) (subst (λ k. HasSize roots z.partition m.slot k) (sym (ap bytes_by e)) sized)
+          subst (λ k. HasSize roots k m.slot (size_in at m.slot)) (sym (ap partition_by e))
+          (subst (λ k. HasSize roots z.partition m.slot k) (sym (ap bytes_by e)) sized)
 
   word_stays : (s : SlotName) (len w : ℕ) → HasSize roots p s len → HasWord (those at xs) s w ↔ HasWord xs s w
   word_stays s len w size =
       let (z, there) = size_known roots at p s len knows size in
       let h = same_marks at xs s (ap is_some there) in (
-        λ (vs, run, is). (vs, run_same (marks_of (those at xs)) (marks_of xs) s 0 vs (turned s (marks_of xs) (marks_of (those at xs)) h) run, is),
+        λ (vs, run, is). (
+          vs,
+          run_same (marks_of (those at xs)) (marks_of xs) s 0 vs
+              (turned s (marks_of xs) (marks_of (those at xs)) h) run,
+          is,
+        ),
         λ (vs, run, is). (vs, run_same (marks_of xs) (marks_of (those at xs)) s 0 vs h run, is),
       )
 

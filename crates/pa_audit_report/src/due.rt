@@ -170,7 +170,8 @@ fn by_phases(
     requires many { length columns.now ≡ partitions }
     requires long { HasEach (λ p lines. length lines ≡ phases) columns.now }
     ensures { IfOk result (λ all. (threads : ℕ) (ps : List Record) (pools : List Entry) (roots : Journals) →
-        AreColumns phases partitions threads ps pools roots partitions columns.now → IsReport phases partitions threads ps pools roots all.items) }
+        AreColumns phases partitions threads ps pools roots partitions columns.now →
+        IsReport phases partitions threads ps pools roots all.items) }
 {
     let mut lines = Vec::new(alloc);
     for at in 0..phases {

@@ -17,8 +17,8 @@ use pa_slot::OutOfMemory;
 use pa_trace::Trace;
 use std::alloc::Global;
 
-/// The place of the first line of the report that isn't the one that is due, and the one after the last line if one is missing. None if
-/// each is.
+/// The place of the first line of the report that isn't the one that is due,
+/// and the one after the last line if one is missing. None if each is.
 pub fn report_meets(
     alloc: Global,
     trace: &Trace,

@@ -51,7 +51,12 @@ in_order i j d order real =
 
 in_order_2 : IsNonDecreasingBy (λ r. r.slot) dense
 in_order_2 i j d order real =
-    omega (arith, dense_slot i d (omega arith), dense_slot j d real, slot_of-in_order_2 (59 + i) (59 + j) (omega arith) (omega arith) (omega arith))
+    omega (
+      arith,
+      dense_slot i d (omega arith),
+      dense_slot j d real,
+      slot_of-in_order_2 (59 + i) (59 + j) (omega arith) (omega arith) (omega arith),
+    )
 
 -- in a table, the rows whose slots are below a raw size come before the others
 pub table_parted : (raw : ℕ) → IsPartitionedBy (λ r. ltb r.slot raw) sparse

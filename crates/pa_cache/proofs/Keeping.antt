@@ -11,7 +11,8 @@ use Rattle.pa_region.specs.Aware.{IsAware}
 use Rattle.pa_cache.specs.Caches.{HoldsFree, IsFreeAtItsNumber, batch_after}
 
 -- what holds of all holds of the front
-pub front_has : (P : Title → Type 0) (front : Option Title) (ts rest : List Title) → ts ≡ option_to_list front ++ rest → All P ts → IfSome front P
+pub front_has : (P : Title → Type 0) (front : Option Title) (ts rest : List Title) → ts ≡ option_to_list front ++ rest → All P ts →
+    IfSome front P
 front_has P None ts rest is all = tt
 front_has P (Some t) ts rest is all = All-head P t rest (All-same P (t ∷ rest) ts (sym is) all)
 
@@ -25,6 +26,7 @@ at_their_numbers v ts aware free = λ k d within. at_its_number v (get_or ts k d
 -- a batch is empty if and only if no title is after the first `keep`
 pub none_behind : (keep : ℕ) (ts : List Title) → (batch_after keep ts ≡ []) ↔ (length ts ≤ keep)
 none_behind keep ts = (
-  (λ empty. let e : length (take 16 (drop keep ts)) ≡ 0 = ap length empty in omega (arith, length-take 16 (drop keep ts), length-drop keep ts)),
+  (λ empty. let e : length (take 16 (drop keep ts)) ≡ 0 = ap length empty in
+      omega (arith, length-take 16 (drop keep ts), length-drop keep ts)),
   (λ short. ap (take 16) (drop_all keep ts short)),
 )

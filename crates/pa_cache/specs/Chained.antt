@@ -23,8 +23,8 @@ pub record CacheParts : Type 0 where
 abbrev pub list_in : View → CacheParts → CacheList
 list_in v c = record { class = c.class; titles = titles_along v.words c.chain }
 
--- What the type of a chained cache keeps: the class is one of the 170, the chain is one of slots of its size, and there are at most 8
--- more than the limit.
+-- What the type of a chained cache keeps: the class is one of the 170, the chain is one of slots of its size,
+-- and there are at most 8 more than the limit.
 pub record KeepsBounds (c : CacheParts) : Type 0 where
   pub class : c.class < class_count
   pub size : c.chain.slot_len ≡ slot_of c.class
@@ -39,8 +39,8 @@ pub record HoldsList (v : View) (c : CacheParts) : Type 0 where
 abbrev pub IsInLists : View → List CacheParts → Title → Type 0
 IsInLists v cs t = (c : CacheParts) × Contains cs c × Contains (list_in v c).titles t
 
--- Each cache has the list that it has in one view in another too, if each title of the lists is free there, and has the same
--- first word.
+-- Each cache has the list that it has in one view in another too,
+-- if each title of the lists is free there, and has the same first word.
 abbrev pub ListsStay : Type 0
 ListsStay = (v w : View) (cs : List CacheParts) → All (HoldsList v) cs →
     ((t : Title) → IsInLists v cs t → (0 < free_of w t) × (first_word w.words (name_of t) ≡ first_word v.words (name_of t))) →

@@ -18,15 +18,18 @@ use Rattle.pa_cells.specs.Handles.{ParkedHandle, held_as}
 use Rattle.pa_cells.specs.Cells.{Exchange, exchange_numbers, is_with_cell, entries_with, made_with_cell, cell_history, cell_holds, held_after, AreExchanges, CellsHeld, IsCells}
 
 -- if one member of a list is set
-pub set_at : {A : Type 0} (xs : List A) (c k : ℕ) (y d : A) → c < length xs → slice_index_or (slice_set xs c y) k d ≡ (if c == k then y else slice_index_or xs k d)
+pub set_at : {A : Type 0} (xs : List A) (c k : ℕ) (y d : A) → c < length xs →
+    slice_index_or (slice_set xs c y) k d ≡ (if c == k then y else slice_index_or xs k d)
 set_at {A} xs c k y d within = go (c == k) refl
   where
     go : (b : Bool) → (c == k) ≡ b → slice_index_or (slice_set xs c y) k d ≡ (if b then y else slice_index_or xs k d)
-    go true is = let e : c ≡ k = grind (arith, nat_tests) in subst (λ (n : ℕ). slice_index_or (slice_set xs c y) n d ≡ y) e (get_or-set_same xs c y d within)
+    go true is = let e : c ≡ k = grind (arith, nat_tests) in
+        subst (λ (n : ℕ). slice_index_or (slice_set xs c y) n d ≡ y) e (get_or-set_same xs c y d within)
     go false is = get_or-set_other xs c k y d (λ e. grind (arith, nat_tests))
 
 -- what is true of the member that is set and of those that were there is true of each
-pub each_set : {A : Type 0} (P : A → Type 0) (xs : List A) (c k : ℕ) (y d : A) → c < length xs → P y → P (slice_index_or xs k d) → P (slice_index_or (slice_set xs c y) k d)
+pub each_set : {A : Type 0} (P : A → Type 0) (xs : List A) (c k : ℕ) (y d : A) → c < length xs → P y → P (slice_index_or xs k d) →
+    P (slice_index_or (slice_set xs c y) k d)
 each_set {A} P xs c k y d within here there = subst P (sym (set_at xs c k y d within)) (go (c == k))
   where
     go : (b : Bool) → P (if b then y else slice_index_or xs k d)
@@ -46,12 +49,17 @@ both_set {A} {B} P xs ys c k x d y e within inside here there =
     go false = there
 
 -- the entries of one cell, with one exchange more
-pub entries_more : (k c : ℕ) (e : CellEntry) (xs : List Exchange) → entries_with k (xs ++ record { cell = c; entry = e } ∷ []) ≡ (if c == k then entries_with k xs ++ e ∷ [] else entries_with k xs)
+pub entries_more : (k c : ℕ) (e : CellEntry) (xs : List Exchange) →
+    entries_with k (xs ++ record { cell = c; entry = e } ∷ []) ≡ (if c == k then entries_with k xs ++ e ∷ [] else entries_with k xs)
 entries_more k c e xs =
-    ap (λ (ys : List Exchange). map (λ (x : Exchange). x.entry) ys) (filter-append (is_with_cell k) xs (record { cell = c; entry = e } ∷ []))
-    ∙ (map-append (λ (x : Exchange). x.entry) (filter (is_with_cell k) xs) (filter (is_with_cell k) (record { cell = c; entry = e } ∷ [])) ∙ go (c == k))
+    ap (λ (ys : List Exchange). map (λ (x : Exchange). x.entry) ys)
+    (filter-append (is_with_cell k) xs (record { cell = c; entry = e } ∷ []))
+    ∙ (map-append (λ (x : Exchange). x.entry) (filter (is_with_cell k) xs) (filter (is_with_cell k) (record { cell = c; entry = e } ∷ [])) ∙
+    go (c == k))
   where
-    go : (b : Bool) → entries_with k xs ++ map (λ (x : Exchange). x.entry) (if b then record { cell = c; entry = e } ∷ [] else []) ≡ (if b then entries_with k xs ++ e ∷ [] else entries_with k xs)
+    go : (b : Bool) → entries_with k xs ++
+        map (λ (x : Exchange). x.entry) (if b then record { cell = c; entry = e } ∷ [] else []) ≡ (if b then entries_with k xs ++
+        e ∷ [] else entries_with k xs)
     go true = refl
     go false = append-nil (entries_with k xs)
 
@@ -65,12 +73,15 @@ exchanged_more list hs xs c e m within says h = record {
   cells = λ k. set_at hs c k (cell_history hs c ++ e ∷ []) [] within ∙ (go k (c == k) refl ∙ sym (entries_more k c e xs));
 }
   where
-    go : (k : ℕ) (b : Bool) → (c == k) ≡ b → (if b then cell_history hs c ++ e ∷ [] else cell_history hs k) ≡ (if b then entries_with k xs ++ e ∷ [] else entries_with k xs)
-    go k true is = let same : c ≡ k = grind (arith, nat_tests) in ap (λ (es : List CellEntry). es ++ e ∷ []) (ap (λ (n : ℕ). cell_history hs n) same ∙ h.cells k)
+    go : (k : ℕ) (b : Bool) → (c == k) ≡ b →
+        (if b then cell_history hs c ++ e ∷ [] else cell_history hs k) ≡ (if b then entries_with k xs ++ e ∷ [] else entries_with k xs)
+    go k true is = let same : c ≡ k = grind (arith, nat_tests) in
+        ap (λ (es : List CellEntry). es ++ e ∷ []) (ap (λ (n : ℕ). cell_history hs n) same ∙ h.cells k)
     go k false is = h.cells k
 
 -- one more entry finds what was given, and what the cell has then is what it gave
-pub find_more : (held : Held) (es : List CellEntry) (e : CellEntry) → IsChain held es → e.found ≡ held_after held es → IsChain held (es ++ e ∷ [])
+pub find_more : (held : Held) (es : List CellEntry) (e : CellEntry) → IsChain held es → e.found ≡ held_after held es →
+    IsChain held (es ++ e ∷ [])
 find_more held [] e h f = (f, tt)
 find_more held (d ∷ es) e h f = (h.0, find_more d.gave es e h.1 f)
 
@@ -79,7 +90,8 @@ after_more held [] e = refl
 after_more held (d ∷ es) e = after_more d.gave es e
 
 -- as many entries of the list are of a cell as its history has
-pub same_count : (k : ℕ) (list : List Made) (xs : List Exchange) → map (λ (m : Made). m.numbers) list ≡ map exchange_numbers xs → length (made_with_cell k list) ≡ length (entries_with k xs)
+pub same_count : (k : ℕ) (list : List Made) (xs : List Exchange) → map (λ (m : Made). m.numbers) list ≡ map exchange_numbers xs →
+    length (made_with_cell k list) ≡ length (entries_with k xs)
 same_count k [] [] e = refl
 same_count k [] (x ∷ xs) e = cc
 same_count k (m ∷ list) [] e = cc
@@ -108,14 +120,17 @@ stands_at one [] rest m x (y ∷ xs) e says =
     let entry : y.entry ≡ x.entry = one y.entry x.entry cc in
     go (y.cell == x.cell) (grind (arith, nat_tests)) entry
   where
-    go : (b : Bool) → b ≡ true → y.entry ≡ x.entry → slice_get (map (λ (z : Exchange). z.entry) (if b then y ∷ filter (is_with_cell x.cell) xs else filter (is_with_cell x.cell) xs)) 0 ≡ Some x.entry
+    go : (b : Bool) → b ≡ true → y.entry ≡ x.entry →
+        slice_get (map (λ (z : Exchange). z.entry) (if b then y ∷ filter (is_with_cell x.cell) xs else filter (is_with_cell x.cell) xs))
+        0 ≡ Some x.entry
     go true is same = ap Some same
     go false is same = cc
 stands_at one (n ∷ before) rest m x [] e says = cc
 stands_at one (n ∷ before) rest m x (y ∷ xs) e says =
     let here : n.numbers ≡ exchange_numbers y = cc in
     let later : map (λ (l : Made). l.numbers) (before ++ m ∷ rest) ≡ map exchange_numbers xs = cc in
-    go (slice_index n.numbers 1 == x.cell) (y.cell == x.cell) (ap (λ (ns : List ℕ). slice_index ns 1 == x.cell) here) (stands_at one before rest m x xs later says)
+    go (slice_index n.numbers 1 == x.cell) (y.cell == x.cell) (ap (λ (ns : List ℕ). slice_index ns 1 == x.cell) here)
+    (stands_at one before rest m x xs later says)
   where
     go : (b d : Bool) → b ≡ d → slice_get (entries_with x.cell xs) (length (made_with_cell x.cell before)) ≡ Some x.entry
         → slice_get (map (λ (z : Exchange). z.entry) (if d then y ∷ filter (is_with_cell x.cell) xs else filter (is_with_cell x.cell) xs))
@@ -139,18 +154,21 @@ cells_more old w hs ps line c given gave found m small h room hosts list says is
     let within : c < length old.histories = (let n = h.cells in omega arith) in
     let inside : c < length old.parked = (let n = h.held in omega arith) in
     subst (λ (ys : List (List CellEntry)). IsCells (record { view = w; histories = ys; parked = ps })) (sym histories)
-    (subst (λ (ys : List (Option ParkedHandle)). IsCells (record { view = w; histories = slice_set old.histories c h'; parked = ys })) (sym parked) (record {
+    (subst (λ (ys : List (Option ParkedHandle)). IsCells (record { view = w; histories = slice_set old.histories c h'; parked = ys }))
+    (sym parked) (record {
       cells = length-set old.histories c h' ∙ h.cells;
       held = length-set old.parked c given ∙ h.held;
       host = hosts;
       exchanged = (
         h.exchanged.0 ++ record { cell = c; entry = e } ∷ [],
-        subst (λ (l : List Made). AreExchanges l (slice_set old.histories c h') (h.exchanged.0 ++ record { cell = c; entry = e } ∷ [])) (sym list)
+        subst (λ (l : List Made). AreExchanges l (slice_set old.histories c h') (h.exchanged.0 ++ record { cell = c; entry = e } ∷ []))
+            (sym list)
             (exchanged_more (list_of 5 old.view) old.histories h.exchanged.0 c e m within says h.exchanged.1),
       );
       chain = λ k. each_set (λ (es : List CellEntry). IsChain Nothing es) old.histories c k h' [] within
           (find_more Nothing (cell_history old.histories c) e (h.chain c) (is_found ∙ h.holds c)) (h.chain k);
-      holds = λ k. both_set (λ (o : Option ParkedHandle) (es : List CellEntry). held_as o ≡ held_after Nothing es) old.parked old.histories c k given None h' [] inside within
+      holds = λ k. both_set (λ (o : Option ParkedHandle) (es : List CellEntry). held_as o ≡ held_after Nothing es) old.parked old.histories
+          c k given None h' [] inside within
           (sym is_gave ∙ sym (after_more Nothing (cell_history old.histories c) e)) (h.holds k);
       few = λ k. each_set (λ (es : List CellEntry). length es ≤ 2147483647) old.histories c k h' [] within
           (omega (arith, length-append (cell_history old.histories c) (e ∷ []))) (h.few k);

@@ -25,7 +25,11 @@ starts v hosts empty =
       cells = length-replicate {A = List CellEntry} 64 [];
       held = length-replicate {A = Option ParkedHandle} 64 None;
       host = hosts;
-      exchanged = ([], subst (λ (l : List Made). AreExchanges l (replicate 64 []) []) (sym empty) (record { numbers = refl; cells = histories }));
+      exchanged = (
+        [],
+        subst (λ (l : List Made). AreExchanges l (replicate 64 []) []) (sym empty)
+            (record { numbers = refl; cells = histories }),
+      );
       chain = λ k. subst (λ (es : List CellEntry). IsChain Nothing es) (sym (histories k)) tt;
       holds = λ k. ap held_as (always 64 k None) ∙ sym (ap (λ (es : List CellEntry). held_after Nothing es) (histories k));
       few = λ k. let e = ap length (histories k) in omega arith;

@@ -102,7 +102,8 @@ pub record MakesExchange (line cell : ℕ) (given : Option ParkedHandle) (lender
   pub parked : new.parked ≡ slice_set old.parked cell given
   pub histories : new.histories ≡ pushed_at cell (exchange_entry line given (cell_holds old.parked cell)) old.histories
   pub noted : (m : Made) × IsNoted (least_stake lender.stakes) 5
-      (exchange_numbers (record { cell = cell; entry = exchange_entry line given (cell_holds old.parked cell) })) lender lender_now old.view new.view m
+      (exchange_numbers (record { cell = cell; entry = exchange_entry line given (cell_holds old.parked cell) })) lender lender_now
+      old.view new.view m
 
 -- an exchange that is in the list is in its cell's history, after as many as are before it in the list
 abbrev pub PlacesStay : Type 0

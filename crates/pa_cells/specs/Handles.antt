@@ -20,10 +20,10 @@ use Rattle.pa_record.specs.Root.{names}
 use Rattle.pa_trace.specs.Limits.{most_partitions}
 use Rattle.pa_region.specs.declared.view.Made.{Made}
 use Rattle.pa_region.specs.declared.view.View.{View}
-use Rattle.pa_region.specs.Views.{free_of, own_of, ref_of, stake_of}
+use Rattle.pa_region.specs.Views.{free_of, own_of, sealed_of, ref_of, stake_of}
 use Rattle.pa_region.specs.Waiting.{unclean_of}
 use Rattle.pa_region.specs.Lists.{list_of, IsBeginning}
-use Rattle.pa_region.specs.Hands.{HoldsGiven, left_after, given_after, united}
+use Rattle.pa_region.specs.Hands.{HoldsGiven, is_clean_of, first_sealed, left_after, given_after, united}
 use Rattle.pa_region.specs.Aware.{IsAware}
 use Rattle.pa_region.specs.Lending.{CanLend}
 use Rattle.pa_region.specs.Marks.{parcel_of}
@@ -50,13 +50,14 @@ pub record HasSeenMade (h : Handle) (v : View) : Type 0 where
   pub entry : (m : Made) × (e : RootEntry) × Contains (list_of h.partition v) m × (m.numbers ≡ root_numbers e)
       × HandsOut h.class h.title e.act
 
--- The note of a handle on its way holds the title's Own, which is clean, or one Ref of it, and no other handle, no free title and no
--- stake. It has seen how the slot was made.
+-- The note of a handle on its way holds the title's Own, which is clean and not sealed, or one Ref of it, and no other handle, no free
+-- title and no stake. It has seen how the slot was made.
 pub record IsParked (p : ParkedHandle) : Type 0 where
   pub owns : (t : Title) → own_of p.note.view t ≡ one (p.own && same_title p.handle.title t)
   pub refs : (t : Title) → ref_of p.note.view t ≡ one (not p.own && same_title p.handle.title t)
   pub frees : (t : Title) → free_of p.note.view t ≡ 0
   pub clean : unclean_of p.note.view ≡ 0
+  pub sealed : (t : Title) → sealed_of p.note.view t ≡ 0
   pub stakes : (k : ℕ) → stake_of p.note.view k ≡ 0
   pub made : HasSeenMade p.handle p.note.view
 
@@ -69,20 +70,23 @@ held_as (Some p) = if p.own then held.Own (name_of p.handle.title) else held.Ref
 abbrev pub handle_item : Bool → Title → Item
 handle_item own t = if own then item.Own t else item.Ref t
 
--- A note that was handed this one handle, by a seat that had seen how its slot was made, is that of a handle on its way.
+-- A note that was handed this one handle, by a seat that had seen how its slot was made and had no sealed Own of it, is that of a
+-- handle on its way.
 abbrev pub HandedCanWait : Type 0
 HandedCanWait =
     (h : Handle) (own : Bool) (region : TableId) (budget : ℕ) (v : View) → HasSeenMade h v →
+    sealed_of v h.title ≡ 0 →
     IsParked (record {
       handle = h;
       own = own;
       note = record { region = region; view = given_after (parcel_of (handle_item own h.title ∷ []) budget []) v };
     })
 
--- What a seat with the view v has left after it handed this one handle over: the handle less, as many free titles as before,
--- the same stakes, and it can lend its stake again.
+-- What a seat with the view v has left after it handed this one handle over: the handle less, which is a sealed Own less if the one
+-- that it gave was sealed, as many free titles as before, the same stakes, and it can lend its stake again.
 pub record LacksHandle (own : Bool) (t : Title) (v left : View) : Type 0 where
   pub owns : (u : Title) → own_of left u + one (own && same_title t u) ≡ own_of v u
+  pub sealed : (u : Title) → sealed_of left u + one ((own && same_title t u) && first_sealed (is_clean_of t) v.owns) ≡ sealed_of v u
   pub refs : (u : Title) → ref_of left u + one (not own && same_title t u) ≡ ref_of v u
   pub frees : (u : Title) → free_of left u ≡ free_of v u
   pub stakes : left.stakes ≡ v.stakes
@@ -94,10 +98,11 @@ GiversLackHandles =
     (own : Bool) (t : Title) (budget : ℕ) (v : View) → HoldsGiven (handle_item own t) v →
     LacksHandle own t v (left_after (parcel_of (handle_item own t ∷ []) budget []) v)
 
--- What a seat with the view v has after it took the note in: the handle besides, and as many free titles and stakes as before. It can
--- lend its stake again if it could, and has seen how the slot was made.
+-- What a seat with the view v has after it took the note in: the handle besides, sealed if it is so in the note, and as many free
+-- titles and stakes as before. It can lend its stake again if it could, and has seen how the slot was made.
 pub record TakesHandle (p : ParkedHandle) (v after : View) : Type 0 where
   pub owns : (t : Title) → own_of after t ≡ own_of v t + one (p.own && same_title p.handle.title t)
+  pub sealed : (t : Title) → sealed_of after t ≡ sealed_of v t + sealed_of p.note.view t
   pub refs : (t : Title) → ref_of after t ≡ ref_of v t + one (not p.own && same_title p.handle.title t)
   pub frees : (t : Title) → free_of after t ≡ free_of v t
   pub stakes : (k : ℕ) → stake_of after k ≡ stake_of v k

@@ -15,8 +15,8 @@ pub struct Handle {
     pub class: Option<Class>,
 }
 
-/// A handle on its way from one thread to another: the Own of its slot, or one Ref. The note holds it, and has seen how
-/// the slot was made.
+/// A handle on its way from one thread to another: the Own of its slot, or one Ref. The note holds it,
+/// and has seen how the slot was made.
 #[derive(Drop)]
 pub struct Parked {
     pub handle: Handle,

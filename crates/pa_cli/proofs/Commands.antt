@@ -39,13 +39,16 @@ has_needs (Gen rounds key) words asked = ap (λ ws. needs_by (first_word ws)) as
 has_needs Help words asked = ap (λ ws. needs_by (first_word ws)) asked
 has_needs Version words asked = ap (λ ws. needs_by (first_word ws)) asked
 
-pub one_needs : (command other : Command) (words : List (List ℕ)) → AsksFor command words → AsksFor other words → needs_of command ≡ needs_of other
+pub one_needs : (command other : Command) (words : List (List ℕ)) → AsksFor command words → AsksFor other words →
+    needs_of command ≡ needs_of other
 one_needs command other words asked also = sym (has_needs command words asked) ∙ has_needs other words also
 
 -- the command plays threads for which words ask that ask for threads
-pub threads_asked : (command : Command) (words : List (List ℕ)) → AsksFor command words → AsksForThreads words → (needs_of command).threads ≡ true
+pub threads_asked : (command : Command) (words : List (List ℕ)) → AsksFor command words → AsksForThreads words →
+    (needs_of command).threads ≡ true
 threads_asked command words asked h = ap (λ (x : Needs). x.threads) (one_needs command h.0 words asked h.1) ∙ h.2
 
 -- words that ask for a command that plays none don't ask for threads, and words of no command neither
-pub alone_asked : (command : Command) (words : List (List ℕ)) → AsksFor command words → (needs_of command).threads ≡ false → AsksForThreads words → ⊥
+pub alone_asked : (command : Command) (words : List (List ℕ)) → AsksFor command words →
+    (needs_of command).threads ≡ false → AsksForThreads words → ⊥
 alone_asked command words asked alone h = let e : true ≡ false = sym (threads_asked command words asked h) ∙ alone in absurd cc

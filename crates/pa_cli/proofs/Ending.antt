@@ -46,7 +46,8 @@ clean ReadsScript bytes fault input h = no_script_fault input.0 bytes fault inpu
 clean ReadsRun bytes fault input h = no_audit_fault input.0 input.1 input.2 bytes fault input.3 h
 
 -- bytes have one fault
-one_of : (reads : Reading) (bytes : List ℕ) (fault other : TraceFault) → IsFaulty reads fault bytes → IsFaulty reads other bytes → fault ≡ other
+one_of : (reads : Reading) (bytes : List ℕ) (fault other : TraceFault) → IsFaulty reads fault bytes →
+    IsFaulty reads other bytes → fault ≡ other
 one_of ReadsNothing bytes fault other h k = absurd h
 one_of ReadsTrace bytes fault other h k = one_fault last_version fault other bytes h k
 one_of ReadsScript bytes fault other h k = one_script_fault fault other bytes h k
@@ -68,7 +69,8 @@ fault_of of other fault before after same h = subst (λ (x : Needs). HasFault x.
 no_fault : (bytes : List ℕ) (of other : Needs) (fault : TraceFault) (before after : Stream) → of ≡ other → before.told ≡ Some bytes
     → IsInputFor of.reads bytes → HasFault other.reads fault before after → ⊥
 no_fault bytes of other fault before after same told input h =
-    clean of.reads bytes fault input (told_these (IsFaulty of.reads fault) before.told bytes told (fault_of of other fault before after same h).told)
+    clean of.reads bytes fault input
+    (told_these (IsFaulty of.reads fault) before.told bytes told (fault_of of other fault before after same h).told)
 
 -- of what reads nothing, nothing is read
 never_read : (of other : Needs) → of ≡ other → of.reads ≡ ReadsNothing → ReadsSome other.reads → ⊥
@@ -79,9 +81,11 @@ pub caused_completes : (status : Status) (c : Call) → Caused status c → Comp
 caused_completes Done c h = λ bytes command words told input calm quiet. inl refl
 caused_completes BadCommand c h = λ bytes command words told input calm quiet. absurd (h.0 (command, words))
 caused_completes (BadLine n) c h = λ bytes command words told input calm quiet.
-    absurd (no_fault bytes (needs_of command) (needs_of h.0.0) (faults.BadLine n) c.source c.source_after (one_needs command h.0.0 c.words words h.0.1) told input h.0.2.1)
+    absurd (no_fault bytes (needs_of command) (needs_of h.0.0) (faults.BadLine n) c.source c.source_after
+    (one_needs command h.0.0 c.words words h.0.1) told input h.0.2.1)
 caused_completes (Limit n) c h = λ bytes command words told input calm quiet.
-    absurd (no_fault bytes (needs_of command) (needs_of h.0.0) (faults.Limit n) c.source c.source_after (one_needs command h.0.0 c.words words h.0.1) told input h.0.2.1)
+    absurd (no_fault bytes (needs_of command) (needs_of h.0.0) (faults.Limit n) c.source c.source_after
+    (one_needs command h.0.0 c.words words h.0.1) told input h.0.2.1)
 caused_completes ReadFault c h = λ bytes command words told input calm quiet. absurd (calm h.0.2.1.risen)
 caused_completes WriteFault c h = λ bytes command words told input calm quiet. absurd (quiet h.2)
 caused_completes OutOfMemory c h = λ bytes command words told input calm quiet. inr (inl refl)
@@ -108,18 +112,27 @@ caused_answers (NotLegal clause n) c h = λ command words none quiet.
     absurd (never_read (needs_of command) (needs_of h.0.0) (one_needs command h.0.0 c.words words h.0.1) none read)
 
 -- a command with an output had an input
-output_input : (command : Command) (bytes : List ℕ) (before after : Stream) (out : Output) → ReadsSome (needs_of command).reads → before.told ≡ Some bytes
+output_input : (command : Command) (bytes : List ℕ) (before after : Stream) (out : Output) →
+    ReadsSome (needs_of command).reads → before.told ≡ Some bytes
     → IsOutputOf command before after out → IsInputFor (needs_of command).reads bytes
 output_input Replay bytes before after out reads told h =
     (h.trace, subst (IsInput h.trace) (read_these before.told bytes h.read.bytes told h.read.read.all) h.read.input)
 output_input Model bytes before after out reads told h =
     (h.0.trace, subst (IsInput h.0.trace) (read_these before.told bytes h.0.read.bytes told h.0.read.read.all) h.0.read.input)
 output_input Audit bytes before after out reads told h =
-    let input = h.0.legal in
-    (input.trace, input.run, input.lines, subst (IsAudited input.trace input.run input.lines) (read_these before.told bytes h.0.bytes told h.0.read.all) input.input)
+    let input = h.0.legal in (
+      input.trace,
+      input.run,
+      input.lines,
+      subst (IsAudited input.trace input.run input.lines) (read_these before.told bytes h.0.bytes told h.0.read.all) input.input,
+    )
 output_input Dangling bytes before after out reads told h =
-    let legal = h.0.legal in
-    (h.0.trace, h.0.run, legal.lines, subst (IsAudited h.0.trace h.0.run legal.lines) (read_these before.told bytes h.0.bytes told h.0.read.all) legal.input)
+    let legal = h.0.legal in (
+      h.0.trace,
+      h.0.run,
+      legal.lines,
+      subst (IsAudited h.0.trace h.0.run legal.lines) (read_these before.told bytes h.0.bytes told h.0.read.all) legal.input,
+    )
 output_input Resize bytes before after out reads told h =
     (h.0.script, subst (IsScriptInput h.0.script) (read_these before.told bytes h.0.read.bytes told h.0.read.read.all) h.0.read.input)
 output_input Verdicts bytes before after out reads told h =
@@ -131,13 +144,15 @@ output_input Help bytes before after out reads told h = absurd reads
 output_input Version bytes before after out reads told h = absurd reads
 
 -- a faulty input has no output
-no_output : (bytes : List ℕ) (command : Command) (fault : TraceFault) (c : Call) (text : List ℕ) → AsksFor command c.words → c.source.told ≡ Some bytes
+no_output : (bytes : List ℕ) (command : Command) (fault : TraceFault) (c : Call) (text : List ℕ) →
+    AsksFor command c.words → c.source.told ≡ Some bytes
     → IsFaulty (needs_of command).reads fault bytes → IsOutput c text → ⊥
 no_output bytes command fault c text words told first h =
     let same = one_needs command h.0 c.words words h.1 in
     let faulty : IsFaulty (needs_of h.0).reads fault bytes = subst (λ (x : Needs). IsFaulty x.reads fault bytes) same first in
     let reads = fault_read (needs_of h.0).reads bytes fault faulty in
-    clean (needs_of h.0).reads bytes fault (output_input h.0 bytes c.source c.source_after (output_with text c.run c.region) reads told h.2) faulty
+    clean (needs_of h.0).reads bytes fault
+    (output_input h.0 bytes c.source c.source_after (output_with text c.run c.region) reads told h.2) faulty
 
 -- two first faults of the same bytes have one status
 same_status : (bytes : List ℕ) (of other : Needs) (fault found : TraceFault) (before after : Stream) → of ≡ other → before.told ≡ Some bytes
@@ -147,22 +162,30 @@ same_status bytes of other fault found before after same told first h =
     ap status_of_trace (one_of of.reads bytes found fault (told_these (IsFaulty of.reads found) before.told bytes told also.told) first)
 
 -- a run that isn't legal was read from an input
-refuted_input : (bytes : List ℕ) (clause : Clause) (n : ℕ) (before after : Stream) → before.told ≡ Some bytes → IsRefuted clause n before after
+refuted_input : (bytes : List ℕ) (clause : Clause) (n : ℕ) (before after : Stream) → before.told ≡ Some bytes →
+    IsRefuted clause n before after
     → IsInputFor ReadsRun bytes
 refuted_input bytes clause n before after told h =
-    let input = h.refuted in
-    (input.trace, input.run, input.lines, subst (IsAudited input.trace input.run input.lines) (read_these before.told bytes h.bytes told h.read.all) input.input)
+    let input = h.refuted in (
+      input.trace,
+      input.run,
+      input.lines,
+      subst (IsAudited input.trace input.run input.lines) (read_these before.told bytes h.bytes told h.read.all) input.input,
+    )
 
 -- a faulty input leads to the status of its fault or to OutOfMemory
 pub caused_refuses : (status : Status) (c : Call) → Caused status c → Refuses status c
 caused_refuses Done c h = λ bytes fault command words told first calm. absurd (no_output bytes command fault c h.0 words told first h.1)
 caused_refuses BadCommand c h = λ bytes fault command words told first calm. absurd (h.0 (command, words))
 caused_refuses (BadLine n) c h = λ bytes fault command words told first calm.
-    inl (same_status bytes (needs_of command) (needs_of h.0.0) fault (faults.BadLine n) c.source c.source_after (one_needs command h.0.0 c.words words h.0.1) told first h.0.2.1)
+    inl (same_status bytes (needs_of command) (needs_of h.0.0) fault (faults.BadLine n) c.source c.source_after
+    (one_needs command h.0.0 c.words words h.0.1) told first h.0.2.1)
 caused_refuses (Limit n) c h = λ bytes fault command words told first calm.
-    inl (same_status bytes (needs_of command) (needs_of h.0.0) fault (faults.Limit n) c.source c.source_after (one_needs command h.0.0 c.words words h.0.1) told first h.0.2.1)
+    inl (same_status bytes (needs_of command) (needs_of h.0.0) fault (faults.Limit n) c.source c.source_after
+    (one_needs command h.0.0 c.words words h.0.1) told first h.0.2.1)
 caused_refuses ReadFault c h = λ bytes fault command words told first calm. absurd (calm h.0.2.1.risen)
-caused_refuses WriteFault c h = λ bytes fault command words told first calm. absurd (no_output bytes command fault c h.0 words told first h.1)
+caused_refuses WriteFault c h =
+    λ bytes fault command words told first calm. absurd (no_output bytes command fault c h.0 words told first h.1)
 caused_refuses OutOfMemory c h = λ bytes fault command words told first calm. inr refl
 caused_refuses (NotLegal clause n) c h = λ bytes fault command words told first calm.
     let same = ap (λ (x : Needs). x.reads) (one_needs command h.0.0 c.words words h.0.1) ∙ h.0.2.0 in
@@ -175,11 +198,13 @@ verdict_input bytes Legal h = (h.trace, h.run, h.lines, h.input)
 verdict_input bytes (Broken clause n) h = (h.trace, h.run, h.lines, h.input)
 
 -- what a command printed that reads a run is of a legal one
-output_legal : (command : Command) (bytes : List ℕ) (before after : Stream) (out : Output) → (needs_of command).reads ≡ ReadsRun → before.told ≡ Some bytes
+output_legal : (command : Command) (bytes : List ℕ) (before after : Stream) (out : Output) →
+    (needs_of command).reads ≡ ReadsRun → before.told ≡ Some bytes
     → IsOutputOf command before after out → IsLegalInput bytes
 output_legal Replay bytes before after out reads told h = absurd cc
 output_legal Model bytes before after out reads told h = absurd cc
-output_legal Audit bytes before after out reads told h = subst IsLegalInput (read_these before.told bytes h.0.bytes told h.0.read.all) h.0.legal
+output_legal Audit bytes before after out reads told h =
+    subst IsLegalInput (read_these before.told bytes h.0.bytes told h.0.read.all) h.0.legal
 output_legal Dangling bytes before after out reads told h =
     subst IsLegalInput (read_these before.told bytes h.0.bytes told h.0.read.all) (legal_input h.0.trace h.0.run h.0.bytes h.0.legal)
 output_legal Resize bytes before after out reads told h = absurd cc
@@ -190,7 +215,8 @@ output_legal (Gen rounds key) bytes before after out reads told h = absurd cc
 output_legal Help bytes before after out reads told h = absurd cc
 output_legal Version bytes before after out reads told h = absurd cc
 
-legal_output : (bytes : List ℕ) (command : Command) (c : Call) (text : List ℕ) → AsksFor command c.words → (needs_of command).reads ≡ ReadsRun
+legal_output : (bytes : List ℕ) (command : Command) (c : Call) (text : List ℕ) → AsksFor command c.words →
+    (needs_of command).reads ≡ ReadsRun
     → c.source.told ≡ Some bytes → IsOutput c text → IsVerdictOn Legal bytes
 legal_output bytes command c text asked reads told h =
     output_legal h.0 bytes c.source c.source_after (output_with text c.run c.region)
@@ -208,10 +234,12 @@ caused_judges Done c h = λ bytes verdict command asked reads told right calm qu
 caused_judges BadCommand c h = λ bytes verdict command asked reads told right calm quiet. absurd (h.0 (command, asked))
 caused_judges (BadLine n) c h = λ bytes verdict command asked reads told right calm quiet.
     let same = one_needs command h.0.0 c.words asked h.0.1 in
-    absurd (no_fault bytes (needs_of command) (needs_of h.0.0) (faults.BadLine n) c.source c.source_after same told (judged_input bytes command verdict reads right) h.0.2.1)
+    absurd (no_fault bytes (needs_of command) (needs_of h.0.0) (faults.BadLine n) c.source c.source_after same told
+    (judged_input bytes command verdict reads right) h.0.2.1)
 caused_judges (Limit n) c h = λ bytes verdict command asked reads told right calm quiet.
     let same = one_needs command h.0.0 c.words asked h.0.1 in
-    absurd (no_fault bytes (needs_of command) (needs_of h.0.0) (faults.Limit n) c.source c.source_after same told (judged_input bytes command verdict reads right) h.0.2.1)
+    absurd (no_fault bytes (needs_of command) (needs_of h.0.0) (faults.Limit n) c.source c.source_after same told
+    (judged_input bytes command verdict reads right) h.0.2.1)
 caused_judges ReadFault c h = λ bytes verdict command asked reads told right calm quiet. absurd (calm h.0.2.1.risen)
 caused_judges WriteFault c h = λ bytes verdict command asked reads told right calm quiet. absurd (quiet h.2)
 caused_judges OutOfMemory c h = λ bytes verdict command asked reads told right calm quiet. inr refl

@@ -35,7 +35,8 @@ only_refuted clause n c command right asked =
     let h = right.cause.0 in read_runs command (reads_same command h.0 c.words asked h.1 ∙ h.2.0)
 
 -- words that ask for a command that reads nothing don't ask for one that reads
-none_read : (command : Command) (words : List (List ℕ)) → AsksFor command words → (needs_of command).reads ≡ ReadsNothing → AsksToRead words → ⊥
+none_read : (command : Command) (words : List (List ℕ)) → AsksFor command words →
+    (needs_of command).reads ≡ ReadsNothing → AsksToRead words → ⊥
 none_read command words asked none h = subst ReadsSome (sym (reads_same command h.0 words asked h.1) ∙ none) h.2
 
 -- a command that reads nothing leaves the count of faults as it was
@@ -44,7 +45,8 @@ nothing_read : (command : Command) (c : Call) → AsksFor command c.words → (n
 nothing_read command c asked none reads = ap (λ (s : Stream). s.faults) (reads (none_read command c.words asked none))
 
 -- whoever has an output had no fault of the source
-output_calm : (command : Command) (c : Call) (out : Output) → AsksFor command c.words → IsOutputOf command c.source c.source_after out → ReadsForInput c
+output_calm : (command : Command) (c : Call) (out : Output) → AsksFor command c.words →
+    IsOutputOf command c.source c.source_after out → ReadsForInput c
     → c.source_after.faults ≡ c.source.faults
 output_calm Replay c out asked h reads = h.read.read.calm
 output_calm Model c out asked h reads = h.0.read.read.calm
@@ -73,7 +75,8 @@ read_fault_first BadCommand c right risen =
 read_fault_first (BadLine n) c right risen =
     let h = right.cause.0 in
     let f = h.2.1 in
-    rose (BadLine n) c.source c.source_after (read_stopped (most_read (needs_of h.0).reads) f.bytes c.source c.source_after f.read).calm risen
+    rose (BadLine n) c.source c.source_after
+    (read_stopped (most_read (needs_of h.0).reads) f.bytes c.source c.source_after f.read).calm risen
 read_fault_first (Limit n) c right risen =
     let h = right.cause.0 in
     let f = h.2.1 in

@@ -82,9 +82,11 @@ module _ (a b : Run) (h : IsSameRun a b) where
 
   same_line : (place : Place) → line_at a place ≡ line_at b place
   same_line (places.Record i) = refl
-  same_line (places.Root p j) = let sum = same_taken p a.roots.items b.roots.items h.roots in let before = same_roots_at in omega (arith, sum, before)
+  same_line (places.Root p j) = let sum = same_taken p a.roots.items b.roots.items h.roots in
+      let before = same_roots_at in omega (arith, sum, before)
   same_line (places.Pool j) = let before = same_pool_at in omega (arith, before)
-  same_line (places.Cell k j) = let sum = same_taken k a.cells.items b.cells.items h.cells in let before = same_cells_at in omega (arith, sum, before)
+  same_line (places.Cell k j) = let sum = same_taken k a.cells.items b.cells.items h.cells in
+      let before = same_cells_at in omega (arith, sum, before)
   same_line (places.Report i) = let before = same_report_at in omega (arith, before)
 
   -- of two runs that are alike, if clause c is the first that fails on one, first on line n, it is on the other
@@ -131,7 +133,16 @@ record IsJudged (bytes : List ℕ) (v : Verdict) : Type 0 where
   same : v ≡ behind lines verdict
 
 judged : (bytes : List ℕ) (v : Verdict) → IsVerdictOn v bytes → IsJudged bytes v
-judged bytes Legal h = record { trace = h.trace; run = h.run; lines = h.lines; verdict = Legal; input = h.input; right = h.legal; same = refl }
+judged bytes Legal h = record {
+  trace = h.trace;
+  run = h.run;
+  lines = h.lines;
+  verdict = Legal;
+  input = h.input;
+  right = h.legal;
+  same =
+      refl;
+}
 judged bytes (Broken c n) h = record {
   trace = h.trace;
   run = h.run;

@@ -10,14 +10,16 @@ use Rattle.pa_audit_input.specs.Judged.{IsLegalInput}
 use Rattle.pa_audit_input.proofs.Together.{together, legal_input}
 use Rattle.pa_cli.specs.Laws.{ResizedIsLegalInput, ModelledIsLegalInput, ReplayedIsLegalInput}
 
-both_legal : (t : Trace) (r : Run) (front back : List ℕ) → IsInput t front → IsRunText r back → IsLegal t r → length (front ++ back) ≤ most_audited
+both_legal : (t : Trace) (r : Run) (front back : List ℕ) → IsInput t front → IsRunText r back → IsLegal t r →
+    length (front ++ back) ≤ most_audited
     → IsLegalInput (front ++ back)
 both_legal t r front back traced printed legal short = legal_input t r (front ++ back) (together t r front back traced printed legal short)
 
 pub resized_legal : ResizedIsLegalInput
 resized_legal s text h short =
     subst IsLegalInput (sym h.parts)
-    (both_legal h.trace h.run h.front h.back h.traced h.printed h.expanded.file.0 (subst (λ (z : List ℕ). length z ≤ most_audited) h.parts short))
+    (both_legal h.trace h.run h.front h.back h.traced h.printed h.expanded.file.0
+    (subst (λ (z : List ℕ). length z ≤ most_audited) h.parts short))
 
 pub modelled_legal : ModelledIsLegalInput
 modelled_legal t front text traced h short = both_legal t h.run front text traced h.printed h.filed.0 short

@@ -59,13 +59,15 @@ parsed_none text n (Ok x) h parsed = tt
 parsed_none text n (Err e) h parsed = λ k other small. parsed (omega (arith, one_value k n text other h, small))
 
 -- the word's bytes, as they are read and as they are parsed
-pub key_found : {E : Type 0} (text bytes shown rest : List ℕ) (n : ℕ) (r : Result ℕ E) → bytes ≡ text → shown ≡ text → BeginsWith bytes n rest → rest ≡ []
+pub key_found : {E : Type 0} (text bytes shown rest : List ℕ) (n : ℕ) (r : Result ℕ E) → bytes ≡ text → shown ≡ text →
+    BeginsWith bytes n rest → rest ≡ []
     → ParsesUnsigned 64 10 shown r → IfSome (result_ok r) (λ k. IsNumeral k text)
 key_found text bytes shown rest n r same as_text h none parsed =
     let numeral : IsNumeral n text = subst (IsNumeral n) same (whole_numeral bytes rest n h none) in
     parsed_some text n r numeral (numeral_parsed text n r numeral (subst (λ (x : List ℕ). ParsesUnsigned 64 10 x r) as_text parsed))
 
-pub key_none : {E : Type 0} (text bytes shown rest : List ℕ) (n : ℕ) (r : Result ℕ E) → bytes ≡ text → shown ≡ text → BeginsWith bytes n rest → rest ≡ []
+pub key_none : {E : Type 0} (text bytes shown rest : List ℕ) (n : ℕ) (r : Result ℕ E) → bytes ≡ text → shown ≡ text →
+    BeginsWith bytes n rest → rest ≡ []
     → ParsesUnsigned 64 10 shown r → IfNone (result_ok r) ((k : ℕ) → IsNumeral k text → k ≤ 18446744073709551615 → ⊥)
 key_none text bytes shown rest n r same as_text h none parsed =
     let numeral : IsNumeral n text = subst (IsNumeral n) same (whole_numeral bytes rest n h none) in

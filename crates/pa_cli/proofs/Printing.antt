@@ -27,7 +27,8 @@ use Rattle.pa_cli.specs.VerdictsText.{verdict_line}
 use Rattle.pa_cli.proofs.Refusing.{read_whole}
 
 -- what is printed of an input as it is played is the output of `model`
-pub input_printed : (bytes text : List ℕ) (before after : Stream) → IsRead most_bytes before after bytes → IsInputPlayed bytes text → IsModelOutput before after text
+pub input_printed : (bytes text : List ℕ) (before after : Stream) → IsRead most_bytes before after bytes → IsInputPlayed bytes text →
+    IsModelOutput before after text
 input_printed bytes text before after read is =
     let played = is.played in
     record {
@@ -37,7 +38,8 @@ input_printed bytes text before after read is =
     }
 
 -- what is written of a run that threads played is the output of `replay`
-pub run_replayed : (t : Trace) (r : Run) (words text : List ℕ) → IsWithinLimits t → OneThreadInFileOrder → IsHeldRun t r words → IsRunText r text
+pub run_replayed : (t : Trace) (r : Run) (words text : List ℕ) → IsWithinLimits t → OneThreadInFileOrder →
+    IsHeldRun t r words → IsRunText r text
     → IsReplayedAs t (output_with text (Some r) (Some words))
 run_replayed t r words text limits one_thread played printed = record {
   run = r;
@@ -78,17 +80,20 @@ run_summed rounds key t r words text generated played printed = record {
 -- what is written of the pairs of a run is their text, with the slots that the last lines of its report have in quarantine
 pub pairs_printed : (t : Trace) (r : Run) (report : List ReportLine) (pairs : List Pair) (freed slots left : ℕ) (text written : List ℕ)
     → report ≡ r.report.items → slots ≡ (sums_at_end (λ l. l.quarantined) report).slots
-    → AreFound (history_at r.cells.items) (played (rules_of t) t.lines r.entries.items) pairs freed → left ≡ slots → text ≡ dangling_text pairs freed left
+    → AreFound (history_at r.cells.items) (played (rules_of t) t.lines r.entries.items) pairs freed → left ≡ slots →
+    text ≡ dangling_text pairs freed left
     → written ≡ text → IsPairsText t r written
 pairs_printed t r report pairs freed slots left text written same sum found is printed whole = record {
   pairs = pairs;
   freed = freed;
   found = found;
-  printed = whole ∙ printed ∙ ap (λ (x : ℕ). dangling_text pairs freed x) (is ∙ sum ∙ ap (λ (x : List ReportLine). (sums_at_end (λ l. l.quarantined) x).slots) same);
+  printed = whole ∙ printed ∙ ap (λ (x : ℕ). dangling_text pairs freed x)
+      (is ∙ sum ∙ ap (λ (x : List ReportLine). (sums_at_end (λ l. l.quarantined) x).slots) same);
 }
 
 -- what is written of a script that was played is the output of `resize`
-pub script_printed : (bytes front back : List ℕ) (before after : Stream) → IsRead most_bytes before after bytes → IsInputExpanded bytes front back
+pub script_printed : (bytes front back : List ℕ) (before after : Stream) → IsRead most_bytes before after bytes →
+    IsInputExpanded bytes front back
     → IsResizeOutput before after (front ++ back)
 script_printed bytes front back before after read is =
     let e = is.expanded in
@@ -110,8 +115,10 @@ script_printed bytes front back before after read is =
     }
 
 -- what is written of its verdicts is the output of `verdicts`
-pub script_verdicts : (s : Script) (t : Trace) (r : Run) (vs shown : List (ℕ × Verdict)) (start lines whole text : List ℕ) → IsExpanded s t r vs → HasCoreRun t r
-    → start ≡ codes "" → shown ≡ vs → lines ≡ start ++ flat_map verdict_line shown → whole ≡ lines ++ codes "end\n" → text ≡ whole → IsVerdictsText s text
+pub script_verdicts : (s : Script) (t : Trace) (r : Run) (vs shown : List (ℕ × Verdict)) (start lines whole text : List ℕ) →
+    IsExpanded s t r vs → HasCoreRun t r
+    → start ≡ codes "" → shown ≡ vs → lines ≡ start ++ flat_map verdict_line shown → whole ≡ lines ++ codes "end\n" →
+    text ≡ whole → IsVerdictsText s text
 script_verdicts s t r vs shown start lines whole text expanded core none same added ended is =
     let first : lines ≡ flat_map verdict_line vs =
     added ∙ ap (λ (x : List ℕ). x ++ flat_map verdict_line shown) none ∙ ap (λ (x : List (ℕ × Verdict)). flat_map verdict_line x) same in

@@ -25,7 +25,8 @@ use Rattle.pa_cli.specs.StatusText.{status_of_trace}
 use Rattle.pa_script.proofs.Early.{script_fault_early}
 
 -- what was read was read to its end, if it isn't too long
-pub read_whole : (most : ℕ) (bytes : List ℕ) (before after : Stream) → IsRead most before after bytes → length bytes ≤ most → IsReadWhole most before after bytes
+pub read_whole : (most : ℕ) (bytes : List ℕ) (before after : Stream) → IsRead most before after bytes → length bytes ≤ most →
+    IsReadWhole most before after bytes
 read_whole most bytes before after (inl whole) short = whole
 read_whole most bytes before after (inr past) short = absurd (let p = past.past in omega (arith, p, short))
 
@@ -69,10 +70,16 @@ trace_stopped t before after h = read_stopped most_bytes h.bytes before after (i
 -- the fault of what was read is why a command that reads a trace has no output
 pub trace_refused : (threads : Bool) (fault : TraceFault) (bytes : List ℕ) (before after : Stream) → IsRead most_bytes before after bytes
     → IsFault last_version fault bytes → IsRefusal (status_of_trace fault) (needing ReadsTrace threads true) before after
-trace_refused threads (BadLine n) bytes before after read first =
-    (tt, has_fault ReadsTrace (BadLine n) bytes before after read first (λ past more. fault_early last_version (BadLine n) bytes more past first))
-trace_refused threads (Limit n) bytes before after read first =
-    (tt, has_fault ReadsTrace (Limit n) bytes before after read first (λ past more. fault_early last_version (Limit n) bytes more past first))
+trace_refused threads (BadLine n) bytes before after read first = (
+  tt,
+  has_fault ReadsTrace (BadLine n) bytes before after read first
+      (λ past more. fault_early last_version (BadLine n) bytes more past first),
+)
+trace_refused threads (Limit n) bytes before after read first = (
+  tt,
+  has_fault ReadsTrace (Limit n) bytes before after read first
+      (λ past more. fault_early last_version (Limit n) bytes more past first),
+)
 trace_refused threads OutOfMemory bytes before after read first = (refl, read_stopped most_bytes bytes before after read)
 
 -- a call that stops after it read a script whole had no fault of the source
@@ -82,8 +89,11 @@ script_stopped s before after h = read_stopped most_bytes h.bytes before after (
 -- an input is refused with the status of its first fault as a script
 pub script_refused : (fault : TraceFault) (bytes : List ℕ) (before after : Stream) → IsRead most_bytes before after bytes
     → IsScriptFault fault bytes → IsRefusal (status_of_trace fault) (needing ReadsScript false true) before after
-script_refused (BadLine n) bytes before after read first =
-    (tt, has_fault ReadsScript (BadLine n) bytes before after read first (λ past more. script_fault_early (BadLine n) bytes more past first))
+script_refused (BadLine n) bytes before after read first = (
+  tt,
+  has_fault ReadsScript (BadLine n) bytes before after read first
+      (λ past more. script_fault_early (BadLine n) bytes more past first),
+)
 script_refused (Limit n) bytes before after read first =
     (tt, has_fault ReadsScript (Limit n) bytes before after read first (λ past more. script_fault_early (Limit n) bytes more past first))
 script_refused OutOfMemory bytes before after read first = (refl, read_stopped most_bytes bytes before after read)

@@ -12,7 +12,8 @@ use Rattle.pa_cli.proofs.Ending.{caused_answers, caused_completes, caused_judges
 use Rattle.pa_cli.proofs.Running.{caused_tells}
 
 -- a command that has no output, for this reason, ends with this status
-pub refused_caused : (status : Status) (command : Command) (c : Call) → AsksFor command c.words → IsRefusal status (needs_of command) c.source c.source_after
+pub refused_caused : (status : Status) (command : Command) (c : Call) → AsksFor command c.words →
+    IsRefusal status (needs_of command) c.source c.source_after
     → KeepsSink c → Caused status c
 refused_caused Done command c asked h sink = absurd h
 refused_caused BadCommand command c asked h sink = absurd h
@@ -35,7 +36,8 @@ right_call status c cause reads none = record {
 }
 
 -- a call that returns the same status, with no run and no region, is right too
-pub alone_right : (status other : Status) (words : List (List ℕ)) (source source_after sink sink_after : Stream) (run : Option Run) (region : Option (List ℕ))
+pub alone_right : (status other : Status) (words : List (List ℕ)) (source source_after sink sink_after : Stream) (run : Option Run)
+    (region : Option (List ℕ))
     → IsRightCall status (call_of words source source_after sink sink_after None None) → other ≡ status → HasNoRun run region
     → IsRightCall other (call_of words source source_after sink sink_after run region)
 alone_right status other words source source_after sink sink_after run region right same none =

@@ -20,7 +20,8 @@ is_some : {A : Type 0} (o : Option A) (x : A) → o ≡ Some x → IsSome o
 is_some o x e = rw e refl
 
 -- the output of a command that plays threads has both
-runs_by : (command : Command) (before after : Stream) (out : Output) → IsOutputOf command before after out → RunsBy (needs_of command).threads out
+runs_by : (command : Command) (before after : Stream) (out : Output) → IsOutputOf command before after out →
+    RunsBy (needs_of command).threads out
 runs_by Replay before after out h = (is_some out.run h.played.run h.played.has_run, is_some out.region h.played.words h.played.has_region)
 runs_by Model before after out h = h.1
 runs_by Audit before after out h = h.1
@@ -50,7 +51,8 @@ tells_by false command status c text written asked plays h =
 
 tells : (status : Status) (c : Call) (text : List ℕ) → IsWritten status → IsOutput c text → TellsRun status c
 tells status c text written h =
-    tells_by (needs_of h.0).threads h.0 status c text written h.1 refl (runs_by h.0 c.source c.source_after (output_with text c.run c.region) h.2)
+    tells_by (needs_of h.0).threads h.0 status c text written h.1 refl
+    (runs_by h.0 c.source c.source_after (output_with text c.run c.region) h.2)
 
 -- a call that wrote nothing
 unwritten : (status : Status) → (status ≡ Done → ⊥) → (status ≡ WriteFault → ⊥) → IsWritten status → ⊥

@@ -26,9 +26,11 @@ numeral_whole text rest m n begins h =
     ap rest_of (first ∙ begins_read text n [] (numeral_begins n text h))
 
 -- a text with a number and more after it is no numeral
-pub no_numeral : (text bytes rest : List ℕ) (m : ℕ) → bytes ≡ text → BeginsWith bytes m rest → (rest ≡ [] → ⊥) → (n : ℕ) → IsNumeral n text → ⊥
+pub no_numeral : (text bytes rest : List ℕ) (m : ℕ) → bytes ≡ text → BeginsWith bytes m rest → (rest ≡ [] → ⊥) →
+    (n : ℕ) → IsNumeral n text → ⊥
 no_numeral text bytes rest m same begins more n h = more (numeral_whole bytes rest m n begins (subst (IsNumeral n) (sym same) h))
 
 -- a text that doesn't begin with a number is no numeral
-pub never_numeral : (text bytes : List ℕ) → bytes ≡ text → ((n : ℕ) (rest : List ℕ) → BeginsWith bytes n rest → ⊥) → (n : ℕ) → IsNumeral n text → ⊥
+pub never_numeral : (text bytes : List ℕ) → bytes ≡ text → ((n : ℕ) (rest : List ℕ) → BeginsWith bytes n rest → ⊥) →
+    (n : ℕ) → IsNumeral n text → ⊥
 never_numeral text bytes same none n h = none n [] (numeral_begins n bytes (subst (IsNumeral n) (sym same) h))

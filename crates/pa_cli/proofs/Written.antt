@@ -5,7 +5,8 @@ use Rattle.pa_io.specs.Moves.{HasWrittenPart}
 use Rattle.pa_io.proofs.Moves.{Appends_append}
 
 -- a part of the first
-pub first_written : (before after : Option (List ℕ)) (first rest : List ℕ) → HasWrittenPart before after first → HasWrittenPart before after (first ++ rest)
+pub first_written : (before after : Option (List ℕ)) (first rest : List ℕ) → HasWrittenPart before after first →
+    HasWrittenPart before after (first ++ rest)
 first_written before after first rest h = (
   h.0 ++ rest,
   record {
@@ -16,7 +17,8 @@ first_written before after first rest h = (
 )
 
 -- the first, and a part of the rest
-pub rest_written : (before between after : Option (List ℕ)) (first rest : List ℕ) → Appends before between first → HasWrittenPart between after rest
+pub rest_written : (before between after : Option (List ℕ)) (first rest : List ℕ) → Appends before between first →
+    HasWrittenPart between after rest
     → HasWrittenPart before after (first ++ rest)
 rest_written before between after first rest a h = (
   h.0,

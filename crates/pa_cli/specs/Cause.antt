@@ -59,8 +59,8 @@ pub record IsRefuted (clause : Clause) (n : ℕ) (before after : Stream) : Type 
   pub read : IsReadWhole most_audited before after bytes
   pub refuted : IsRefutedInput clause n bytes
 
--- Why a command with these needs has no output, by what the source exposes before it and after it. Done, BadCommand and WriteFault are no
--- reason.
+-- Why a command with these needs has no output, by what the source exposes before it and after it. Done,
+-- BadCommand and WriteFault are no reason.
 abbrev pub IsRefusal : Status → Needs → Stream → Stream → Type 0
 IsRefusal Done of before after = ⊥
 IsRefusal BadCommand of before after = ⊥
@@ -115,8 +115,8 @@ IsInputFor ReadsRun bytes = (trace : Trace) × (run : Run) × (lines : ℕ) × I
 abbrev pub RefutesBy : Reading → Status → Type 0
 RefutesBy reads status = (reads ≡ ReadsRun) × (clause : Clause) × (n : ℕ) × (status ≡ NotLegal clause n)
 
--- an input for a command that reads, without a fault of source or sink, leads to Done, or to NotLegal for a trace and a run, unless
--- memory has run out
+-- an input for a command that reads, without a fault of source or sink, leads to Done,
+-- or to NotLegal for a trace and a run, unless memory has run out
 abbrev pub Completes : Status → Call → Type 0
 Completes status c =
     (bytes : List ℕ) (command : Command) → AsksFor command c.words → c.source.told ≡ Some bytes → IsInputFor (needs_of command).reads bytes
@@ -127,7 +127,8 @@ Completes status c =
 abbrev pub Judges : Status → Call → Type 0
 Judges status c =
     (bytes : List ℕ) (verdict : Verdict) (command : Command) → AsksFor command c.words → (needs_of command).reads ≡ ReadsRun
-    → c.source.told ≡ Some bytes → IsVerdictOn verdict bytes → HasNoReadFault c → HasNoWriteFault c → (status ≡ status_of_verdict verdict) ⊎ (status ≡ OutOfMemory)
+    → c.source.told ≡ Some bytes → IsVerdictOn verdict bytes → HasNoReadFault c → HasNoWriteFault c →
+    (status ≡ status_of_verdict verdict) ⊎ (status ≡ OutOfMemory)
 
 -- a command that reads nothing leads to Done if the sink has no fault, or to OutOfMemory if it takes memory: so `layout`, `--help` and
 -- `--version` are Done then, and nothing else
@@ -140,8 +141,8 @@ Answers status c =
 abbrev pub ReadsForInput : Call → Type 0
 ReadsForInput c = (AsksToRead c.words → ⊥) → KeepsSource c
 
--- if a command that reads gets bytes with a faulty line, and the source has no fault, the status is that of the first faulty line
--- or OutOfMemory
+-- if a command that reads gets bytes with a faulty line, and the source has no fault,
+-- the status is that of the first faulty line or OutOfMemory
 abbrev pub Refuses : Status → Call → Type 0
 Refuses status c =
     (bytes : List ℕ) (fault : TraceFault) (command : Command) → AsksFor command c.words → c.source.told ≡ Some bytes

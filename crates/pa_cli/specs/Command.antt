@@ -102,8 +102,8 @@ most_read ReadsRun = most_audited
 
 -- What a command needs.
 --   reads: what it reads
---   threads: it plays threads over a region, so its call may wait, and has a run and a region if its output is written
---   memory: it takes memory
+--   threads: it plays threads over a region, so its call may wait,
+-- and has a run and a region if its output is written   memory: it takes memory
 pub record Needs : Type 0 where
   pub reads : Reading
   pub threads : Bool

@@ -18,7 +18,7 @@ help_text =
     ∷ codes "  dangling          read the same, print each use of what was freed while raw_ptrs pointed to it: lines of allocation, free, use and copy"
     ∷ codes "  resize            read a script from standard input, which is a trace with lines that resize an object, print the trace that it comes to and its run"
     ∷ codes "  verdicts          read a script, print what each of these lines came to: not-own, shared, too-large, kept, no-room or moved"
-    ∷ codes "  layout SIZE       print the size class or the direct map of a request of SIZE bytes, 0 to 4294967295"
+    ∷ codes "  layout SIZE       print the size class or the direct map of version 1 of a request of SIZE bytes, 0 to 4294967295"
     ∷ codes "  trace ROUNDS KEY  print a trace of ROUNDS rounds, 1 to 800, with random numbers by KEY, 0 to 18446744073709551615"
     ∷ codes "  gen ROUNDS KEY    play that trace as replay does, print how many lines have each answer, and what is live and quarantined at the end"
     ∷ codes "  --help            print this text"

@@ -92,7 +92,8 @@ fn text_of<S: Source>(alloc: Global, command: Command, source: &mut S) -> Result
     ensures refusal { IfErr result (λ status. IsRefusal status (needs_of command)
         (stream_of (S.left source.old) (S.faults source.old))
         (stream_of (S.left source.new) (S.faults source.new))) }
-    ensures unread { (ReadsSome (needs_of command).reads → ⊥) → (S.left source.new ≡ S.left source.old) × (S.faults source.new ≡ S.faults source.old) }
+    ensures unread { (ReadsSome (needs_of command).reads → ⊥) → (S.left source.new ≡ S.left source.old) ×
+        (S.faults source.new ≡ S.faults source.old) }
 {
     match command {
         Command::Model => Ok(Printed::Made(model(alloc, source)?)),

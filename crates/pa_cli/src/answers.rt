@@ -21,7 +21,7 @@ commands
   dangling          read the same, print each use of what was freed while raw_ptrs pointed to it: lines of allocation, free, use and copy
   resize            read a script from standard input, which is a trace with lines that resize an object, print the trace that it comes to and its run
   verdicts          read a script, print what each of these lines came to: not-own, shared, too-large, kept, no-room or moved
-  layout SIZE       print the size class or the direct map of a request of SIZE bytes, 0 to 4294967295
+  layout SIZE       print the size class or the direct map of version 1 of a request of SIZE bytes, 0 to 4294967295
   trace ROUNDS KEY  print a trace of ROUNDS rounds, 1 to 800, with random numbers by KEY, 0 to 18446744073709551615
   gen ROUNDS KEY    play that trace as replay does, print how many lines have each answer, and what is live and quarantined at the end
   --help            print this text

@@ -99,7 +99,8 @@ impl Command {
 
     // The command that three words ask for: `trace` or `gen`, the rounds and a key.
     fn of_three(word: &String, rounds: &String, key: &String) -> Option<Command>
-        ensures asked { IfSome result (λ command. AsksFor command (string_bytes word.now ∷ string_bytes rounds.now ∷ string_bytes key.now ∷ [])) }
+        ensures asked { IfSome result
+            (λ command. AsksFor command (string_bytes word.now ∷ string_bytes rounds.now ∷ string_bytes key.now ∷ [])) }
         ensures none { IfNone result (IsCommand (string_bytes word.now ∷ string_bytes rounds.now ∷ string_bytes key.now ∷ []) → ⊥) }
     {
         match word.as_str() {
@@ -116,8 +117,8 @@ impl Command {
     }
 }
 
-/// Whether the words are those of a command that plays threads, so that its call may wait: `replay` or `gen`. All other words are
-/// answered by `run_alone`.
+/// Whether the words are those of a command that plays threads, so that its call may wait: `replay` or `gen`.
+/// All other words are answered by `run_alone`.
 #[tactic(auto, using(crate::proofs::Commands::threads_asked, crate::proofs::Commands::alone_asked))]
 pub fn plays_threads(words: &[String]) -> bool
     ensures threads { result ≡ true → AsksForThreads (map string_bytes words.now) }

@@ -10,8 +10,8 @@ use pa_region::Closed;
 pub struct Outcome {
     /// How the call ended.
     pub status: Status,
-    /// The run whose text the output is. It is there exactly for a command that plays threads, if its output was written, whole or a
-    /// first part of it.
+    /// The run whose text the output is. It is there exactly for a command that plays threads,
+    /// if its output was written, whole or a first part of it.
     pub run: Option<Run>,
     /// The words of the region in which that run was played, when it was closed. It is there if the run is.
     pub region: Option<Closed>,

@@ -117,7 +117,8 @@ fn output_of<R: Threads + Wait + Sync, S: Source, G: Gate>(
     ensures refusal { IfErr result (λ status. IsRefusal status (needs_of command)
         (stream_of (S.left source.old) (S.faults source.old))
         (stream_of (S.left source.new) (S.faults source.new))) }
-    ensures unread { (ReadsSome (needs_of command).reads → ⊥) → (S.left source.new ≡ S.left source.old) × (S.faults source.new ≡ S.faults source.old) }
+    ensures unread { (ReadsSome (needs_of command).reads → ⊥) → (S.left source.new ≡ S.left source.old) ×
+        (S.faults source.new ≡ S.faults source.old) }
 {
     match command {
         Command::Replay => replay(rt, alloc, source, gate),

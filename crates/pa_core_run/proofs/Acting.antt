@@ -62,12 +62,15 @@ handle_held s k t (inl own) = own_title s k t Clean own
 handle_held s k t (inr ref) = ref_title s k t ref
 
 -- with it each of the title's words can be read
-load_run : (s : State) (k : ℕ) (t : Title) (q : ℕ) → IsGoodState s → HasActor s k → HasHandle s k t → Covers t (8 * q) → IsRunTo s (Load k (8 * q) ∷ []) s
+load_run : (s : State) (k : ℕ) (t : Title) (q : ℕ) → IsGoodState s → HasActor s k → HasHandle s k t → Covers t (8 * q) →
+    IsRunTo s (Load k (8 * q) ∷ []) s
 load_run s k t q good has holds covers =
-    let can : IsEnabled (Load k (8 * q)) s = (has, omega arith, inr (t, covers, inr (elim holds [ inl own ↦ inl (Clean, own) | inr ref ↦ inr ref ]))) in
+    let can : IsEnabled (Load k (8 * q)) s =
+    (has, omega arith, inr (t, covers, inr (elim holds [ inl own ↦ inl (Clean, own) | inr ref ↦ inr ref ]))) in
     run_one s s (Load k (8 * q)) good can refl
 
-read_run : (s : State) (k : ℕ) (t : Title) (read : Option (ℕ × ℕ)) → IsGoodState s → HasActor s k → HasHandle s k t → HasRead s.words t read → IsRunTo s (read_events k t read) s
+read_run : (s : State) (k : ℕ) (t : Title) (read : Option (ℕ × ℕ)) → IsGoodState s → HasActor s k → HasHandle s k t →
+    HasRead s.words t read → IsRunTo s (read_events k t read) s
 read_run s k t None good has holds found = run_start s good
 read_run s k t (Some read) good has holds found =
     let well = good.divided.well t (handle_held s k t holds) in
@@ -77,17 +80,21 @@ read_run s k t (Some read) good has holds found =
     let inside = found.0 in
     load_run s k t (content_place t read.0) good has holds (omega arith, omega arith)
 
-look_run : (s : State) (k : ℕ) (t : Title) (read : Option (ℕ × ℕ)) → IsGoodState s → HasActor s k → HasHandle s k t → HasRead s.words t read →
+look_run : (s : State) (k : ℕ) (t : Title) (read : Option (ℕ × ℕ)) → IsGoodState s → HasActor s k → HasHandle s k t →
+    HasRead s.words t read →
     IsRunTo s (step_event k t None ∷ read_events k t read) s
 look_run s k t read good has holds found =
     let well = good.divided.well t (handle_held s k t holds) in
     let a = well.start_aligned in
     let b = well.len_aligned in
     let c = well.long in
-    run_join s s s (Load k (8 * count_place t) ∷ []) (read_events k t read) good (load_run s k t (count_place t) good has holds (omega arith, omega arith)) (read_run s k t read good has holds found)
+    run_join s s s (Load k (8 * count_place t) ∷ []) (read_events k t read) good
+    (load_run s k t (count_place t) good has holds (omega arith, omega arith)) (read_run s k t read good has holds found)
 
-pub play_look : (Made : Title → Type 0) (x : Played) (s : State) (m : Mark) (t : Title) → mark_of x ≡ Some m → m.step ≡ None → IsGoodState s → HasActor s (x.thread + 1) →
-    HasHandle s (x.thread + 1) t → Made t → name_of t ≡ m.slot → count_word s.words t ≡ m.found → HasRead s.words t (read_by x.op x.answer) → Plays Made x s s
+pub play_look : (Made : Title → Type 0) (x : Played) (s : State) (m : Mark) (t : Title) → mark_of x ≡ Some m → m.step ≡ None →
+    IsGoodState s → HasActor s (x.thread + 1) →
+    HasHandle s (x.thread + 1) t → Made t → name_of t ≡ m.slot → count_word s.words t ≡ m.found →
+    HasRead s.words t (read_by x.op x.answer) → Plays Made x s s
 play_look Made x s m t is look good has holds made name word read =
     let k = x.thread + 1 in
     let by = read_by x.op x.answer in
@@ -113,14 +120,18 @@ play_look Made x s m t is look good has holds made name word read =
 -- ---- a step
 
 -- A record's step p is made on a title after some events, and some follow.
-pub play_step : (Made : Title → Type 0) (x : Played) (s from to next : State) (m : Mark) (t : Title) (p : Step) (lost gained : List Piece) (before first last : List Event) →
-    mark_of x ≡ Some m → m.step ≡ Some p → read_by x.op x.answer ≡ None → IsGoodState s → Made t → name_of t ≡ m.slot → count_word from.words t ≡ m.found →
-    IsRunTo s before from → IsDone from (x.thread + 1) t p lost gained first to → IsRunTo to last next →
+pub play_step : (Made : Title → Type 0) (x : Played) (s from to next : State) (m : Mark) (t : Title) (p : Step) (lost gained : List Piece)
+    (before first last : List Event) →
+    mark_of x ≡ Some m → m.step ≡ Some p → read_by x.op x.answer ≡ None → IsGoodState s → Made t → name_of t ≡ m.slot →
+    count_word from.words t ≡ m.found →
+    IsRunTo s before from → IsDone from (x.thread + 1) t p (Count (x.thread + 1) t p) lost gained first to → IsRunTo to last next →
     AreBeside (x.thread + 1) before → AreBeside (x.thread + 1) first → AreBeside (x.thread + 1) last → Plays Made x s next
-play_step Made x s from to next m t p lost gained before first last is step none good made name word run done clears beside prepared cleared =
+play_step Made x s from to next m t p lost gained before first last is step none good made name word run done clears beside prepared
+    cleared =
     let k = x.thread + 1 in
     let told : told_events x t ≡ Count k t p ∷ [] =
-    ap (λ o. mark_events k t o (read_by x.op x.answer)) is ∙ (ap (λ o. step_event k t o ∷ read_events k t (read_by x.op x.answer)) step ∙ ap (λ o. Count k t p ∷ read_events k t o) none) in (
+    ap (λ o. mark_events k t o (read_by x.op x.answer)) is ∙
+    (ap (λ o. step_event k t o ∷ read_events k t (read_by x.op x.answer)) step ∙ ap (λ o. Count k t p ∷ read_events k t o) none) in (
       (before ++ first) ++ (told_events x t ++ last),
       record {
         title = t;

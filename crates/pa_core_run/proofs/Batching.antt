@@ -1,5 +1,5 @@
 -- Free titles that go from a thread to actor 0, one after the other: what a batch that goes back is in the core.
-use Rattle.std.proofs.Common.{◌≡◌, ℕ, ◌+◌, ◌<◌, ◌≤◌, List, [], ◌∷◌, refl, sym, ◌∙◌, ap, subst, arith, ◌⊎◌, inl, inr, ◌==◌, if◌then◌else◌}
+use Rattle.std.proofs.Common.{◌≡◌, ℕ, ◌+◌, ◌<◌, ◌≤◌, false, List, [], ◌∷◌, refl, sym, ap, subst, arith, ◌⊎◌, inl, inr, ◌==◌, if◌then◌else◌}
 use Rattle.std.specs.Prelude.{Contains}
 use Rattle.std.proofs.lemmas.Bool.{cases_eq, eq-eqb, ne_eqb}
 use Rattle.pa_slot.proofs.Runs.{same_slot_yes}
@@ -7,13 +7,14 @@ use Rattle.pa_slot.specs.declared.word.SlotName.{SlotName}
 use Rattle.pa_slot.specs.declared.title.Title.{Title}
 use Rattle.pa_machine.specs.declared.event.Item.TheVariants.{Free as FreeItem}
 use Rattle.pa_machine.specs.declared.event.Event.TheVariants.{Hand}
-use Rattle.pa_slot.specs.Holdings.{FreePiece, Thing, FreeTitle, OwnOf, RefOf, held_in}
+use Rattle.pa_slot.specs.Holdings.{FreePiece, FreeTitle, OwnOf, RefOf, held_in}
 use Rattle.pa_machine.specs.Events.{State, Holds, of_actor}
 use Rattle.pa_machine.proofs.Amounts.{free_self}
 use Rattle.pa_machine.proofs.Lasting.{run_start}
 use Rattle.pa_machine.proofs.Totals.{of_actor_here, of_actor_apart}
 use Rattle.pa_record.specs.Spans.{name_of}
 use Rattle.pa_lists.proofs.Members.{first_in, later_in, in_cases, not_in_none}
+use Rattle.pa_core_steps.proofs.Exchanging.{none_of}
 use Rattle.pa_core_steps.proofs.Joining.{run_join}
 use Rattle.pa_rules.specs.Once.{once}
 use Rattle.pa_core_run.specs.Ledger.{Ledger, Titles, IsShown, IsPaid}
@@ -43,18 +44,21 @@ module _ (names : Titles) (actors bytes k : ℕ) (some : 0 < k) (below : k < act
     words = h.words;
     contents = h.contents;
     clean = h.clean;
+    sealed = h.sealed;
     raw = h.raw;
     there = h.there;
   }
 
   -- one title goes
-  one_goes : (b : Ledger) (free : ℕ → SlotName → ℕ) (K : Title → Type 0) (s : State) (t : Title) → IsShown (keeping names K) actors bytes b s → names.Made t → Holds s k (FreeTitle t) →
+  one_goes : (b : Ledger) (free : ℕ → SlotName → ℕ) (K : Title → Type 0) (s : State) (t : Title) →
+      IsShown (keeping names K) actors bytes b s → names.Made t → Holds s k (FreeTitle t) →
       ((x : SlotName) → free k x + once x (name_of t) ≤ b.free k x) → ((j : ℕ) (x : SlotName) → (j ≡ k → ⊥) → free j x ≤ b.free j x) →
-      (after : State) × IsHanded (keeping names (kept_with K (t ∷ []))) actors bytes (asking b free) s k 0 (FreeItem t) after
+      (after : State) × IsHanded (keeping names (kept_with K (t ∷ []))) actors bytes (asking b free) s k 0 (FreeItem t) false after
   one_goes b free K s t h made has less other =
-      let paid : IsPaid names.Made b (asking b free) (of_actor k (FreePiece t ∷ [])) (of_actor 0 (FreePiece t ∷ [])) t (b.word (name_of t)) = record {
-        own = λ j u m. let z = no_handle k j (OwnOf u) refl in omega arith;
-        ref = λ j u m. let z = no_handle k j (RefOf u) refl in omega arith;
+      let paid : IsPaid names.Made b (asking b free) (of_actor k (FreePiece t ∷ [])) (of_actor 0 (FreePiece t ∷ [])) t
+      (b.word (name_of t)) = record {
+        own = λ j u m. let z = none_of k j (FreePiece t ∷ []) (OwnOf u) refl in omega arith;
+        ref = λ j u m. let z = none_of k j (FreePiece t ∷ []) (RefOf u) refl in omega arith;
         free = λ j u up m. elim (cases_eq j k) [
           | inl e ↦
               let a = less (name_of u) in
@@ -68,7 +72,9 @@ module _ (names : Titles) (actors bytes k : ℕ) (some : 0 < k) (below : k < act
         words = λ x ne. refl;
         contents = λ x ne. refl;
       } in
-      hand_shown (keeping names K) (kept_with K (t ∷ [])) actors bytes b (asking b free) s k 0 (FreeItem t) t h below (omega arith) has (free_title s k t has) (free_pieces t) paid refl
+      hand_shown (keeping names K) (kept_with K (t ∷ [])) actors bytes b (asking b free) s k 0 (FreeItem t) false t h below
+      (omega arith) has tt
+      (free_title s k t has) (free_pieces t) paid refl
       (λ u kept.
       let l = of_actor_apart k 0 (FreePiece t ∷ []) (FreeTitle u) (λ z. omega arith) in
       let g = of_actor_here 0 (FreePiece t ∷ []) (FreeTitle u) in
@@ -79,12 +85,6 @@ module _ (names : Titles) (actors bytes k : ℕ) (some : 0 < k) (below : k < act
           | inr gone ↦ absurd (not_in_none u gone)
         ]
       ])
-    where
-      no_handle : (i j : ℕ) (thing : Thing) → held_in (FreePiece t ∷ []) thing ≡ 0 → held_in (of_actor i (FreePiece t ∷ []) j) thing ≡ 0
-      no_handle i j thing none = elim (cases_eq j i) [
-        | inl e ↦ subst (λ n. held_in (of_actor i (FreePiece t ∷ []) n) thing ≡ 0) (sym e) (of_actor_here i (FreePiece t ∷ []) thing ∙ none)
-        | inr ne ↦ of_actor_apart i j (FreePiece t ∷ []) thing ne
-      ]
 
   -- a batch goes, title by title
   pub batch_goes : (ts : List Title) (b : Ledger) (rest : ℕ → SlotName → ℕ) (K : Title → Type 0) (s : State)
@@ -111,7 +111,8 @@ module _ (names : Titles) (actors bytes k : ℕ) (some : 0 < k) (below : k < act
       let one : once (name_of t) (name_of t) ≡ 1 = rw (same_slot_yes (name_of t) (name_of t) refl) refl in
       let all = h.free k t some below it in
       let need = mine (name_of t) in
-      let first = one_goes b free K s t h it (omega arith) (λ x. let e = here x in let a = mine x in omega arith) (λ j x ne. let e = there j x ne in let a = other j x ne in omega arith) in
+      let first = one_goes b free K s t h it (omega arith) (λ x. let e = here x in let a = mine x in omega arith)
+      (λ j x ne. let e = there j x ne in let a = other j x ne in omega arith) in
       let more = batch_goes ts (asking b free) rest (kept_with K (t ∷ [])) first.0 first.1.shown
       (λ u member. made u (later_in t u ts member)) (λ x. let e = here x in omega arith)
       (λ j x ne. let e = there j x ne in omega arith) in (
@@ -120,10 +121,15 @@ module _ (names : Titles) (actors bytes k : ℕ) (some : 0 < k) (below : k < act
           events = Hand k 0 (FreeItem t) ∷ more.1.events;
           run = run_join s first.0 more.0 (Hand k 0 (FreeItem t) ∷ []) more.1.events h.good first.1.run more.1.run;
           beside = ((inr refl, inl refl), more.1.beside);
-          shown = asks_less (asking b rest) rest (kept_with (kept_with K (t ∷ [])) ts) (kept_with K (t ∷ ts)) more.0 more.1.shown (λ j x. omega arith)
+          shown = asks_less (asking b rest) rest (kept_with (kept_with K (t ∷ [])) ts) (kept_with K (t ∷ ts)) more.0 more.1.shown
+              (λ j x. omega arith)
               (λ u kept. elim kept [
                 | inl old ↦ inl (inl old)
-                | inr new ↦ elim (in_cases t u ts new) [ inl same ↦ inl (inr (subst (λ (v : Title). Contains (t ∷ []) v) same (first_in t []))) | inr later ↦ inr later ]
+                | inr new ↦ elim (in_cases t u ts new) [
+                  | inl same ↦
+                      inl (inr (subst (λ (v : Title). Contains (t ∷ []) v) same (first_in t [])))
+                  | inr later ↦ inr later
+                ]
               ]);
         },
       )

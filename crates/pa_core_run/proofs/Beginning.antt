@@ -7,7 +7,7 @@ use Rattle.std.specs.Prelude.{Contains}
 use Rattle.pa_slot.specs.declared.word.SlotName.{SlotName}
 use Rattle.pa_slot.specs.declared.title.OwnState.{OwnState}
 use Rattle.pa_slot.specs.declared.title.OwnState.TheVariants.{Clean}
-use Rattle.pa_slot.specs.Holdings.{Piece, RawPiece, Thing, RawByte, FreeTitle, OwnOf, OwnAs, RefOf, IsTitleHeld, amount, held_in, held_by_all}
+use Rattle.pa_slot.specs.Holdings.{Piece, RawPiece, Thing, RawByte, FreeTitle, OwnOf, OwnAs, SealedOwn, RefOf, IsTitleHeld, amount, held_in, held_by_all}
 use Rattle.pa_machine.specs.Events.{State, IsStart, of_actor, held_by, total_of}
 use Rattle.pa_machine.specs.Trail.{IsGoodState}
 use Rattle.pa_machine.proofs.Totals.{of_actor_apart}
@@ -26,6 +26,7 @@ use Rattle.pa_one_run.proofs.lines.Sorting.{none_below}
 use Rattle.pa_one_run.proofs.Filed.{IsFiled}
 use Rattle.pa_core_run.specs.Standing.{Standing, in_registers, in_lists}
 use Rattle.pa_core_run.specs.Fronts.{ShowsFront}
+use Rattle.pa_core_steps.proofs.Exchanging.{none_of}
 use Rattle.pa_core_steps.proofs.Pieces.{raw_cases}
 use Rattle.pa_core_steps.proofs.Possible.{single}
 use Rattle.pa_one_run.specs.Parts.{Parts, entry_line, cell_line}
@@ -69,7 +70,8 @@ start_is bytes actors some = record {
   held = each;
 }
   where
-    each : (actor : ℕ) (x : Thing) → actor < actors → held_by (start_of bytes actors) actor x ≡ held_in (of_actor 0 (RawPiece 0 bytes ∷ []) actor) x
+    each : (actor : ℕ) (x : Thing) → actor < actors →
+        held_by (start_of bytes actors) actor x ≡ held_in (of_actor 0 (RawPiece 0 bytes ∷ []) actor) x
     each zero x below = refl
     each (suc k) x below = others_none (actors - 1) k x ∙ sym (of_actor_apart 0 (suc k) (RawPiece 0 bytes ∷ []) x (λ z. omega arith))
 
@@ -79,7 +81,8 @@ start_good bytes actors whole =
     record {
       divided = record {
         bytes = λ b below. elim (raw_cases b 0 bytes) [
-          | inl y ↦ let y2 = y.2 in let t = start_total bytes actors (RawByte b) in inl (omega arith, λ t held covers. start_unheld bytes actors t held)
+          | inl y ↦ let y2 = y.2 in let t = start_total bytes actors (RawByte b) in
+              inl (omega arith, λ t held covers. start_unheld bytes actors t held)
           | inr n ↦ absurd (n.0 (omega arith, omega arith))
         ];
         outside = λ b past. elim (raw_cases b 0 bytes) [
@@ -92,6 +95,7 @@ start_good bytes actors whole =
       counted = λ t held. absurd (start_unheld bytes actors t held);
       poison_kept = λ t held. absurd (start_unheld bytes actors t held);
       content_kept = λ t held. absurd (start_unheld bytes actors t held);
+      seal_kept = λ t held. absurd (start_unheld bytes actors t held);
     }
 
 -- ---- what the core shows then
@@ -113,7 +117,9 @@ points_start (suc k) x = over_none 64
 
 lists_start : (partitions k : ℕ) (x : SlotName) → in_lists partitions nothing_stands x k ≡ 0
 lists_start partitions zero x = refl
-lists_start partitions (suc k) x = over_same partitions (λ p. 0) (λ p. listed_times x (no_caches k p) 0 170) (λ p. listed_none x (no_caches k p) 0 170 (λ c. refl)) ∙ over_none partitions
+lists_start partitions (suc k) x =
+    over_same partitions (λ p. 0) (λ p. listed_times x (no_caches k p) 0 170) (λ p. listed_none x (no_caches k p) 0 170 (λ c. refl)) ∙
+    over_none partitions
 
 pub start_shows : (a : Parts) → IsFiled a → ShowsFront a 0 [] a.ps (start_of (2097152 * a.supers) (a.threads + 1))
 start_shows a h =
@@ -124,7 +130,8 @@ start_shows a h =
     let long : length s.words ≡ bytes / 8 = start.words in
     let no_own : (t : Title) (o : OwnState) → 0 < total_of s (OwnAs t o) → ⊥ = λ t o some.
     start_unheld bytes actors t (let p = own_of_state (total_of s) t o (tally_of s.holdings) some in omega arith) in
-    let empty : (p : ℕ) → root_at a 0 p ≡ new_root = λ p. ap (λ es. root_replayed a.pools es new_root) (none_below entry_line (a.roots p) []) in
+    let empty : (p : ℕ) → root_at a 0 p ≡ new_root =
+    λ p. ap (λ es. root_replayed a.pools es new_root) (none_below entry_line (a.roots p) []) in
     record {
       st = nothing_stands;
       front = record {
@@ -143,11 +150,14 @@ start_shows a h =
         own = λ k t below made. let e = owns_start k (name_of t) in omega arith;
         ref = λ k t below made. let e = points_start k (name_of t) in omega arith;
         free = λ k t some below made. let e = lists_start a.partitions k (name_of t) in omega arith;
-        kept = λ t (p, (span, among, number, made, is), out). absurd (not_in_none span (subst (λ (r : Root). Contains r.spans span) (empty p) among));
+        kept = λ t (p, (span, among, number, made, is), out). absurd
+            (not_in_none span (subst (λ (r : Root). Contains r.spans span) (empty p) among));
         words = λ t held. absurd (start_unheld bytes actors t held);
         contents = λ t some. absurd (no_own t Clean some);
         clean = λ t o some. absurd (no_own t o some);
-        raw = λ k byte some below. start.held k (RawByte byte) below ∙ of_actor_apart 0 k (RawPiece 0 bytes ∷ []) (RawByte byte) (λ z. omega arith);
+        sealed = λ k t below. start.held k (SealedOwn t) below ∙ none_of 0 k (RawPiece 0 bytes ∷ []) (SealedOwn t) refl;
+        raw = λ k byte some below. start.held k (RawByte byte) below ∙
+            of_actor_apart 0 k (RawPiece 0 bytes ∷ []) (RawByte byte) (λ z. omega arith);
         there = λ t held. absurd (start_unheld bytes actors t held);
       };
     }

@@ -38,7 +38,8 @@ named_times y (t ∷ ts) = let a = times_cons y (name_of t) (map name_of ts) in 
 asking_lists : (names : Titles) (actors bytes partitions : ℕ) (st next : Standing) (s : State)
     → ((g : Reg → ℕ) (k : ℕ) → in_registers g next k ≡ in_registers g st k) → ((y : SlotName) → next.word y ≡ st.word y)
     → ((y : SlotName) → next.content y ≡ st.content y) →
-    IsShown names actors bytes (asking (ledger_of partitions st) (λ k y. in_lists partitions next y k)) s → IsShown names actors bytes (ledger_of partitions next) s
+    IsShown names actors bytes (asking (ledger_of partitions st) (λ k y. in_lists partitions next y k)) s →
+    IsShown names actors bytes (ledger_of partitions next) s
 asking_lists names actors bytes partitions st next s registers words contents h = record {
   good = h.good;
   many = h.many;
@@ -50,31 +51,40 @@ asking_lists names actors bytes partitions st next s registers words contents h 
   words = λ t held. h.words t held ∙ sym (words (name_of t));
   contents = λ t some. let had = h.contents t some in λ i low inside. had i low inside ∙ sym (contents (name_of t));
   clean = h.clean;
+  sealed = h.sealed;
   raw = h.raw;
   there = h.there;
 }
 
-module _ (a : Parts) (before rest : List Played) (x : Played) (h : IsFiled a) (parts : a.ps ≡ before ++ x ∷ rest) (st : Standing) (f : IsFrontOf a x.line before (x ∷ rest) st) (s : State)
+module _ (a : Parts) (before rest : List Played) (x : Played) (h : IsFiled a) (parts : a.ps ≡ before ++ x ∷ rest) (st : Standing)
+    (f : IsFrontOf a x.line before (x ∷ rest) st) (s : State)
     (shown : IsShown (titles_in a (root_at a x.line)) (a.threads + 1) (2097152 * a.supers) (ledger_of a.partitions st) s) where
   -- the titles that are new, those that come to the thread, and its lists with them
   pub record Brings (new taken : List Title) (list : Cache) : Type 0 where
-    pub can : (t : Title) → Contains new t → CanBeCut (titles_in a (root_at a x.line)) (2097152 * a.supers) t × ((ledger_of a.partitions st).word (name_of t) ≡ 0)
+    pub can : (t : Title) → Contains new t → CanBeCut (titles_in a (root_at a x.line)) (2097152 * a.supers) t ×
+        ((ledger_of a.partitions st).word (name_of t) ≡ 0)
     pub apart : AllApart new
     pub kept : (t : Title) → Contains taken t → MadeIn a t × kept_with (KeptIn (root_at a x.line)) new t
     pub alone : StandOnce taken
-    pub lists : (y : SlotName) → in_lists a.partitions (listing a before rest x h parts st f s shown list) y (suc x.thread) ≤ in_lists a.partitions st y (suc x.thread) + named_in y taken
+    pub lists : (y : SlotName) →
+        in_lists a.partitions (listing a before rest x h parts st f s shown list) y (suc x.thread) ≤ in_lists a.partitions st y
+        (suc x.thread) + named_in y taken
     pub there : (u : Title) → ThereIn (root_at a x.line) u ⊎ Contains new u → ThereIn (root_at a (x.line + 1)) u
     pub next : (u : Title) → KeptIn (root_at a (x.line + 1)) u → kept_without (kept_with (KeptIn (root_at a x.line)) new) taken u
 
-  lists_same : (list : Cache) (j : ℕ) (y : SlotName) → (j ≡ suc x.thread → ⊥) → in_lists a.partitions (listing a before rest x h parts st f s shown list) y j ≤ in_lists a.partitions st y j
+  lists_same : (list : Cache) (j : ℕ) (y : SlotName) → (j ≡ suc x.thread → ⊥) →
+      in_lists a.partitions (listing a before rest x h parts st f s shown list) y j ≤ in_lists a.partitions st y j
   lists_same list zero y ne = omega arith
-  lists_same list (suc j) y ne = let e = lists_others a before rest x h parts st f s shown list j y (λ same. ne (ap suc same)) in omega arith
+  lists_same list (suc j) y ne = let e = lists_others a before rest x h parts st f s shown list j y (λ same. ne (ap suc same)) in
+      omega arith
 
-  registers_same : (list : Cache) (g : Reg → ℕ) (k : ℕ) → in_registers g (listing a before rest x h parts st f s shown list) k ≡ in_registers g st k
+  registers_same : (list : Cache) (g : Reg → ℕ) (k : ℕ) →
+      in_registers g (listing a before rest x h parts st f s shown list) k ≡ in_registers g st k
   registers_same list g zero = refl
   registers_same list g (suc k) = refl
 
-  pub titles_come : (new taken : List Title) (list : Cache) → Brings new taken list → (mid : State) × IsBrought a before rest x h parts st f s shown list mid
+  pub titles_come : (new taken : List Title) (list : Cache) → Brings new taken list → (mid : State) ×
+      IsBrought a before rest x h parts st f s shown list mid
   titles_come new taken list b =
       let names_old = titles_in a (root_at a x.line) in
       let actors = a.threads + 1 in
@@ -92,14 +102,17 @@ module _ (a : Parts) (before rest : List Played) (x : Played) (h : IsFiled a) (p
           events = c.events ++ m.events;
           run = run_join s cut mid c.events m.events shown.good c.run m.run;
           beside = beside_both k c.events m.events c.beside m.beside;
-          now = asking_lists (names_next a before rest x h parts st f s shown) actors bytes a.partitions st after mid (registers_same list) (λ y. refl) (λ y. refl)
-              (renamed (keeping (with_titles names_old new) (kept_without Cut taken)) (names_next a before rest x h parts st f s shown) actors bytes
+          now = asking_lists (names_next a before rest x h parts st f s shown) actors bytes a.partitions st after mid (registers_same list)
+              (λ y. refl) (λ y. refl)
+              (renamed (keeping (with_titles names_old new) (kept_without Cut taken))
+              (names_next a before rest x h parts st f s shown) actors bytes
               (asking (ledger_of a.partitions st) (λ j y. in_lists a.partitions after y j)) mid (λ u made. made) b.there b.next m.shown);
         },
       )
 
   -- Titles of which the thread's lists had more before than after go to actor 0, if registers, words and contents stay.
-  pub titles_go : (from last : Standing) (ts : List Title) (mid : State) → IsShown (titles_in a (root_at a x.line)) (a.threads + 1) (2097152 * a.supers) (ledger_of a.partitions from) mid →
+  pub titles_go : (from last : Standing) (ts : List Title) (mid : State) →
+      IsShown (titles_in a (root_at a x.line)) (a.threads + 1) (2097152 * a.supers) (ledger_of a.partitions from) mid →
       ((g : Reg → ℕ) (k : ℕ) → in_registers g last k ≡ in_registers g from k) → ((y : SlotName) → last.word y ≡ from.word y)
       → ((y : SlotName) → last.content y ≡ from.content y) → ((t : Title) → Contains ts t → MadeIn a t) →
       ((y : SlotName) → in_lists a.partitions last y (suc x.thread) + named_in y ts ≤ in_lists a.partitions from y (suc x.thread)) →
@@ -119,6 +132,7 @@ module _ (a : Parts) (before rest : List Played) (x : Played) (h : IsFiled a) (p
           events = r.events;
           run = r.run;
           beside = r.beside;
-          shown = asking_lists (keeping names_old (kept_with (KeptIn (root_at a x.line)) ts)) actors bytes a.partitions from last after registers words contents r.shown;
+          shown = asking_lists (keeping names_old (kept_with (KeptIn (root_at a x.line)) ts)) actors bytes a.partitions from last after
+              registers words contents r.shown;
         },
       )

@@ -24,27 +24,32 @@ reached_as names next actors bytes b s k made there kept (after, r) = (
 
 cut_listed : TitlesCanBeCut
 cut_listed ts made there kept actors bytes k b s h some can apart =
-    reached_as (with_titles (listed_titles made there kept) ts) (listed_titles made (there ++ ts) (kept ++ ts)) actors bytes b s k (λ u m. m)
+    reached_as (with_titles (listed_titles made there kept) ts) (listed_titles made (there ++ ts) (kept ++ ts)) actors bytes b s k
+    (λ u m. m)
     (λ u is. elim is [ inl old ↦ Contains-append_left there ts u old | inr new ↦ Contains-append_right there ts u new ])
     (λ u has. Contains-append_cases kept ts u has)
     (cuts_go ts (listed_titles made there kept) actors bytes b s k h some can apart)
 
 uncut_listed : TitlesCanBeUncut
 uncut_listed t made there kept there_then kept_then actors bytes k b s h some holds stays keeps =
-    let (after, run, shown) = uncut_shown (listed_titles made there kept) (λ u. Contains kept_then u) actors bytes b s t h some holds keeps in
-    reached_as (without_title (listed_titles made there kept) t (λ u. Contains kept_then u)) (listed_titles made there_then kept_then) actors bytes b s k (λ u m. m)
+    let (after, run, shown) =
+    uncut_shown (listed_titles made there kept) (λ u. Contains kept_then u) actors bytes b s t h some holds keeps in
+    reached_as (without_title (listed_titles made there kept) t (λ u. Contains kept_then u))
+    (listed_titles made there_then kept_then) actors bytes b s k (λ u m. m)
     (λ u is. stays u is.0 is.1) (λ u has. has)
     (after, record { events = Uncut 0 t ∷ []; run = run; beside = (inl refl, tt); shown = shown })
 
 back_listed : SlotsCanGoBack
 back_listed ts made there kept actors bytes k b rest s some below unique h all mine other =
-    reached_as (keeping (listed_titles made there kept) (kept_with (Contains kept) ts)) (listed_titles made there (kept ++ ts)) actors bytes _ s k (λ u m. m) (λ u is. is)
+    reached_as (keeping (listed_titles made there kept) (kept_with (Contains kept) ts))
+    (listed_titles made there (kept ++ ts)) actors bytes _ s k (λ u m. m) (λ u is. is)
     (λ u has. Contains-append_cases kept ts u has)
     (batch_goes (listed_titles made there kept) actors bytes k some below unique ts b rest (Contains kept) s h all mine other)
 
 come_listed : SlotsCanCome
 come_listed ts made there kept kept_then actors bytes k b later s some below unique h all once_each fewer mine other =
-    reached_as (keeping (listed_titles made there kept) (kept_without (Contains kept) ts)) (listed_titles made there kept_then) actors bytes _ s k (λ u m. m) (λ u is. is)
+    reached_as (keeping (listed_titles made there kept) (kept_without (Contains kept) ts))
+    (listed_titles made there kept_then) actors bytes _ s k (λ u m. m) (λ u is. is)
     (λ u has. fewer u has)
     (batch_comes (listed_titles made there kept) actors bytes k some below unique ts b later (Contains kept) s h all once_each mine other)
 

@@ -22,7 +22,8 @@ use Rattle.pa_one_run.proofs.lines.Cuts.{same_played}
 use Rattle.pa_one_run.proofs.words.Reading.{made_mark, written_mark}
 
 -- one number of a slot has one step
-pub step_once : (a : Parts) (q y : Played) (m n : Mark) (p r : Step) → IsFiled a → Contains a.ps q → Contains a.ps y → mark_of q ≡ Some m → mark_of y ≡ Some n → m.step ≡ Some p → n.step ≡ Some r →
+pub step_once : (a : Parts) (q y : Played) (m n : Mark) (p r : Step) → IsFiled a → Contains a.ps q → Contains a.ps y → mark_of q ≡ Some m →
+    mark_of y ≡ Some n → m.step ≡ Some p → n.step ≡ Some r →
     m.slot ≡ n.slot → number_of m.found ≡ number_of n.found → q ≡ y
 step_once a q y m n p r h there there' is is' step step' slot number =
     let s = n.slot in
@@ -42,13 +43,16 @@ module _ (a : Parts) (h : IsFiled a) where
   made_here : (x : Played) (m : Mark) (p : Step) → Contains a.ps x → mark_of x ≡ Some m → m.step ≡ Some p
       → IsMadeAt a.ps m.slot (number_of m.found) → (seen : Seen) × (usable : ℕ) × (x.answer ≡ Made seen usable)
   made_here x m p there is step (q, seen, usable, among, answer, slot, number) =
-      let same = step_once a q x (mark_at q.line seen (Some steps.Issue)) m steps.Issue p h among there (made_mark q seen usable answer) is refl step slot number in
+      let same = step_once a q x (mark_at q.line seen (Some steps.Issue)) m steps.Issue p h among there
+      (made_mark q seen usable answer) is refl step slot number in
       (seen, usable, ap (λ (z : Played). z.answer) (sym same) ∙ answer)
 
-  written_here : (x : Played) (m : Mark) (p : Step) (value : ℕ) → Contains a.ps x → mark_of x ≡ Some m → m.step ≡ Some p → IsWrittenAt a.ps m.slot (number_of m.found) value →
+  written_here : (x : Played) (m : Mark) (p : Step) (value : ℕ) → Contains a.ps x → mark_of x ≡ Some m → m.step ≡ Some p →
+      IsWrittenAt a.ps m.slot (number_of m.found) value →
       (seen : Seen) × (reg : ℕ) × (x.op ≡ ops.Write reg value) × (x.answer ≡ Done seen)
   written_here x m p value there is step (q, seen, reg, among, op, answer, slot, number) =
-      let same = step_once a q x (mark_at q.line seen (Some steps.Write)) m steps.Write p h among there (written_mark q seen reg value op answer) is refl step slot number in
+      let same = step_once a q x (mark_at q.line seen (Some steps.Write)) m steps.Write p h among there
+      (written_mark q seen reg value op answer) is refl step slot number in
       (seen, reg, ap (λ (z : Played). z.op) (sym same) ∙ op, ap (λ (z : Played). z.answer) (sym same) ∙ answer)
 
   -- a step that neither makes nor writes the slot leaves its content
@@ -57,7 +61,8 @@ module _ (a : Parts) (h : IsFiled a) where
       IsContent a.ps m.slot (number_of m.found) value → IsContent a.ps m.slot (number_of m.found + 1) value
   content_left x m p value there is step not_made not_written had =
       let k = number_of m.found in
-      let back : (n other : ℕ) → IsWrittenFor a.ps m.slot (k + 1) n other → IsWrittenFor a.ps m.slot k n other = λ n other (written, below, none). elim (cases_lt n k) [
+      let back : (n other : ℕ) → IsWrittenFor a.ps m.slot (k + 1) n other →
+      IsWrittenFor a.ps m.slot k n other = λ n other (written, below, none). elim (cases_lt n k) [
         | inl less ↦ (written, less, λ j made low high. none j made low (omega arith))
         | inr more ↦
             let e : n ≡ k = omega arith in
@@ -84,7 +89,8 @@ module _ (a : Parts) (h : IsFiled a) where
       ]
 
   -- a slot that is made has the content 0
-  pub content_made : (x : Played) (seen : Seen) (usable : ℕ) → Contains a.ps x → x.answer ≡ Made seen usable → IsContent a.ps seen.slot (number_of seen.found.0 + 1) 0
+  pub content_made : (x : Played) (seen : Seen) (usable : ℕ) → Contains a.ps x → x.answer ≡ Made seen usable →
+      IsContent a.ps seen.slot (number_of seen.found.0 + 1) 0
   content_made x seen usable there answer =
       let k = number_of seen.found.0 in
       inr (
@@ -101,15 +107,21 @@ module _ (a : Parts) (h : IsFiled a) where
       )
 
   -- after a write the content of its slot, at the number after the one that the write found, is the value written
-  pub content_written : (x : Played) (seen : Seen) (reg value : ℕ) → Contains a.ps x → x.op ≡ ops.Write reg value → x.answer ≡ Done seen → IsContent a.ps seen.slot (number_of seen.found.0 + 1) value
+  pub content_written : (x : Played) (seen : Seen) (reg value : ℕ) → Contains a.ps x → x.op ≡ ops.Write reg value → x.answer ≡ Done seen →
+      IsContent a.ps seen.slot (number_of seen.found.0 + 1) value
   content_written x seen reg value there op answer =
       let k = number_of seen.found.0 in
-      inl (k, ((x, seen, reg, there, op, answer, refl, refl), omega arith, λ j made low high. omega arith), λ j other (written, below, none) low. omega arith)
+      inl (
+        k,
+        ((x, seen, reg, there, op, answer, refl, refl), omega arith, λ j made low high. omega arith),
+        λ j other (written, below, none) low. omega arith,
+      )
 
   -- a slot has one content at a number
   written_once : (s : SlotName) (n v w : ℕ) → IsWrittenAt a.ps s n v → IsWrittenAt a.ps s n w → v ≡ w
   written_once s n v w (q, seen, reg, member, op, answer, slot, number) (r, other, reg', member', op', answer', slot', number') =
-      let same = step_once a q r (mark_at q.line seen (Some steps.Write)) (mark_at r.line other (Some steps.Write)) steps.Write steps.Write h member member'
+      let same = step_once a q r (mark_at q.line seen (Some steps.Write))
+      (mark_at r.line other (Some steps.Write)) steps.Write steps.Write h member member'
       (written_mark q seen reg v op answer) (written_mark r other reg' w op' answer') refl refl (slot ∙ sym slot') (number ∙ sym number') in
       let both : ops.Write reg v ≡ ops.Write reg' w = sym op ∙ ap (λ (z : Played). z.op) same ∙ op' in
       cc

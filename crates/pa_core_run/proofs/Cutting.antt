@@ -1,5 +1,5 @@
 -- A title that is cut out of raw bytes, and one that becomes raw bytes again: by actor 0, which has them all.
-use Rattle.std.proofs.Common.{◌≡◌, ℕ, zero, suc, ◌+◌, ◌*◌, ◌/◌, ◌<◌, List, [], ◌∷◌, length, get_or, set, refl, sym, ◌∙◌, ap, arith, ◌⊎◌, inl, inr}
+use Rattle.std.proofs.Common.{◌≡◌, ℕ, suc, ◌+◌, ◌*◌, ◌/◌, ◌<◌, List, [], ◌∷◌, length, get_or, set, refl, sym, ◌∙◌, ap, arith, ◌⊎◌, inl, inr}
 use Rattle.std.proofs.lemmas.List.{get_or-set_other, get_or-set_same}
 use Rattle.std.proofs.lemmas.Bool.{cases_lt}
 use Rattle.pa_slot.specs.declared.title.Title.{Title}
@@ -8,7 +8,7 @@ use Rattle.pa_slot.specs.declared.title.OwnState.TheVariants.{Clean}
 use Rattle.pa_machine.specs.declared.event.Event.{Event}
 use Rattle.pa_machine.specs.declared.event.Event.TheVariants.{Store, Cut, Uncut}
 use Rattle.pa_slot.specs.Titles.{content_place, count_place, content_at, count_word}
-use Rattle.pa_slot.specs.Holdings.{Piece, RawPiece, FreePiece, Thing, RawByte, FreeTitle, OwnOf, OwnAs, RefOf, IsTitleHeld, held_in}
+use Rattle.pa_slot.specs.Holdings.{Piece, RawPiece, FreePiece, Thing, RawByte, FreeTitle, OwnOf, OwnAs, SealedOwn, RefOf, IsTitleHeld, held_in}
 use Rattle.pa_machine.specs.Events.{State, HasActor, Holds, HoldsRaw, IsEnabled, of_actor, held_by, total_of}
 use Rattle.pa_machine.specs.Trail.{IsRunTo}
 use Rattle.pa_machine.proofs.Totals.{tally_of, total_exchanged, of_actor_here, of_actor_apart}
@@ -19,7 +19,7 @@ use Rattle.pa_machine.proofs.Happening.{in_total}
 use Rattle.pa_machine.proofs.Keeps.{own_of_state}
 use Rattle.pa_record.specs.Spans.{name_of}
 use Rattle.pa_core_steps.proofs.Joining.{run_good, run_one, run_join}
-use Rattle.pa_core_steps.proofs.Exchanging.{exchanges_then, nothing_of}
+use Rattle.pa_core_steps.proofs.Exchanging.{exchanges_then, none_of, nothing_of}
 use Rattle.pa_core_steps.proofs.Possible.{lose_free, lose_raw, lose_nothing, after_of}
 use Rattle.pa_core_run.specs.Ledger.{Ledger, Titles, IsShown, IsPaid}
 use Rattle.pa_core_run.specs.Moves.{CanBeCut}
@@ -33,23 +33,21 @@ abbrev pub without_title : Titles → Title → (Title → Type 0) → Titles
 without_title names t K = record { Made = names.Made; There = λ u. names.There u × (t ≡ u → ⊥); Kept = K }
 
 -- actor 0 loses no handle: that pays for itself
-nothing_paid : (Made : Title → Type 0) (b : Ledger) (t : Title) (lost gained : List Piece) → ((u : Title) → held_in lost (OwnOf u) ≡ 0) → ((u : Title) → held_in lost (RefOf u) ≡ 0) →
+nothing_paid : (Made : Title → Type 0) (b : Ledger) (t : Title) (lost gained : List Piece) → ((u : Title) → held_in lost (OwnOf u) ≡ 0) →
+    ((u : Title) → held_in lost (RefOf u) ≡ 0) →
     IsPaid Made b b (of_actor 0 lost) (of_actor 0 gained) t (b.word (name_of t))
 nothing_paid Made b t lost gained own ref = record {
-  own = λ j u m. let e = at_each j (OwnOf u) (own u) in omega arith;
-  ref = λ j u m. let e = at_each j (RefOf u) (ref u) in omega arith;
+  own = λ j u m. let e = none_of 0 j lost (OwnOf u) (own u) in omega arith;
+  ref = λ j u m. let e = none_of 0 j lost (RefOf u) (ref u) in omega arith;
   free = λ j u some m. let e = of_actor_apart 0 j lost (FreeTitle u) (λ z. omega arith) in omega arith;
   word_left = refl;
   words = λ x ne. refl;
   contents = λ x ne. refl;
 }
-  where
-    at_each : (j : ℕ) (x : Thing) → held_in lost x ≡ 0 → held_in (of_actor 0 lost j) x ≡ 0
-    at_each zero x none = none
-    at_each (suc j) x none = of_actor_apart 0 (suc j) lost x (λ z. omega arith)
 
 -- the bytes of a title that can be cut are raw, and actor 0 has them
-all_raw : (names : Titles) (actors bytes : ℕ) (b : Ledger) (s : State) (t : Title) → IsShown names actors bytes b s → 0 < actors → CanBeCut names bytes t → HoldsRaw s 0 t.start t.len
+all_raw : (names : Titles) (actors bytes : ℕ) (b : Ledger) (s : State) (t : Title) → IsShown names actors bytes b s → 0 < actors →
+    CanBeCut names bytes t → HoldsRaw s 0 t.start t.len
 all_raw names actors bytes b s t h some can byte low high =
     let long = h.long in
     let inside = can.inside in
@@ -68,7 +66,8 @@ all_raw names actors bytes b s t h some can byte low high =
           elim (can.apart u (h.there u held.1.1)) [ inl before ↦ absurd (omega arith) | inr behind ↦ absurd (omega arith) ]
     ]
   where
-    nobody_raw : (hs : List (List Piece)) → ((k : ℕ) → k < length hs → held_in (get_or hs k []) (RawByte byte) ≡ 0) → total_of (record { words = []; holdings = hs }) (RawByte byte) ≡ 0
+    nobody_raw : (hs : List (List Piece)) → ((k : ℕ) → k < length hs → held_in (get_or hs k []) (RawByte byte) ≡ 0) →
+        total_of (record { words = []; holdings = hs }) (RawByte byte) ≡ 0
     nobody_raw [] none = refl
     nobody_raw (ps ∷ hs) none =
         let here = none 0 (omega arith) in
@@ -80,7 +79,8 @@ all_raw names actors bytes b s t h some can byte low high =
 abbrev pub cutting : Title → List Event
 cutting t = Store 0 (8 * count_place t) 0 ∷ Cut 0 t ∷ []
 
-pub cut_shown : (names : Titles) (K : Title → Type 0) (actors bytes : ℕ) (b : Ledger) (s : State) (t : Title) → IsShown names actors bytes b s → 0 < actors → CanBeCut names bytes t →
+pub cut_shown : (names : Titles) (K : Title → Type 0) (actors bytes : ℕ) (b : Ledger) (s : State) (t : Title) →
+    IsShown names actors bytes b s → 0 < actors → CanBeCut names bytes t →
     b.word (name_of t) ≡ 0 → ((u : Title) → K u → names.Kept u ⊎ (t ≡ u)) →
     (after : State) × IsRunTo s (cutting t) after × IsShown (with_title names t K) actors bytes b after
 cut_shown names K actors bytes b s t h some can word_zero keeps =
@@ -100,7 +100,8 @@ cut_shown names K actors bytes b s t h some can word_zero keeps =
     let mid = m.0 in
     let store_run = run_one s mid (Store 0 at_byte 0) h.good stored (inl (inl raw_word, m.1)) in
     let mid_good = run_good s mid (Store 0 at_byte 0 ∷ []) h.good store_run in
-    let same_actor : (x : Thing) → held_by mid 0 x ≡ held_by s 0 x = λ x. (let e = m.1.holdings.1 0 x has in let z = nothing_of 0 0 x in omega arith) in
+    let same_actor : (x : Thing) → held_by mid 0 x ≡ held_by s 0 x =
+    λ x. (let e = m.1.holdings.1 0 x has in let z = nothing_of 0 0 x in omega arith) in
     let raw2 : HoldsRaw mid 0 t.start t.len = λ c low high. (let e = same_actor (RawByte c) in let r = raw c low high in omega arith) in
     let long2 = m.1.holdings.0 in
     let has2 : HasActor mid 0 = omega arith in
@@ -118,7 +119,8 @@ cut_shown names K actors bytes b s t h some can word_zero keeps =
     let totals : (x : Thing) → total_of after x + held_in (RawPiece t.start t.len ∷ []) x ≡ total_of s x + held_in (FreePiece t ∷ []) x =
     λ x. total_exchanged s.holdings after.holdings 0 0 (RawPiece t.start t.len ∷ []) (FreePiece t ∷ []) ex has has x in
     let all_words : after.words ≡ set s.words (count_place t) 0 = q.1.words ∙ (m.1.words ∙ ap (λ p. set s.words p 0) place) in
-    let unheld : IsTitleHeld (total_of s) t → ⊥ = λ held. (elim (can.apart t (h.there t held)) [ inl before ↦ omega arith | inr behind ↦ omega arith ]) in
+    let unheld : IsTitleHeld (total_of s) t →
+    ⊥ = λ held. (elim (can.apart t (h.there t held)) [ inl before ↦ omega arith | inr behind ↦ omega arith ]) in
     let off : (u : Title) (p : ℕ) → IsTitleHeld (total_of s) u → IsWordOf u p → p ≡ count_place t → ⊥ = λ u p held within same.
     (let covers = word_covered (length s.words) u p (h.good.divided.well u held) within in
     let c0 = covers.0 in
@@ -139,14 +141,18 @@ cut_shown names K actors bytes b s t h some can word_zero keeps =
             free = omega arith;
             own = omega arith;
             ref = omega arith;
+            seal = let ns = n.seal in let ts = totals (SealedOwn u) in omega arith;
             state = λ a. let na = n.state a in let ta = totals (OwnAs u a) in omega arith;
-            word = ap (λ ws. count_word ws u) all_words ∙ get_or-set_other s.words (count_place t) (count_place u) 0 0 (λ e. off u (count_place u) before (omega arith, omega arith) e);
+            word = ap (λ ws. count_word ws u) all_words ∙
+                get_or-set_other s.words (count_place t) (count_place u) 0 0
+                (λ e. off u (count_place u) before (omega arith, omega arith) e);
             content = λ i below. ap (λ ws. content_at ws u i) all_words
                 ∙ get_or-set_other s.words (count_place t) (content_place u i) 0 0
                 (λ e. off u (content_place u i) before (omega arith, omega arith) e);
           };
     } in
-    let no_own : (a : OwnState) → total_of after (OwnAs t a) ≡ 0 = λ a. (let e = totals (OwnAs t a) in elim (cases_lt 0 (total_of s (OwnAs t a))) [
+    let no_own : (a : OwnState) → total_of after (OwnAs t a) ≡ 0 =
+    λ a. (let e = totals (OwnAs t a) in elim (cases_lt 0 (total_of s (OwnAs t a))) [
       | inl had ↦ absurd (unheld (let p = own_of_state (total_of s) t a (tally_of s.holdings) had in omega arith))
       | inr none ↦ omega arith
     ]) in (
@@ -166,13 +172,15 @@ cut_shown names K actors bytes b s t h some can word_zero keeps =
           (λ other. ap (λ ws. count_word ws t) q.1.words ∙ (zeroed ∙ sym word_zero))
           (λ own. absurd (let z = no_own Clean in omega arith))
           (λ a own. absurd (let z = no_own a in omega arith))
-          (λ k byte up below. of_actor_apart 0 k (FreePiece t ∷ []) (RawByte byte) (λ z. omega arith))
+          (λ k byte up below. none_of 0 k (FreePiece t ∷ []) (RawByte byte) refl)
+          (λ k u. none_of 0 k (FreePiece t ∷ []) (SealedOwn u) refl)
           (λ u ne there. inl there)
           (λ other. inr refl),
     )
 
 -- the title becomes raw bytes again
-pub uncut_shown : (names : Titles) (K : Title → Type 0) (actors bytes : ℕ) (b : Ledger) (s : State) (t : Title) → IsShown names actors bytes b s → 0 < actors → Holds s 0 (FreeTitle t) →
+pub uncut_shown : (names : Titles) (K : Title → Type 0) (actors bytes : ℕ) (b : Ledger) (s : State) (t : Title) →
+    IsShown names actors bytes b s → 0 < actors → Holds s 0 (FreeTitle t) →
     ((u : Title) → K u → names.Kept u × (t ≡ u → ⊥)) →
     (after : State) × IsRunTo s (Uncut 0 t ∷ []) after × IsShown (without_title names t K) actors bytes b after
 uncut_shown names K actors bytes b s t h some holds keeps =
@@ -194,7 +202,8 @@ uncut_shown names K actors bytes b s t h some holds keeps =
     let r = totals (RefOf t) in
     let p = in_total s 0 (FreeTitle t) holds in
     elim (free_or (count_word s.words t)) [
-      | inl free ↦ let e = counted.free free in let o2 = counted.owns in let r2 = counted.refs in let z0 = free.0 in let z1 = free.1 in omega arith
+      | inl free ↦ let e = counted.free free in let o2 = counted.owns in let r2 = counted.refs in let z0 = free.0 in let z1 = free.1 in
+          omega arith
       | inr busy ↦ let e = counted.taken busy in omega arith
     ]) in
     let change : IsChangeOf s t after = record {
@@ -209,6 +218,7 @@ uncut_shown names K actors bytes b s t h some holds keeps =
             free = omega arith;
             own = omega arith;
             ref = omega arith;
+            seal = let ns = n.seal in let ts = totals (SealedOwn u) in omega arith;
             state = λ a. let na = n.state a in let ta = totals (OwnAs u a) in omega arith;
             word = ap (λ ws. count_word ws u) q.1.words;
             content = λ i below. ap (λ ws. content_at ws u i) q.1.words;
@@ -231,6 +241,7 @@ uncut_shown names K actors bytes b s t h some holds keeps =
           (λ own. absurd (gone (let p = own_of_state (total_of after) t Clean (tally_of after.holdings) own in omega arith)))
           (λ a own. absurd (gone (let p = own_of_state (total_of after) t a (tally_of after.holdings) own in omega arith)))
           (λ k byte up below. of_actor_apart 0 k (RawPiece t.start t.len ∷ []) (RawByte byte) (λ z. omega arith))
+          (λ k u. none_of 0 k (RawPiece t.start t.len ∷ []) (SealedOwn u) refl)
           (λ u ne there. (there, ne))
           (λ other. absurd (gone other)),
     )

@@ -39,15 +39,18 @@ gave_more first [] e = refl
 gave_more first (d ∷ es) e = gave_more d.gave es e
 
 -- what was given last was given by an exchange, or nothing was
-gave_by : (es : List CellEntry) (y : SlotName) → slot_held (gave_last held.Nothing es) ≡ Some y → (e : CellEntry) × Contains es e × (slot_held e.gave ≡ Some y)
+gave_by : (es : List CellEntry) (y : SlotName) → slot_held (gave_last held.Nothing es) ≡ Some y → (e : CellEntry) × Contains es e ×
+    (slot_held e.gave ≡ Some y)
 gave_by [] y names = absurd (not_some y names)
 gave_by (e ∷ es) y names = go e es y names
   where
-    go : (e : CellEntry) (es : List CellEntry) (y : SlotName) → slot_held (gave_last e.gave es) ≡ Some y → (d : CellEntry) × Contains (e ∷ es) d × (slot_held d.gave ≡ Some y)
+    go : (e : CellEntry) (es : List CellEntry) (y : SlotName) → slot_held (gave_last e.gave es) ≡ Some y → (d : CellEntry) ×
+        Contains (e ∷ es) d × (slot_held d.gave ≡ Some y)
     go e [] y names = (e, first_in e [], names)
     go e (d ∷ es) y names = let (g, member, gave) = go d es y names in (g, later_in e g (d ∷ es) member, gave)
 
-module _ (a : Parts) (before rest : List Played) (x : Played) (h : IsFiled a) (parts : a.ps ≡ before ++ x ∷ rest) (st : Standing) (f : IsFrontOf a x.line before (x ∷ rest) st) (s : State)
+module _ (a : Parts) (before rest : List Played) (x : Played) (h : IsFiled a) (parts : a.ps ≡ before ++ x ∷ rest) (st : Standing)
+    (f : IsFrontOf a x.line before (x ∷ rest) st) (s : State)
     (shown : IsShown (titles_in a (root_at a x.line)) (a.threads + 1) (2097152 * a.supers) (ledger_of a.partitions st) s) where
   abbrev swap_next : Standing
   swap_next = after_record a before x st (regs_left a before rest x h parts st f) (cache_left a before rest x h parts st f) st.content
@@ -59,7 +62,8 @@ module _ (a : Parts) (before rest : List Played) (x : Played) (h : IsFiled a) (p
       let (there, less) = in_below cell_line x.line (a.cells k) e member in
       let (q, reg, within, line, op) = exchange_made a k e h there in
       let early = early_in a x.line before (x ∷ rest) q (cut_here a before rest x h parts) within (omega arith) in
-      made_title a before (x ∷ rest) y h parts ((holds_made a before (x ∷ rest) st.regs h parts f.registers).cells k e q y there early (sym line) gave)
+      made_title a before (x ∷ rest) y h parts
+      ((holds_made a before (x ∷ rest) st.regs h parts f.registers).cells k e q y there early (sym line) gave)
 
   held_slot : (v : Held) (y : SlotName) → (reg_of v ≡ Own y) ⊎ (reg_of v ≡ Ref y) → slot_held v ≡ Some y
   held_slot held.Nothing y (inl e) = absurd cc
@@ -75,38 +79,47 @@ module _ (a : Parts) (before rest : List Played) (x : Played) (h : IsFiled a) (p
   swap_plays cell reg op cell_few reg_few unmarked lists none =
       let here = among a before rest x h parts st f in
       let (e, has) = exchange_here a x cell reg h here op in
-      let (entry, d, is, at, gave, becomes) = subst (λ o. Row (facts_of a) o (st.regs x.thread) x.answer (regs_left a before rest x h parts st f)) op (row_here a before rest x h parts st f) in
+      let (entry, d, is, at, gave, becomes) =
+      subst (λ o. Row (facts_of a) o (st.regs x.thread) x.answer (regs_left a before rest x h parts st f)) op
+      (row_here a before rest x h parts st f) in
       let place = of_some _ _ (ap swapped_of (sym is ∙ has.answer)) in
       let one : d ≡ e = of_some d e (sym at ∙ (ap (slice_get (a.cells cell)) place ∙ has.place)) in
       let found : d.found ≡ st.held cell = ap (λ (z : CellEntry). z.found) one ∙ (has.found ∙ sym (f.cells cell)) in
       let steady = cell_steady a cell h in
       let more : below cell_line (x.line + 1) (a.cells cell) ≡ below cell_line x.line (a.cells cell) ++ e ∷ [] =
-      below_next cell_line x.line (x.line + 1) (a.cells cell) (omega arith) (λ z member up. omega arith) steady ∙ ap (λ zs. below cell_line x.line (a.cells cell) ++ zs) has.only in
+      below_next cell_line x.line (x.line + 1) (a.cells cell) (omega arith) (λ z member up. omega arith) steady ∙
+      ap (λ zs. below cell_line x.line (a.cells cell) ++ zs) has.only in
       let words = words_same a before rest x h parts st f (inl unmarked) in
       let exchanged : IsExchanged a.partitions st swap_next x.thread reg cell = record {
         few = reg_few;
         few_cells = cell_few;
         here = λ r. rw (eq-eqb x.thread x.thread refl) (becomes r ∙ ap (λ v. with (st.regs x.thread) reg (reg_of v) r) found);
         other = λ j ne r. rw (ne_eqb j x.thread ne) refl;
-        held_here = ap (gave_last held.Nothing) more ∙ (gave_more held.Nothing (below cell_line x.line (a.cells cell)) e ∙ (ap (λ (z : CellEntry). z.gave) (sym one) ∙ gave));
-        held_other = λ c ne. ap (gave_last held.Nothing) (sym (below_gap cell_line x.line (x.line + 1) (a.cells c) (omega arith) (λ z member. elim (cases_eq z.line x.line) [
-          | inl same ↦
-              let (r, swap) = exchange_op a x c z h here member same in
-              let both : ops.Swap cell reg ≡ ops.Swap c r = sym op ∙ swap in
-              let e2 : cell ≡ c = cc in
-              absurd (ne (sym e2))
-          | inr apart ↦ elim (cases_lt z.line x.line) [ inl less ↦ inl less | inr up ↦ inr (omega arith) ]
-        ]))) ∙ sym (f.cells c);
+        held_here = ap (gave_last held.Nothing) more ∙
+            (gave_more held.Nothing (below cell_line x.line (a.cells cell)) e ∙ (ap (λ (z : CellEntry). z.gave) (sym one) ∙ gave));
+        held_other = λ c ne. ap (gave_last held.Nothing)
+            (sym (below_gap cell_line x.line (x.line + 1) (a.cells c) (omega arith) (λ z member. elim (cases_eq z.line x.line) [
+              | inl same ↦
+                  let (r, swap) = exchange_op a x c z h here member same in
+                  let both : ops.Swap cell reg ≡ ops.Swap c r = sym op ∙ swap in
+                  let e2 : cell ≡ c = cc in
+                  absurd (ne (sym e2))
+              | inr apart ↦ elim (cases_lt z.line x.line) [ inl less ↦ inl less | inr up ↦ inr (omega arith) ]
+            ]))) ∙ sym (f.cells c);
         lists = λ j y. lists_same a before rest x h parts st f st.content lists j y;
         words = words;
         contents = λ y. refl;
       } in
       let below_actors : suc x.thread < a.threads + 1 = (let low = few a before rest x h parts st f s shown in omega arith) in
-      let goes = swap_stands a.partitions st swap_next x.thread reg cell exchanged (titles_in a (root_at a x.line)) (a.threads + 1) (2097152 * a.supers) s (made_unique a h) shown below_actors
-      (λ y names. named_title a before rest x h parts st f s shown reg y (elim names [ inl own ↦ ap slot_in own | inr ref ↦ ap slot_in ref ]))
+      let goes = swap_stands a.partitions st swap_next x.thread reg cell exchanged (titles_in a (root_at a x.line)) (a.threads + 1)
+      (2097152 * a.supers) s (made_unique a h) shown below_actors
+      (λ y names. named_title a before rest x h parts st f s shown reg y
+      (elim names [ inl own ↦ ap slot_in own | inr ref ↦ ap slot_in ref ]))
       (λ y names. cell_title cell y (held_slot (st.held cell) y names)) in
       let same : suc x.thread ≡ x.thread + 1 = omega arith in (
         goes.after,
-        play_none (MadeIn a) x s goes.after goes.events unmarked shown.good goes.run (subst (λ k. AreBeside k goes.events) same goes.beside),
-        shows_next a before rest x h parts st f s shown st.content goes.after (roots_left a before rest x h parts st f none) (right_same a before rest x h parts st f words) goes.shown,
+        play_none (MadeIn a) x s goes.after goes.events unmarked shown.good goes.run
+            (subst (λ k. AreBeside k goes.events) same goes.beside),
+        shows_next a before rest x h parts st f s shown st.content goes.after (roots_left a before rest x h parts st f none)
+            (right_same a before rest x h parts st f words) goes.shown,
       )

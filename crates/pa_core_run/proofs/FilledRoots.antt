@@ -48,11 +48,15 @@ pub record IsFilledTo (r after : Root) (titles : List Title) : Type 0 where
   pub stays : (name : SlotName) → IsOut r name → IsOut after name
   pub differ : AllPairs (λ (t : Title) (u : Title). name_of t ≢ name_of u) titles
 
-opened_fill : (pools : List PoolEntry) (o : Option ℕ) (class want : ℕ) (r : Root) (f : Filled) → IsFilled class want (opened_by pools o r) f → IsFilledTo r f.root f.titles
-opened_fill pools None class want r f h = record { maps = h.maps; keeps = h.keeps; made = h.made; fresh = h.fresh; out = h.out; stays = h.stays; differ = h.differ }
-opened_fill pools (Some j) class want r f h = record { maps = h.maps; keeps = h.keeps; made = h.made; fresh = h.fresh; out = h.out; stays = h.stays; differ = h.differ }
+opened_fill : (pools : List PoolEntry) (o : Option ℕ) (class want : ℕ) (r : Root) (f : Filled) →
+    IsFilled class want (opened_by pools o r) f → IsFilledTo r f.root f.titles
+opened_fill pools None class want r f h =
+    record { maps = h.maps; keeps = h.keeps; made = h.made; fresh = h.fresh; out = h.out; stays = h.stays; differ = h.differ }
+opened_fill pools (Some j) class want r f h =
+    record { maps = h.maps; keeps = h.keeps; made = h.made; fresh = h.fresh; out = h.out; stays = h.stays; differ = h.differ }
 
-opened_by_sound : (pools : List PoolEntry) (o : Option ℕ) (n : ℕ) (r : Root) → AsksFrom n o → IsSound r → IsBornBelow n r → IsSound (opened_by pools o r)
+opened_by_sound : (pools : List PoolEntry) (o : Option ℕ) (n : ℕ) (r : Root) → AsksFrom n o → IsSound r → IsBornBelow n r →
+    IsSound (opened_by pools o r)
 opened_by_sound pools None n r asks sound born = sound
 opened_by_sound pools (Some j) n r asks sound born = opened_sound (super_of (act_at pools j)) j r sound (born_more n j r asks born)
 
@@ -84,7 +88,8 @@ module _ (r after : Root) (titles : List Title) (f : IsFilledTo r after titles) 
 
 -- ---- the roots of a line with one fill
 
-module _ (a : Parts) (before rest : List Played) (x : Played) (h : IsFiled a) (parts : a.ps ≡ before ++ x ∷ rest) (st : Standing) (f : IsFrontOf a x.line before (x ∷ rest) st)
+module _ (a : Parts) (before rest : List Played) (x : Played) (h : IsFiled a) (parts : a.ps ≡ before ++ x ∷ rest) (st : Standing)
+    (f : IsFrontOf a x.line before (x ∷ rest) st)
     (p : ℕ) (act : RootAct) (only : OnlyActs a.roots x.line p (act ∷ [])) where
   -- the root of its partition, and those of the others
   pub root_one : root_at a (x.line + 1) p ≡ root_next a.pools act (root_at a x.line p)
@@ -98,11 +103,14 @@ module _ (a : Parts) (before rest : List Played) (x : Played) (h : IsFiled a) (p
   asks_new =
       let (e, one, is) = on_line a x.line p act only.0 in
       let cut = below_next entry_line x.line (x.line + 1) (a.roots p) (omega arith) (λ d member up. omega arith) (h.order.journals p) in
-      let journal = subst (λ es. IsJournal a.pools es) (cut ∙ ap (λ es. journal_before a x.line p ++ es) one) (front_journal a (x.line + 1) p h) in
+      let journal = subst (λ es. IsJournal a.pools es) (cut ∙ ap (λ es. journal_before a x.line p ++ es) one)
+      (front_journal a (x.line + 1) p h) in
       let rise = rise_rest 0 (journal_before a x.line p) (e ∷ []) journal.rise in
-      subst (λ z. AsksFrom (least_after_all 0 (journal_before a x.line p)) (asked_by z)) is (rise_parts (least_after_all 0 (journal_before a x.line p)) (asked_by e.act) (all_asked []) rise).0
+      subst (λ z. AsksFrom (least_after_all 0 (journal_before a x.line p)) (asked_by z)) is
+      (rise_parts (least_after_all 0 (journal_before a x.line p)) (asked_by e.act) (all_asked []) rise).0
 
-module _ (a : Parts) (before rest : List Played) (x : Played) (h : IsFiled a) (parts : a.ps ≡ before ++ x ∷ rest) (st : Standing) (f : IsFrontOf a x.line before (x ∷ rest) st)
+module _ (a : Parts) (before rest : List Played) (x : Played) (h : IsFiled a) (parts : a.ps ≡ before ++ x ∷ rest) (st : Standing)
+    (f : IsFrontOf a x.line before (x ∷ rest) st)
     (p class : ℕ) (asked : Option ℕ) (xs : List Numbered) (only : OnlyActs a.roots x.line p (Fill class asked xs ∷ [])) where
   -- the titles that the fill takes
   abbrev pub filled_titles : List Title
@@ -116,6 +124,8 @@ module _ (a : Parts) (before rest : List Played) (x : Played) (h : IsFiled a) (p
       let fits = one_fits a x.line p (Fill class asked xs) h only.0 in
       let r = root_at a x.line p in
       let left = journal_leaves a.pools (journal_before a x.line p) (front_journal a x.line p h) in
-      let sound = opened_by_sound a.pools asked (least_after_all 0 (journal_before a x.line p)) r (asks_new a before rest x h parts st f p (Fill class asked xs) only) left.sound left.born in
+      let sound = opened_by_sound a.pools asked (least_after_all 0 (journal_before a x.line p)) r
+      (asks_new a before rest x h parts st f p (Fill class asked xs) only) left.sound left.born in
       subst (λ (z : Root). IsFilledTo r z filled_titles) (sym (root_one a before rest x h parts st f p (Fill class asked xs) only))
-      (opened_fill a.pools asked class (fill_of class) r (takes class (fill_of class) (opened_by a.pools asked r)) (takes_filled class (fill_of class) (opened_by a.pools asked r) sound fits.0))
+      (opened_fill a.pools asked class (fill_of class) r (takes class (fill_of class) (opened_by a.pools asked r))
+      (takes_filled class (fill_of class) (opened_by a.pools asked r) sound fits.0))

@@ -24,7 +24,9 @@ all_there r = flat_map made_in r.spans ++ r.maps
 pub listed_there : (r : Root) (t : Title) → IsThere r t → Contains (all_there r) t
 listed_there r t (inl (s, among, number, below, is)) =
     Contains-append_left (flat_map made_in r.spans) r.maps t
-    (flat_in made_in r.spans s t among (subst (λ u. Contains (made_in s) u) (sym is) (map_in (title_at s) (numbers 0 s.made) number (numbers_has 0 s.made number (omega arith) (omega arith)))))
+    (flat_in made_in r.spans s t among
+    (subst (λ u. Contains (made_in s) u) (sym is)
+    (map_in (title_at s) (numbers 0 s.made) number (numbers_has 0 s.made number (omega arith) (omega arith)))))
 listed_there r t (inr mapped) = Contains-append_right (flat_map made_in r.spans) r.maps t mapped
 
 pub there_listed : (r : Root) (t : Title) → Contains (all_there r) t → IsThere r t
@@ -67,7 +69,10 @@ fresh_of (x ∷ xs) ys =
           x ∷ fresh,
           record {
             each = λ t among. elim (in_cases x t fresh among) [
-              | inl same ↦ (subst (λ (u : Title). Contains (x ∷ xs) u) same (first_in x xs), λ old. new (subst (λ (u : Title). Contains ys u) (sym same) old))
+              | inl same ↦ (
+                subst (λ (u : Title). Contains (x ∷ xs) u) same (first_in x xs),
+                λ old. new (subst (λ (u : Title). Contains ys u) (sym same) old),
+              )
               | inr rest ↦ (later_in x t xs (f.each t rest).0, (f.each t rest).1)
             ];
             all = λ t among. elim (in_cases x t xs among) [
@@ -84,7 +89,11 @@ fresh_of (x ∷ xs) ys =
     leave fresh f has = record {
       each = λ t among. (later_in x t xs (f.each t among).0, (f.each t among).1);
       all = λ t among. elim (in_cases x t xs among) [
-        | inl same ↦ elim has [ inl old ↦ inl (subst (λ (u : Title). Contains ys u) same old) | inr there ↦ inr (subst (λ (u : Title). Contains fresh u) same there) ]
+        | inl same ↦ elim has [
+          | inl old ↦ inl (subst (λ (u : Title). Contains ys u) same old)
+          | inr there ↦
+              inr (subst (λ (u : Title). Contains fresh u) same there)
+        ]
         | inr rest ↦ f.all t rest
       ];
       once = f.once;

@@ -5,11 +5,10 @@ use Rattle.pa_slot.specs.declared.word.SlotName.{SlotName}
 use Rattle.pa_slot.specs.declared.word.Step.{Step}
 use Rattle.pa_slot.specs.declared.word.Step.TheVariants.{Issue}
 use Rattle.pa_slot.specs.declared.title.Title.{Title}
-use Rattle.pa_slot.specs.declared.title.OwnState.TheVariants.{Clean}
 use Rattle.pa_slot.specs.Count.{number_of, held_of, refs_of, stepped, CanStep}
 use Rattle.pa_slot.specs.Run.{Mark, IsReturning}
 use Rattle.pa_slot.specs.Titles.{content_count, count_word}
-use Rattle.pa_slot.specs.Holdings.{FreePiece, OwnPiece, FreeTitle, held_in}
+use Rattle.pa_slot.specs.Holdings.{FreePiece, FreeTitle, held_in}
 use Rattle.pa_machine.specs.Events.{State, Holds}
 use Rattle.pa_slot.proofs.Runs.{same_slot_yes}
 use Rattle.pa_machine.proofs.Amounts.{returned_cases}
@@ -39,6 +38,7 @@ use Rattle.pa_one_run.specs.Before.{root_at}
 use Rattle.pa_core_run.specs.Ledger.{IsShown}
 use Rattle.pa_core_run.specs.Standing.{Standing, in_lists, ledger_of}
 use Rattle.pa_core_run.specs.Fronts.{MadeIn, titles_in, IsFrontOf}
+use Rattle.pa_core_run.proofs.Showing.{own_piece}
 use Rattle.pa_core_run.proofs.Stepping.{issue_stands}
 use Rattle.pa_core_run.proofs.Named.{made_unique, HasTitle, class_title, direct_title}
 use Rattle.pa_core_run.proofs.Contents.{content_made}
@@ -49,13 +49,17 @@ use Rattle.pa_core_run.proofs.Stepped.{next_st, GetsBack, names_here, bytes_here
 use Rattle.pa_slot_effects.proofs.Handles.{over_same}
 use Rattle.pa_machine.proofs.Holding.{free_title}
 
-module _ (a : Parts) (before rest : List Played) (x : Played) (h : IsFiled a) (parts : a.ps ≡ before ++ x ∷ rest) (st : Standing) (f : IsFrontOf a x.line before (x ∷ rest) st) (s : State)
+module _ (a : Parts) (before rest : List Played) (x : Played) (h : IsFiled a) (parts : a.ps ≡ before ++ x ∷ rest) (st : Standing)
+    (f : IsFrontOf a x.line before (x ∷ rest) st) (s : State)
     (shown : IsShown (titles_in a (root_at a x.line)) (a.threads + 1) (2097152 * a.supers) (ledger_of a.partitions st) s) where
   -- the lists of the thread after the record
   pub lists_here : (content : SlotName → ℕ) (y : SlotName) →
-      in_lists a.partitions (next_st a before rest x h parts st f s shown content) y (suc x.thread) ≡ over a.partitions (λ p. listed_times y (cache_left a before rest x h parts st f p) 0 170)
+      in_lists a.partitions (next_st a before rest x h parts st f s shown content) y (suc x.thread) ≡ over a.partitions
+      (λ p. listed_times y (cache_left a before rest x h parts st f p) 0 170)
   lists_here content y =
-      let same : with_cache st.caches x.thread (cache_left a before rest x h parts st f) x.thread ≡ cache_left a before rest x h parts st f = rw (eq-eqb x.thread x.thread refl) refl in
+      let same : with_cache st.caches x.thread
+      (cache_left a before rest x h parts st f) x.thread ≡ cache_left a before rest x h parts st f =
+      rw (eq-eqb x.thread x.thread refl) refl in
       over_same a.partitions (λ p. listed_times y (cache_left a before rest x h parts st f p) 0 170)
       (λ p. listed_times y (with_cache st.caches x.thread (cache_left a before rest x h parts st f) x.thread p) 0 170)
       (λ p. ap (λ (c : Cache). listed_times y (c p) 0 170) same)
@@ -70,23 +74,27 @@ module _ (a : Parts) (before rest : List Played) (x : Played) (h : IsFiled a) (p
       let now : count_word s.words t ≡ m.found = word ∙ (ap st.word name ∙ sym found) in
       let (free, alone) = leaves_free p m.found (subst (λ w. CanStep p w) (sym found) can) returning in
       elim (returned_cases (stepped p (count_word s.words t)) t) [
-        | inl y ↦ ap (λ ps. held_in ps (FreeTitle u)) y.1 ∙ (free_piece (MadeIn a) t u (made_unique a h) made other ∙ ap (once (name_of u)) name)
+        | inl y ↦ ap (λ ps. held_in ps (FreeTitle u)) y.1 ∙
+            (free_piece (MadeIn a) t u (made_unique a h) made other ∙ ap (once (name_of u)) name)
         | inr n ↦ absurd (n.0 (ap (λ w. held_of (stepped p w)) now ∙ free, ap (λ w. refs_of (stepped p w)) now ∙ alone))
       ]
 
   -- a slot that a step returned goes to the front of its list
   pub gets_back : (m : Mark) (p : Step) → mark_of x ≡ Some m → m.step ≡ Some p → IsReturning p m.found →
-      ReturnRow a.roots x (record { slot = m.slot; number = number_of m.found + 1 }) (st.caches x.thread) (cache_left a before rest x h parts st f) → NoActs a.roots x.line →
+      ReturnRow a.roots x (record { slot = m.slot; number = number_of m.found + 1 }) (st.caches x.thread)
+      (cache_left a before rest x h parts st f) → NoActs a.roots x.line →
       GetsBack a before rest x h parts st f s shown (cache_left a before rest x h parts st f) p m.slot
   gets_back m p is step returning row none t made name word u other =
-      let grow = lists_grow a.partitions a.roots x (record { slot = m.slot; number = number_of m.found + 1 }) (st.caches x.thread) (cache_left a before rest x h parts st f) (name_of u)
+      let grow = lists_grow a.partitions a.roots x (record { slot = m.slot; number = number_of m.found + 1 }) (st.caches x.thread)
+      (cache_left a before rest x h parts st f) (name_of u)
       (λ q class of. class_real a.pools a.roots m.slot q class (h.journals.journals q) of) none row in
       let here = lists_here st.content (name_of u) in
       let back = left_free m p t u is step returning made name word other in
       omega arith
 
   -- an allocation from the front of a list
-  pub made_plays : (reg part size usable : ℕ) (seen : Seen) → x.op ≡ ops.Alloc reg part size → x.answer ≡ answers.Made seen usable → reg < 64 → part < a.partitions → HoldsNone (st.regs x.thread reg) →
+  pub made_plays : (reg part size usable : ℕ) (seen : Seen) → x.op ≡ ops.Alloc reg part size → x.answer ≡ answers.Made seen usable →
+      reg < 64 → part < a.partitions → HoldsNone (st.regs x.thread reg) →
       Becomes (regs_left a before rest x h parts st f) (with (st.regs x.thread) reg (Own seen.slot))
       → MadeRow a.roots x seen (st.caches x.thread) (cache_left a before rest x h parts st f) → NoActs a.roots x.line →
       Outcome a before rest x h parts st f s shown
@@ -99,7 +107,8 @@ module _ (a : Parts) (before rest : List Played) (x : Played) (h : IsFiled a) (p
         | inr (p, n, asks, direct) ↦ direct_title a seen.slot p h direct
       ] in
       let (t, made, name) = titled in
-      let other : (k r : ℕ) → x.op ≡ ops.Swap k r → ⊥ = λ k r swap. (let both : ops.Alloc reg part size ≡ ops.Swap k r = sym op ∙ swap in absurd cc) in
+      let other : (k r : ℕ) → x.op ≡ ops.Swap k r →
+      ⊥ = λ k r swap. (let both : ops.Alloc reg part size ≡ ops.Swap k r = sym op ∙ swap in absurd cc) in
       let content = with_slot st.content seen.slot 0 in
       let kept : (y : SlotName) → (y ≡ m.slot → ⊥) → content y ≡ st.content y = λ y ne. at_other_slot st.content seen.slot 0 y ne in
       let fall = lists_fall a.partitions a.roots x seen (st.caches x.thread) (cache_left a before rest x h parts st f)
@@ -130,7 +139,7 @@ module _ (a : Parts) (before rest : List Played) (x : Played) (h : IsFiled a) (p
       let found = found_word a before rest x h parts st f m is in
       let P : ℕ → Type 0 = λ w. IsContent a.ps seen.slot (number_of w + 1) (content seen.slot) in
       let Q : ℕ → Type 0 = λ v. IsContent a.ps seen.slot (number_of seen.found.0 + 1) v in
-      turned_plays a before rest x h parts st f s shown m Issue t (FreePiece t ∷ []) (OwnPiece t Clean ∷ [])
+      turned_plays a before rest x h parts st f s shown m Issue t (FreePiece t ∷ []) (own_piece t ∷ [])
       (λ k. stores (content_count t) 0 k t 0) content is refl (rw op refl) made name (shown.words t held)
       (λ k. stores_beside (content_count t) 0 k t 0) no_acts
       (right_after a before rest x h parts st f m Issue content is refl kept

@@ -62,14 +62,16 @@ giving_gives xs = giving_batches (length xs) xs
 
 pub giving_purge : (lists : ℕ → List Numbered) (class n : ℕ) → AreGiving (purge_acts lists class n)
 giving_purge lists class zero = (tt, tt)
-giving_purge lists class (suc n) = giving_both (gives (lists class)) (purge_acts lists (class + 1) n) (giving_gives (lists class)) (giving_purge lists (class + 1) n)
+giving_purge lists class (suc n) =
+    giving_both (gives (lists class)) (purge_acts lists (class + 1) n) (giving_gives (lists class)) (giving_purge lists (class + 1) n)
 
 -- each act fits the root after those before it
 abbrev pub FitAfter : List PoolEntry → List RootAct → Root → Type 0
 FitAfter pools [] r = Unit {0}
 FitAfter pools (act ∷ acts) r = RootActFits pools act r × FitAfter pools acts (root_next pools act r)
 
-replays_fit : (pools : List PoolEntry) (es : List RootEntry) (r : Root) → RootReplays pools es r → FitAfter pools (map (λ (e : RootEntry). e.act) es) r
+replays_fit : (pools : List PoolEntry) (es : List RootEntry) (r : Root) → RootReplays pools es r →
+    FitAfter pools (map (λ (e : RootEntry). e.act) es) r
 replays_fit pools [] r fits = tt
 replays_fit pools (e ∷ es) r fits = (fits.0, replays_fit pools es (root_next pools e.act r) fits.1)
 
@@ -91,7 +93,8 @@ back_then xs ys r mid after a b = record {
   stays = λ name none out. let both = back_append name xs ys in b.stays name (omega arith) (a.stays name (omega arith) out);
 }
 
-one_gives : (pools : List PoolEntry) (act : RootAct) (r : Root) → IsSound r → IsGiving act → RootActFits pools act r → GivesBack (act ∷ []) r (root_next pools act r)
+one_gives : (pools : List PoolEntry) (act : RootAct) (r : Root) → IsSound r → IsGiving act → RootActFits pools act r →
+    GivesBack (act ∷ []) r (root_next pools act r)
 one_gives pools (Fill class asked slots) r sound giving fits = absurd giving
 one_gives pools (Map asked slot len) r sound giving fits = absurd giving
 one_gives pools (Full class asked) r sound giving fits = absurd giving
@@ -115,11 +118,14 @@ one_gives pools Purge r sound giving fits =
       stays = λ name none out. times.stays name out;
     }
 
-pub gives_back : (pools : List PoolEntry) (acts : List RootAct) (r : Root) → IsSound r → AreGiving acts → FitAfter pools acts r → GivesBack acts r (root_after pools acts r)
-gives_back pools [] r sound giving fits = record { sound = sound; maps = refl; keeps = λ t made. made; makes_none = λ t made. made; stays = λ name none out. out }
+pub gives_back : (pools : List PoolEntry) (acts : List RootAct) (r : Root) → IsSound r → AreGiving acts → FitAfter pools acts r →
+    GivesBack acts r (root_after pools acts r)
+gives_back pools [] r sound giving fits =
+    record { sound = sound; maps = refl; keeps = λ t made. made; makes_none = λ t made. made; stays = λ name none out. out }
 gives_back pools (act ∷ acts) r sound giving fits =
     let first = one_gives pools act r sound giving.0 fits.0 in
-    back_then (act ∷ []) acts r (root_next pools act r) (root_after pools acts (root_next pools act r)) first (gives_back pools acts (root_next pools act r) first.sound giving.1 fits.1)
+    back_then (act ∷ []) acts r (root_next pools act r) (root_after pools acts (root_next pools act r)) first
+    (gives_back pools acts (root_next pools act r) first.sound giving.1 fits.1)
 
 module _ (acts : List RootAct) (r after : Root) (back : GivesBack acts r after) where
   name_stays : (name : SlotName) → back_in name acts ≡ 0 → IsNameOut r name → IsNameOut after name
@@ -129,10 +135,15 @@ module _ (acts : List RootAct) (r after : Root) (back : GivesBack acts r after) 
   ]
 
   there_stays : (t : Title) → IsThere r t → IsThere after t
-  there_stays t there = elim there [ inl made ↦ inl (back.keeps t made) | inr mapped ↦ inr (subst (λ ts. Contains ts t) (sym back.maps) mapped) ]
+  there_stays t there = elim there [
+    | inl made ↦ inl (back.keeps t made)
+    | inr mapped ↦
+        inr (subst (λ ts. Contains ts t) (sym back.maps) mapped)
+  ]
 
   -- what is in the root after them was in it, or came back by them
-  was_kept : (t : Title) → IsMade after t → (IsNameOut after (name_of t) → ⊥) → (IsMade r t × (IsNameOut r (name_of t) → ⊥)) ⊎ (0 < back_in (name_of t) acts)
+  was_kept : (t : Title) → IsMade after t → (IsNameOut after (name_of t) → ⊥) → (IsMade r t × (IsNameOut r (name_of t) → ⊥)) ⊎
+      (0 < back_in (name_of t) acts)
   was_kept t made away = elim (cases_eq (back_in (name_of t) acts) 0) [
     | inl none ↦ inl (back.makes_none t made, λ out. away (name_stays (name_of t) none out))
     | inr some ↦ inr (omega arith)
@@ -140,7 +151,8 @@ module _ (acts : List RootAct) (r after : Root) (back : GivesBack acts r after) 
 
 -- ---- the roots of a line
 
-module _ (a : Parts) (before rest : List Played) (x : Played) (h : IsFiled a) (parts : a.ps ≡ before ++ x ∷ rest) (st : Standing) (f : IsFrontOf a x.line before (x ∷ rest) st)
+module _ (a : Parts) (before rest : List Played) (x : Played) (h : IsFiled a) (parts : a.ps ≡ before ++ x ∷ rest) (st : Standing)
+    (f : IsFrontOf a x.line before (x ∷ rest) st)
     (giving : (p : ℕ) → AreGiving (acts_of a.roots x.line p)) where
   line_gives_back : (p : ℕ) → GivesBack (acts_of a.roots x.line p) (root_at a x.line p) (root_at a (x.line + 1) p)
   line_gives_back p =
@@ -151,11 +163,13 @@ module _ (a : Parts) (before rest : List Played) (x : Played) (h : IsFiled a) (p
 
   -- what is there stays, and what the roots have then they had, or it came back by the line's entries
   pub there_given : (u : Title) → ThereIn (root_at a x.line) u → ThereIn (root_at a (x.line + 1)) u
-  there_given u (p, there) = (p, there_stays (acts_of a.roots x.line p) (root_at a x.line p) (root_at a (x.line + 1) p) (line_gives_back p) u there)
+  there_given u (p, there) =
+      (p, there_stays (acts_of a.roots x.line p) (root_at a x.line p) (root_at a (x.line + 1) p) (line_gives_back p) u there)
 
   pub kept_given : (u : Title) → KeptIn (root_at a (x.line + 1)) u → KeptIn (root_at a x.line) u
       ⊎ ((p : ℕ) × IsMade (root_at a (x.line + 1) p) u × (0 < back_in (name_of u) (acts_of a.roots x.line p)))
-  kept_given u (p, made, away) = elim (was_kept (acts_of a.roots x.line p) (root_at a x.line p) (root_at a (x.line + 1) p) (line_gives_back p) u made away) [
-    | inl old ↦ inl (p, old.0, old.1)
-    | inr back ↦ inr (p, made, back)
-  ]
+  kept_given u (p, made, away) =
+      elim (was_kept (acts_of a.roots x.line p) (root_at a x.line p) (root_at a (x.line + 1) p) (line_gives_back p) u made away) [
+        | inl old ↦ inl (p, old.0, old.1)
+        | inr back ↦ inr (p, made, back)
+      ]

@@ -31,7 +31,8 @@ made_stays pools [] n r t good fits rise made = made
 made_stays pools (e ∷ es) n r t good fits rise made =
     let (asks, rest) = rise_parts n (asked_by e.act) (all_asked es) rise in
     let next = next_is pools e.act n r good.sound good.settled good.born asks fits.0 in
-    made_stays pools es (least_after n (asked_by e.act)) (root_next pools e.act r) t (good_next pools e.act n n r good asks fits.0) fits.1 rest (next.keeps t made)
+    made_stays pools es (least_after n (asked_by e.act)) (root_next pools e.act r) t
+    (good_next pools e.act n n r good asks fits.0) fits.1 rest (next.keeps t made)
 
 -- the entries of the pool that may be named rise
 least_parts : (n : ℕ) (xs ys : List RootEntry) → least_after_all n (xs ++ ys) ≡ least_after_all (least_after_all n xs) ys
@@ -53,22 +54,28 @@ no_super_stays pools (e ∷ es) b n r good fits rise none at member same =
     let (asks, rest) = rise_parts n (asked_by e.act) (all_asked es) rise in
     let next = next_is pools e.act n r good.sound good.settled good.born asks fits.0 in
     let low = none.0 in
-    no_super_stays pools es b (least_after n (asked_by e.act)) (root_next pools e.act r) (good_next pools e.act n n r good asks fits.0) fits.1 rest
-    (least_up b n (asked_by e.act) asks low, λ at2 member2 same2. elim (next.supers at2 member2) [ inl old ↦ none.1 at2 old same2 | inr new ↦ omega arith ]) at member same
+    no_super_stays pools es b (least_after n (asked_by e.act)) (root_next pools e.act r)
+    (good_next pools e.act n n r good asks fits.0) fits.1 rest (
+      least_up b n (asked_by e.act) asks low,
+      λ at2 member2 same2. elim (next.supers at2 member2) [ inl old ↦ none.1 at2 old same2 | inr new ↦ omega arith ],
+    ) at member same
 
-module _ (pools : List PoolEntry) (front more : List RootEntry) (h : IsJournal pools (front ++ more)) (h_front : IsJournal pools front) where
+module _ (pools : List PoolEntry) (front more : List RootEntry) (h : IsJournal pools (front ++ more))
+    (h_front : IsJournal pools front) where
   good_front : IsGood (least_after_all 0 front) (root_replayed pools front new_root)
   good_front = let left = journal_leaves pools front h_front in record { sound = left.sound; settled = left.settled; born = left.born }
 
   grown : (t : Title) → IsMade (root_replayed pools front new_root) t → IsMade (root_replayed pools (front ++ more) new_root) t
   grown t made =
       subst (λ (r : Root). IsMade r t) (sym (root_parts pools front more new_root))
-      (made_stays pools more (least_after_all 0 front) (root_replayed pools front new_root) t good_front (replays_rest pools front more new_root h.replays) (rise_rest 0 front more h.rise) made)
+      (made_stays pools more (least_after_all 0 front) (root_replayed pools front new_root) t good_front
+      (replays_rest pools front more new_root h.replays) (rise_rest 0 front more h.rise) made)
 
   no_super_grown : (b : ℕ) → HasNoSuper b (least_after_all 0 front) (root_replayed pools front new_root) → (at : SuperPage)
       → Contains (root_replayed pools (front ++ more) new_root).supers at → at.born ≡ b → ⊥
   no_super_grown b none at member same =
-      no_super_stays pools more b (least_after_all 0 front) (root_replayed pools front new_root) good_front (replays_rest pools front more new_root h.replays) (rise_rest 0 front more h.rise) none at
+      no_super_stays pools more b (least_after_all 0 front) (root_replayed pools front new_root) good_front
+      (replays_rest pools front more new_root h.replays) (rise_rest 0 front more h.rise) none at
       (subst (λ (r : Root). Contains r.supers at) (root_parts pools front more new_root) member) same
 
 -- ---- from line to line
@@ -85,26 +92,30 @@ module _ (a : Parts) (h : IsFiled a) (p : ℕ) where
             ∙ filter-append (λ (e : RootEntry). nat_lt (entry_line e) n) (xs ++ ys) zs
             ∙ ap (λ es. es ++ below entry_line n zs) (filter-append (λ (e : RootEntry). nat_lt (entry_line e) n) xs ys)
             ∙ append_assoc (below entry_line n xs) (below entry_line n ys) (below entry_line n zs)
-            ∙ ap (λ es. es ++ (below entry_line n ys ++ below entry_line n zs)) (below_all entry_line n xs (λ e among. let low = (in_below entry_line m (a.roots p) e among).1 in omega arith)),
+            ∙ ap (λ es. es ++ (below entry_line n ys ++ below entry_line n zs))
+            (below_all entry_line n xs (λ e among. let low = (in_below entry_line m (a.roots p) e among).1 in omega arith)),
       )
 
   whole_parts : (n : ℕ) → (more : List RootEntry) × (a.roots p ≡ journal_before a n p ++ more)
   whole_parts n = (
     on entry_line n (a.roots p) ++ past entry_line n (a.roots p),
-    below_on_past entry_line n (a.roots p) (h.order.journals p) ∙ append_assoc (journal_before a n p) (on entry_line n (a.roots p)) (past entry_line n (a.roots p)),
+    below_on_past entry_line n (a.roots p) (h.order.journals p) ∙
+        append_assoc (journal_before a n p) (on entry_line n (a.roots p)) (past entry_line n (a.roots p)),
   )
 
   pub made_later : (m n : ℕ) (t : Title) → m ≤ n → IsMade (root_at a m p) t → IsMade (root_at a n p) t
   made_later m n t le made =
       let (more, parts) = later_parts m n le in
       let journal = subst (λ es. IsJournal a.pools es) parts (front_journal a n p h) in
-      subst (λ es. IsMade (root_replayed a.pools es new_root) t) (sym parts) (grown a.pools (journal_before a m p) more journal (front_journal a m p h) t made)
+      subst (λ es. IsMade (root_replayed a.pools es new_root) t) (sym parts)
+      (grown a.pools (journal_before a m p) more journal (front_journal a m p h) t made)
 
   pub made_at_end : (n : ℕ) (t : Title) → IsMade (root_at a n p) t → IsMade (root_replayed a.pools (a.roots p) new_root) t
   made_at_end n t made =
       let (more, parts) = whole_parts n in
       let journal = subst (λ es. IsJournal a.pools es) parts (h.journals.journals p) in
-      subst (λ es. IsMade (root_replayed a.pools es new_root) t) (sym parts) (grown a.pools (journal_before a n p) more journal (front_journal a n p h) t made)
+      subst (λ es. IsMade (root_replayed a.pools es new_root) t) (sym parts)
+      (grown a.pools (journal_before a n p) more journal (front_journal a n p h) t made)
 
   -- the least entry of the pool that may be named
   pub least_later : (m n : ℕ) → m ≤ n → least_after_all 0 (journal_before a m p) ≤ least_after_all 0 (journal_before a n p)
@@ -116,7 +127,8 @@ module _ (a : Parts) (h : IsFiled a) (p : ℕ) where
       omega arith
 
   -- a direct map that was there on a line has its entry of the pool alone
-  pub no_super_later : (m n : ℕ) (t : Title) → m ≤ n → Contains (root_at a m p).maps t → (at : SuperPage) → Contains (root_at a n p).supers at → at.born ≡ t.born → ⊥
+  pub no_super_later : (m n : ℕ) (t : Title) → m ≤ n → Contains (root_at a m p).maps t → (at : SuperPage) →
+      Contains (root_at a n p).supers at → at.born ≡ t.born → ⊥
   no_super_later m n t le mapped at member same =
       let (more, parts) = later_parts m n le in
       let journal = subst (λ es. IsJournal a.pools es) parts (front_journal a n p h) in

@@ -3,12 +3,12 @@ use Rattle.std.proofs.Common.{◌≡◌, ℕ, suc, ◌+◌, ◌*◌, ◌<◌, �
 use Rattle.std.proofs.lemmas.Bool.{eq-eqb}
 use Rattle.pa_slot.specs.declared.word.SlotName.{SlotName}
 use Rattle.pa_slot.specs.declared.word.Step.TheVariants.{Issue}
-use Rattle.pa_slot.specs.declared.title.OwnState.TheVariants.{Clean}
 use Rattle.pa_machine.specs.declared.event.Event.{Event}
+use Rattle.pa_machine.specs.declared.event.Event.TheVariants.{Count}
 use Rattle.pa_slot.specs.Count.{number_of, stepped, CanStep}
 use Rattle.pa_slot.specs.Run.{Mark}
 use Rattle.pa_slot.specs.Titles.{content_count}
-use Rattle.pa_slot.specs.Holdings.{FreePiece, OwnPiece, FreeTitle}
+use Rattle.pa_slot.specs.Holdings.{FreePiece, FreeTitle}
 use Rattle.pa_machine.specs.Events.{State, Holds}
 use Rattle.pa_machine.specs.Trail.{IsRunTo}
 use Rattle.pa_slot.proofs.Runs.{same_slot_yes}
@@ -37,6 +37,7 @@ use Rattle.pa_core_run.specs.Playing.{AreBeside}
 use Rattle.pa_core_run.specs.Ledger.{Titles, IsShown}
 use Rattle.pa_core_run.specs.Standing.{Standing, in_lists, ledger_of}
 use Rattle.pa_core_run.specs.Fronts.{MadeIn, titles_in, IsFrontOf}
+use Rattle.pa_core_run.proofs.Showing.{own_piece}
 use Rattle.pa_core_run.proofs.Acting.{play_step}
 use Rattle.pa_core_run.proofs.Paying.{IsSet}
 use Rattle.pa_core_run.proofs.Stepping.{issue_stands}
@@ -50,7 +51,8 @@ use Rattle.pa_core_run.proofs.Fronted.{lists_here}
 use Rattle.pa_slot_effects.proofs.Handles.{over_same}
 use Rattle.pa_machine.proofs.Holding.{free_title}
 
-module _ (a : Parts) (before rest : List Played) (x : Played) (h : IsFiled a) (parts : a.ps ≡ before ++ x ∷ rest) (st : Standing) (f : IsFrontOf a x.line before (x ∷ rest) st) (s : State)
+module _ (a : Parts) (before rest : List Played) (x : Played) (h : IsFiled a) (parts : a.ps ≡ before ++ x ∷ rest) (st : Standing)
+    (f : IsFrontOf a x.line before (x ∷ rest) st) (s : State)
     (shown : IsShown (titles_in a (root_at a x.line)) (a.threads + 1) (2097152 * a.supers) (ledger_of a.partitions st) s) where
   -- what holds if the thread's lists are these
   abbrev pub listing : Cache → Standing
@@ -59,12 +61,16 @@ module _ (a : Parts) (before rest : List Played) (x : Played) (h : IsFiled a) (p
   abbrev pub names_next : Titles
   names_next = titles_in a (root_at a (x.line + 1))
 
-  pub lists_mine : (list : Cache) (y : SlotName) → in_lists a.partitions (listing list) y (suc x.thread) ≡ over a.partitions (λ p. listed_times y (list p) 0 170)
+  pub lists_mine : (list : Cache) (y : SlotName) →
+      in_lists a.partitions (listing list) y (suc x.thread) ≡ over a.partitions (λ p. listed_times y (list p) 0 170)
   lists_mine list y =
       let same : with_cache st.caches x.thread list x.thread ≡ list = rw (eq-eqb x.thread x.thread refl) refl in
-      over_same a.partitions (λ p. listed_times y (list p) 0 170) (λ p. listed_times y (with_cache st.caches x.thread list x.thread p) 0 170) (λ p. ap (λ (c : Cache). listed_times y (c p) 0 170) same)
+      over_same a.partitions (λ p. listed_times y (list p) 0 170)
+      (λ p. listed_times y (with_cache st.caches x.thread list x.thread p) 0 170)
+      (λ p. ap (λ (c : Cache). listed_times y (c p) 0 170) same)
 
-  pub lists_others : (list : Cache) (j : ℕ) (y : SlotName) → (j ≡ x.thread → ⊥) → in_lists a.partitions (listing list) y (suc j) ≡ in_lists a.partitions st y (suc j)
+  pub lists_others : (list : Cache) (j : ℕ) (y : SlotName) → (j ≡ x.thread → ⊥) →
+      in_lists a.partitions (listing list) y (suc j) ≡ in_lists a.partitions st y (suc j)
   lists_others list j y ne = lists_beside a before rest x h parts st f list j y ne
 
   -- the core shows, after some events, the roots of the next line, and the thread's lists with the slot
@@ -77,7 +83,9 @@ module _ (a : Parts) (before rest : List Played) (x : Played) (h : IsFiled a) (p
   pub issue_plays : (reg part size usable : ℕ) (seen : Seen) (list : Cache) (mid : State) → x.op ≡ ops.Alloc reg part size
       → x.answer ≡ answers.Made seen usable → reg < 64 → HoldsNone (st.regs x.thread reg) →
       Becomes (regs_left a before rest x h parts st f) (with (st.regs x.thread) reg (Own seen.slot)) →
-      ((y : SlotName) → over a.partitions (λ p. listed_times y (cache_left a before rest x h parts st f p) 0 170) + once y seen.slot ≤ over a.partitions (λ p. listed_times y (list p) 0 170)) →
+      ((y : SlotName) → over a.partitions
+      (λ p. listed_times y (cache_left a before rest x h parts st f p) 0 170) + once y seen.slot ≤ over a.partitions
+      (λ p. listed_times y (list p) 0 170)) →
       IsBrought list mid → Outcome a before rest x h parts st f s shown
   issue_plays reg part size usable seen list mid op answer reg_few none becomes fall brought =
       let m : Mark = mark_at x.line seen (Some Issue) in
@@ -88,13 +96,15 @@ module _ (a : Parts) (before rest : List Played) (x : Played) (h : IsFiled a) (p
         | inr (p, n, asks, direct) ↦ direct_title a seen.slot p h direct
       ] in
       let (t, made, name) = titled in
-      let other : (k r : ℕ) → x.op ≡ ops.Swap k r → ⊥ = λ k r swap. (let both : ops.Alloc reg part size ≡ ops.Swap k r = sym op ∙ swap in absurd cc) in
+      let other : (k r : ℕ) → x.op ≡ ops.Swap k r →
+      ⊥ = λ k r swap. (let both : ops.Alloc reg part size ≡ ops.Swap k r = sym op ∙ swap in absurd cc) in
       let content = with_slot st.content seen.slot 0 in
       let kept : (y : SlotName) → (y ≡ m.slot → ⊥) → content y ≡ st.content y = λ y ne. at_other_slot st.content seen.slot 0 y ne in
       let st2 = next_st a before rest x h parts st f s shown content in
       let first = set_named a before rest x h parts st f s shown t m Issue reg Own content name
       (set_by a before rest x h parts st f m Issue reg (Own m.slot) content is refl reg_few other becomes kept) in
-      let set : IsSet a.partitions (listing list) st2 x.thread reg (Own (name_of t)) (name_of t) (stepped Issue (st.word (name_of t))) = record {
+      let set : IsSet a.partitions (listing list) st2 x.thread reg (Own (name_of t)) (name_of t) (stepped Issue (st.word (name_of t))) =
+      record {
         few = first.few;
         here = first.here;
         other = first.other;
@@ -124,14 +134,16 @@ module _ (a : Parts) (before rest : List Played) (x : Played) (h : IsFiled a) (p
       let found = found_word a before rest x h parts st f m is in
       let P : ℕ → Type 0 = λ w. IsContent a.ps seen.slot (number_of w + 1) (content seen.slot) in
       let Q : ℕ → Type 0 = λ v. IsContent a.ps seen.slot (number_of seen.found.0 + 1) v in
-      let right = right_after a before rest x h parts st f m Issue content is refl kept (λ held2. subst P found (subst Q (sym now) (content_made a h x seen usable here answer))) in
+      let right = right_after a before rest x h parts st f m Issue content is refl kept
+      (λ held2. subst P found (subst Q (sym now) (content_made a h x seen usable here answer))) in
       let e : suc x.thread ≡ x.thread + 1 = omega arith in
       let T : ℕ → Type 0 = λ k.
-      ((after : State) × IsDone mid k t Issue (FreePiece t ∷ []) (OwnPiece t Clean ∷ []) (stores (content_count t) 0 k t 0) after
+      ((after : State) × IsDone mid k t Issue (Count k t Issue) (FreePiece t ∷ []) (own_piece t ∷ [])
+      (stores (content_count t) 0 k t 0) after
       × IsShown names_next (a.threads + 1) (2097152 * a.supers) (ledger_of a.partitions st2) after) in
       let (after, done, last) = subst T e turned in (
         after,
-        play_step (MadeIn a) x s mid after after m t Issue (FreePiece t ∷ []) (OwnPiece t Clean ∷ []) brought.events
+        play_step (MadeIn a) x s mid after after m t Issue (FreePiece t ∷ []) (own_piece t ∷ []) brought.events
             (stores (content_count t) 0 (x.thread + 1) t 0) [] is refl (rw op refl) shown.good made name
             (brought.now.words t held ∙ (ap st.word name ∙ sym found)) brought.run done (run_start after last.good)
             (subst (λ k. AreBeside k brought.events) e brought.beside) (stores_beside (content_count t) 0 (x.thread + 1) t 0) tt,

@@ -36,7 +36,8 @@ use Rattle.pa_core_run.specs.Fronts.{MadeIn}
 use Rattle.pa_core_run.proofs.Named.{made_unique}
 
 -- an allocation that made a slot reports the usable bytes of its size
-request_usable : (facts : Facts) (regs after : Regs) (reg size usable : ℕ) (seen : Seen) → RequestRow facts regs reg size (answers.Made seen usable) after →
+request_usable : (facts : Facts) (regs after : Regs) (reg size usable : ℕ) (seen : Seen) →
+    RequestRow facts regs reg size (answers.Made seen usable) after →
     usable ≡ facts.usable_of size
 request_usable facts regs after reg size usable seen (inl (large, is, becomes)) = absurd cc
 request_usable facts regs after reg size usable seen (inr (inl (fits, other, is, becomes))) = cc
@@ -57,22 +58,26 @@ module _ (a : Parts) (h : IsFiled a) where
   alloc_usable q seen usable reg p size among answer op =
       let (before, rest, parts) = parts_at a.ps q among in
       let at = row_at a before rest q h parts in
-      let row = subst (λ z. Row (facts_of a) (ops.Alloc reg p size) (at.all q.thread) z at.next) answer (subst (λ o. Row (facts_of a) o (at.all q.thread) q.answer at.next) op at.row) in
+      let row = subst (λ z. Row (facts_of a) (ops.Alloc reg p size) (at.all q.thread) z at.next) answer
+      (subst (λ o. Row (facts_of a) o (at.all q.thread) q.answer at.next) op at.row) in
       row_usable (at.all q.thread reg) (facts_of a) (at.all q.thread) at.next reg size usable seen row
 
   -- the title of a slot of a class, and of a direct map
   class_long : (y : SlotName) (p c : ℕ) (t : Title) → IsOfClass a.roots y p c → MadeIn a t → name_of t ≡ y → (c < 170) × (t.len ≡ slot_of c)
   class_long y p c t (e, asked, slots, among, is, member) made name =
-      let (u, was, named, sized) = title_of a.pools (a.roots p) e y (h.journals.journals p) among (subst (λ act. Contains (leaves_by act) y) (sym is) member) in
+      let (u, was, named, sized) =
+      title_of a.pools (a.roots p) e y (h.journals.journals p) among (subst (λ act. Contains (leaves_by act) y) (sym is) member) in
       let (real, len) = subst (λ act. HasLen act u) is sized in
       let same = made_unique a h t u made (p, was) (name ∙ sym named) in
       (real, ap (λ (z : Title). z.len) same ∙ len)
 
-  pub made_long_as : (q : Played) (seen : Seen) (usable : ℕ) (t : Title) → Contains a.ps q → q.answer ≡ answers.Made seen usable → MadeIn a t → name_of t ≡ seen.slot → usable + 8 ≡ t.len
+  pub made_long_as : (q : Played) (seen : Seen) (usable : ℕ) (t : Title) → Contains a.ps q → q.answer ≡ answers.Made seen usable →
+      MadeIn a t → name_of t ≡ seen.slot → usable + 8 ≡ t.len
   made_long_as q seen usable t among answer made name = elim (made_class a q seen usable h among answer) [
     | inl (p, c, (reg, size, op, class), of) ↦
         let (real, len) = class_long seen.slot p c t of made name in
-        let fits = subst (λ (k : Rules). slot_size_for k.version size ≡ slot_of c) (h.ruled q among) (sizes_fit.class q.rules.version size c class) in
+        let fits = subst (λ (k : Rules). slot_size_for k.version size ≡ slot_of c) (h.ruled q among)
+        (sizes_fit.class q.rules.version size c class) in
         let told = alloc_usable q seen usable reg p size among answer op in
         let row = IsRow-of c real in
         let least = row.least_slot in
@@ -92,10 +97,13 @@ module _ (a : Parts) (h : IsFiled a) where
           let (size2, asks2, long) = subst (λ z. MakesEntry a.pools r z y) act makes in
           let same : y ≡ q = same_played a y q h of.0 among (of.1 ∙ line) in
           let one = map_once q r p size2 size (subst (λ (z : Played). AsksForMap z r size2) same asks2) (reg, op, direct) in
-          let (u, was, named, sized) = title_of a.pools (a.roots r) e seen.slot (h.journals.journals r) there (subst (λ z. Contains (leaves_by z) seen.slot) (sym act) (first_in seen.slot [])) in
+          let (u, was, named, sized) =
+          title_of a.pools (a.roots r) e seen.slot (h.journals.journals r) there
+          (subst (λ z. Contains (leaves_by z) seen.slot) (sym act) (first_in seen.slot [])) in
           let len_is = subst (λ z. HasLen z u) act sized in
           let t_is = made_unique a h t u made (r, was) (name ∙ sym named) in
-          let fits = subst (λ (k : Rules). slot_size_for k.version size ≡ (shape_of size).slot) (h.ruled q among) (sizes_fit.direct q.rules.version size direct) in
+          let fits = subst (λ (k : Rules). slot_size_for k.version size ≡ (shape_of size).slot) (h.ruled q among)
+          (sizes_fit.direct q.rules.version size direct) in
           let told = alloc_usable q seen usable reg p size among answer op in
           let v : usable_of a.rules.version size ≡ slot_size_for a.rules.version size - 8 = refl in
           let shape = ap (λ n. (shape_of n).slot) one.1 in

@@ -23,7 +23,8 @@ pub record LiesIn (bytes : ℕ) (t : Title) : Type 0 where
   pub long : 16 ≤ t.len
   pub inside : t.start + t.len ≤ bytes
 
-at_whole : (bytes : ℕ) (s : Span) (n : ℕ) → s.place % 8 ≡ 0 → slot_of s.class % 8 ≡ 0 → 16 ≤ slot_of s.class → (title_at s n).start + (title_at s n).len ≤ bytes → LiesIn bytes (title_at s n)
+at_whole : (bytes : ℕ) (s : Span) (n : ℕ) → s.place % 8 ≡ 0 → slot_of s.class % 8 ≡ 0 → 16 ≤ slot_of s.class →
+    (title_at s n).start + (title_at s n).len ≤ bytes → LiesIn bytes (title_at s n)
 at_whole bytes s n place slot long inside =
     let start = times_whole (slot_of s.class) n slot in
     record { start_aligned = omega arith; len_aligned = slot; long = long; inside = inside }
@@ -62,4 +63,5 @@ module _ (a : Parts) (h : IsFiled a) (p : ℕ) where
       let place = placed.place in
       let sixteen = row.sixteens in
       let end = subst (λ (u : Title). u.start + u.len ≤ 2097152 * a.supers) is inside in
-      subst (λ u. LiesIn (2097152 * a.supers) u) (sym is) (at_whole (2097152 * a.supers) s number (omega arith) (omega arith) row.least_slot end)
+      subst (λ u. LiesIn (2097152 * a.supers) u) (sym is)
+      (at_whole (2097152 * a.supers) s number (omega arith) (omega arith) row.least_slot end)

@@ -33,19 +33,23 @@ renamed names next actors bytes b s made there kept h = record {
   words = h.words;
   contents = h.contents;
   clean = h.clean;
+  sealed = h.sealed;
   raw = h.raw;
   there = λ t held. there t (h.there t held);
 }
 
-pub cuts_go : (ts : List Title) (names : Titles) (actors bytes : ℕ) (b : Ledger) (s : State) (k : ℕ) → IsShown names actors bytes b s → 0 < actors →
-    ((t : Title) → Contains ts t → CanBeCut names bytes t × (b.word (name_of t) ≡ 0)) → AllApart ts → (after : State) × IsReached (with_titles names ts) actors bytes b s k after
+pub cuts_go : (ts : List Title) (names : Titles) (actors bytes : ℕ) (b : Ledger) (s : State) (k : ℕ) → IsShown names actors bytes b s →
+    0 < actors →
+    ((t : Title) → Contains ts t → CanBeCut names bytes t × (b.word (name_of t) ≡ 0)) → AllApart ts → (after : State) ×
+    IsReached (with_titles names ts) actors bytes b s k after
 cuts_go [] names actors bytes b s k h some can apart = (
   s,
   record {
     events = [];
     run = run_start s h.good;
     beside = tt;
-    shown = renamed names (with_titles names []) actors bytes b s (λ u m. m) (λ u there. inl there) (λ u kept. elim kept [ inl old ↦ old | inr new ↦ absurd (not_in_none u new) ]) h;
+    shown = renamed names (with_titles names []) actors bytes b s (λ u m. m) (λ u there. inl there)
+        (λ u kept. elim kept [ inl old ↦ old | inr new ↦ absurd (not_in_none u new) ]) h;
   },
 )
 cuts_go (t ∷ ts) names actors bytes b s k h some can apart =
@@ -56,7 +60,11 @@ cuts_go (t ∷ ts) names actors bytes b s k h some can apart =
     (λ u member.
     let it = can u (later_in t u ts member) in (
       record {
-        apart = λ v there. elim there [ inl old ↦ it.0.apart v old | inr same ↦ subst (λ (w : Title). TitlesApart u w) same (apart.0 u member) ];
+        apart = λ v there. elim there [
+          | inl old ↦ it.0.apart v old
+          | inr same ↦
+              subst (λ (w : Title). TitlesApart u w) same (apart.0 u member)
+        ];
         start_aligned = it.0.start_aligned;
         len_aligned = it.0.len_aligned;
         long = it.0.long;
@@ -72,7 +80,11 @@ cuts_go (t ∷ ts) names actors bytes b s k h some can apart =
         beside = beside_both k (cutting t) more.1.events (inl refl, (inl refl, tt)) more.1.beside;
         shown = renamed (with_titles (with_title names t K) ts) (with_titles names (t ∷ ts)) actors bytes b more.0 (λ u m. m)
             (λ u there. elim there [
-              | inl old ↦ elim old [ inl before ↦ inl before | inr same ↦ inr (subst (λ (v : Title). Contains (t ∷ ts) v) same (first_in t ts)) ]
+              | inl old ↦ elim old [
+                | inl before ↦ inl before
+                | inr same ↦
+                    inr (subst (λ (v : Title). Contains (t ∷ ts) v) same (first_in t ts))
+              ]
               | inr later ↦ inr (later_in t u ts later)
             ])
             (λ u kept. elim kept [

@@ -55,7 +55,8 @@ there_stays : (r : Root) (t u : Title) → IsThere r u → IsThere (mapped t r) 
 there_stays r t u (inl made) = inl made
 there_stays r t u (inr there) = inr (Contains-append_left r.maps (t ∷ []) u there)
 
-module _ (a : Parts) (before rest : List Played) (x : Played) (h : IsFiled a) (parts : a.ps ≡ before ++ x ∷ rest) (st : Standing) (f : IsFrontOf a x.line before (x ∷ rest) st) (s : State)
+module _ (a : Parts) (before rest : List Played) (x : Played) (h : IsFiled a) (parts : a.ps ≡ before ++ x ∷ rest) (st : Standing)
+    (f : IsFrontOf a x.line before (x ∷ rest) st) (s : State)
     (shown : IsShown (titles_in a (root_at a x.line)) (a.threads + 1) (2097152 * a.supers) (ledger_of a.partitions st) s)
     (p asked len : ℕ) (slot : SlotName) (only : OnlyActs a.roots x.line p (Map asked slot len ∷ [])) where
   abbrev act : RootAct
@@ -128,15 +129,19 @@ module _ (a : Parts) (before rest : List Played) (x : Played) (h : IsFiled a) (p
   ]
 
   there_now : IsThere (root_at a (x.line + 1) p) map_now
-  there_now = subst (λ (r : Root). IsThere r map_now) (sym next_is) (inr (Contains-append_right old_root.maps (map_now ∷ []) map_now (first_in map_now [])))
+  there_now = subst (λ (r : Root). IsThere r map_now) (sym next_is)
+      (inr (Contains-append_right old_root.maps (map_now ∷ []) map_now (first_in map_now [])))
 
   map_apart : (u : Title) (q : ℕ) → IsThere (root_at a x.line q) u → TitlesApart map_now u
   map_apart u q there = elim (apart_here a (x.line + 1) h p q map_now u there_now (there_at q u there)) [
-    | inl (place, same) ↦ absurd (not_there (subst (λ z. IsThere (root_at a x.line z) map_now) (sym place) (subst (λ v. IsThere (root_at a x.line q) v) (sym same) there)))
+    | inl (place, same) ↦ absurd
+        (not_there (subst (λ z. IsThere (root_at a x.line z) map_now) (sym place)
+        (subst (λ v. IsThere (root_at a x.line q) v) (sym same) there)))
     | inr apart ↦ apart
   ]
 
-  can_cut : CanBeCut (titles_in a (root_at a x.line)) (2097152 * a.supers) map_now × ((ledger_of a.partitions st).word (name_of map_now) ≡ 0)
+  can_cut : CanBeCut (titles_in a (root_at a x.line)) (2097152 * a.supers) map_now ×
+      ((ledger_of a.partitions st).word (name_of map_now) ≡ 0)
   can_cut =
       let (first, found, start, born) = one_fits a x.line p act h only.0 in
       let (size, asks, long) = makes a x p act h (among a before rest x h parts st f) only.0 in (
@@ -150,11 +155,13 @@ module _ (a : Parts) (before rest : List Played) (x : Played) (h : IsFiled a) (p
         f.words (name_of map_now) ∙ never_word a h before (x ∷ rest) x.line p map_now (cut_here a before rest x h parts) made_by never,
       )
 
-  kept_next : (u : Title) → KeptIn (root_at a (x.line + 1)) u → kept_without (kept_with (KeptIn (root_at a x.line)) (map_now ∷ [])) (map_now ∷ []) u
+  kept_next : (u : Title) → KeptIn (root_at a (x.line + 1)) u →
+      kept_without (kept_with (KeptIn (root_at a x.line)) (map_now ∷ [])) (map_now ∷ []) u
   kept_next u (q, made, away) = elim (cases_eq q p) [
     | inl e ↦
         let made_now = subst (λ (r : Root). IsMade r u) next_is (subst (λ z. IsMade (root_at a (x.line + 1) z) u) e made) in
-        let away_now = subst (λ (r : Root). IsNameOut r (name_of u) → ⊥) next_is (subst (λ z. IsNameOut (root_at a (x.line + 1) z) (name_of u) → ⊥) e away) in (
+        let away_now = subst (λ (r : Root). IsNameOut r (name_of u) → ⊥) next_is
+        (subst (λ z. IsNameOut (root_at a (x.line + 1) z) (name_of u) → ⊥) e away) in (
           inl (p, made_now, λ out. away_now (name_stays old_root map_now (name_of u) out)),
           λ member. not_there (inl (subst (λ v. IsMade old_root v) (sym (in_one map_now u member)) made_now)),
         )
@@ -162,7 +169,8 @@ module _ (a : Parts) (before rest : List Played) (x : Played) (h : IsFiled a) (p
         let same = root_other a before rest x h parts st f p act only q ne in
         let all = titles_follow.titles a.supers a.partitions a.ps a.pools a.roots h.journals h.pool in (
           inl (q, subst (λ (r : Root). IsMade r u) same made, subst (λ (r : Root). IsNameOut r (name_of u) → ⊥) same away),
-          λ member. ne (all.owned q p u u (inl (made_at_end a h q (x.line + 1) u made)) (subst (λ v. IsMadeBy a.pools (a.roots p) v) (in_one map_now u member) made_by) refl),
+          λ member. ne (all.owned q p u u (inl (made_at_end a h q (x.line + 1) u made))
+              (subst (λ v. IsMadeBy a.pools (a.roots p) v) (in_one map_now u member) made_by) refl),
         )
   ]
 
@@ -182,11 +190,17 @@ module _ (a : Parts) (before rest : List Played) (x : Played) (h : IsFiled a) (p
 
   pub map_brings : (mid : State) × IsBrought a before rest x h parts st f s shown list_mapped mid
   map_brings = titles_come a before rest x h parts st f s shown (map_now ∷ []) (map_now ∷ []) list_mapped (record {
-    can = λ t member. subst (λ v. CanBeCut (titles_in a (root_at a x.line)) (2097152 * a.supers) v × ((ledger_of a.partitions st).word (name_of v) ≡ 0)) (in_one map_now t member) can_cut;
+    can = λ t member. subst (λ v. CanBeCut (titles_in a (root_at a x.line)) (2097152 * a.supers) v ×
+        ((ledger_of a.partitions st).word (name_of v) ≡ 0)) (in_one map_now t member) can_cut;
     apart = (λ u member. absurd (not_in_none u member), tt);
-    kept = λ t member. subst (λ v. MadeIn a v × kept_with (KeptIn (root_at a x.line)) (map_now ∷ []) v) (in_one map_now t member) ((p, made_by), inr (first_in map_now []));
+    kept = λ t member. subst (λ v. MadeIn a v × kept_with (KeptIn (root_at a x.line)) (map_now ∷ []) v) (in_one map_now t member)
+        ((p, made_by), inr (first_in map_now []));
     alone = (λ member. not_in_none map_now member, tt);
     lists = lists_mapped;
-    there = λ u there. elim there [ inl old ↦ (old.0, there_at old.0 u old.1) | inr it ↦ (p, subst (λ v. IsThere (root_at a (x.line + 1) p) v) (in_one map_now u it) there_now) ];
+    there = λ u there. elim there [
+      | inl old ↦ (old.0, there_at old.0 u old.1)
+      | inr it ↦
+          (p, subst (λ v. IsThere (root_at a (x.line + 1) p) v) (in_one map_now u it) there_now)
+    ];
     next = kept_next;
   })

@@ -27,18 +27,23 @@ use Rattle.pa_one_run.proofs.roots.Replays.{front_journal}
 use Rattle.pa_core_run.proofs.FrontPool.{journal_before}
 
 -- a map that is there after an entry was there before, or the entry made it
-maps_of_next : (pools : List PoolEntry) (act : RootAct) (n : ℕ) (r : Root) (t : Title) → IsGood n r → AsksFrom n (asked_by act) → RootActFits pools act r → Contains (root_next pools act r).maps t →
+maps_of_next : (pools : List PoolEntry) (act : RootAct) (n : ℕ) (r : Root) (t : Title) → IsGood n r → AsksFrom n (asked_by act) →
+    RootActFits pools act r → Contains (root_next pools act r).maps t →
     Contains r.maps t ⊎ ((asked len : ℕ) × (slot : SlotName) × (act ≡ Map asked slot len) × (t ≡ map_title slot len))
-maps_of_next pools (Fill class None slots) n r t good asks fits among = inl (subst (λ ts. Contains ts t) (takes_filled class (fill_of class) r good.sound fits.0).maps among)
+maps_of_next pools (Fill class None slots) n r t good asks fits among =
+    inl (subst (λ ts. Contains ts t) (takes_filled class (fill_of class) r good.sound fits.0).maps among)
 maps_of_next pools (Fill class (Some j) slots) n r t good asks fits among =
     let number = super_of (act_at pools j) in
-    inl (subst (λ ts. Contains ts t) (takes_filled class (fill_of class) (opened number j r) (opened_sound number j r good.sound (born_more n j r asks good.born)) fits.0).maps among)
+    inl (subst (λ ts. Contains ts t)
+    (takes_filled class (fill_of class) (opened number j r)
+    (opened_sound number j r good.sound (born_more n j r asks good.born)) fits.0).maps among)
 maps_of_next pools (Map asked slot len) n r t good asks fits among = elim (Contains-push_cases r.maps (map_title slot len) t among) [
   | inl old ↦ inl old
   | inr e ↦ inr (asked, len, slot, refl, sym e)
 ]
 maps_of_next pools (Full class asked) n r t good asks fits among = inl among
-maps_of_next pools (Give slots) n r t good asks fits among = inl (subst (λ ts. Contains ts t) (all_returned_is (names slots) r good.sound fits.0 fits.1).kept.maps among)
+maps_of_next pools (Give slots) n r t good asks fits among =
+    inl (subst (λ ts. Contains ts t) (all_returned_is (names slots) r good.sound fits.0 fits.1).kept.maps among)
 maps_of_next pools (Unmap asked slot) n r t good asks fits among = inl (without_map_in slot.slot r.maps t among)
 maps_of_next pools Purge n r t good asks fits among = inl (subst (λ ts. Contains ts t) (times_is (empties r) r good.sound).kept.maps among)
 
@@ -48,7 +53,8 @@ maps_of_all : (pools : List PoolEntry) (es : List RootEntry) (n : ℕ) (r : Root
 maps_of_all pools [] n r t good fits rise among = inl among
 maps_of_all pools (e ∷ es) n r t good fits rise among =
     let (asks, rest) = rise_parts n (asked_by e.act) (all_asked es) rise in
-    elim (maps_of_all pools es (least_after n (asked_by e.act)) (root_next pools e.act r) t (good_next pools e.act n n r good asks fits.0) fits.1 rest among) [
+    elim (maps_of_all pools es (least_after n (asked_by e.act)) (root_next pools e.act r) t
+    (good_next pools e.act n n r good asks fits.0) fits.1 rest among) [
       | inl now ↦ elim (maps_of_next pools e.act n r t good asks fits.0 now) [
         | inl old ↦ inl old
         | inr (asked, len, slot, act, is) ↦ inr (e, asked, len, slot, first_in e es, act, is)
@@ -59,17 +65,20 @@ maps_of_all pools (e ∷ es) n r t good fits rise among =
 pub map_made : (a : Parts) (n p : ℕ) (t : Title) → IsFiled a → Contains (root_at a n p).maps t → IsMadeBy a.pools (a.roots p) t
 map_made a n p t h among =
     let front = front_journal a n p h in
-    elim (maps_of_all a.pools (journal_before a n p) 0 new_root t (record { sound = new_sound; settled = omega arith; born = new_born }) front.replays front.rise among) [
+    elim (maps_of_all a.pools (journal_before a n p) 0 new_root t
+    (record { sound = new_sound; settled = omega arith; born = new_born }) front.replays front.rise among) [
       | inl none ↦ absurd (not_in_none t none)
       | inr (e, asked, len, slot, member, act, is) ↦ inr (e, asked, len, slot, (in_below entry_line n (a.roots p) e member).0, act, is)
     ]
 
 -- a map of another entry of the pool stays
-pub other_stays : (slot : SlotName) (ts : List Title) (u : Title) → Contains ts u → (u.born ≡ slot.born → ⊥) → Contains (without_map slot ts) u
+pub other_stays : (slot : SlotName) (ts : List Title) (u : Title) → Contains ts u → (u.born ≡ slot.born → ⊥) →
+    Contains (without_map slot ts) u
 other_stays slot [] u among other = absurd (not_in_none u among)
 other_stays slot (t ∷ ts) u among other = elim (cases_Bool (eqb t.start slot.start && eqb t.born slot.born)) [
   | inl hit ↦ elim (in_cases t u ts among) [
-    | inl e ↦ absurd (other (ap (λ (z : Title). z.born) (sym e) ∙ eqb-true _ _ (and_parts (eqb t.start slot.start) (eqb t.born slot.born) hit).1))
+    | inl e ↦ absurd (other (ap (λ (z : Title). z.born) (sym e) ∙
+        eqb-true _ _ (and_parts (eqb t.start slot.start) (eqb t.born slot.born) hit).1))
     | inr rest ↦ rw hit rest
   ]
   | inr miss ↦ elim (in_cases t u ts among) [

@@ -60,17 +60,22 @@ HasTitle a x = (t : Title) × MadeIn a t × (name_of t ≡ x)
 
 pub class_title : (a : Parts) (x : SlotName) (p c : ℕ) → IsFiled a → IsOfClass a.roots x p c → HasTitle a x
 class_title a x p c h (e, asked, slots, among, is, member) =
-    let (t, made, named, sized) = title_of a.pools (a.roots p) e x (h.journals.journals p) among (subst (λ act. Contains (leaves_by act) x) (sym is) member) in
+    let (t, made, named, sized) =
+    title_of a.pools (a.roots p) e x (h.journals.journals p) among (subst (λ act. Contains (leaves_by act) x) (sym is) member) in
     (t, (p, made), named)
 
 pub direct_title : (a : Parts) (x : SlotName) (p : ℕ) → IsFiled a → IsDirect a.roots x p → HasTitle a x
 direct_title a x p h (e, asked, len, among, is) =
-    let (t, made, named, sized) = title_of a.pools (a.roots p) e x (h.journals.journals p) among (subst (λ act. Contains (leaves_by act) x) (sym is) (first_in x [])) in
+    let (t, made, named, sized) =
+    title_of a.pools (a.roots p) e x (h.journals.journals p) among
+    (subst (λ act. Contains (leaves_by act) x) (sym is) (first_in x [])) in
     (t, (p, made), named)
 
 -- what a record made has one
-pub made_title : (a : Parts) (before rest : List Played) (x : SlotName) → IsFiled a → a.ps ≡ before ++ rest → IsMadeIn before x → HasTitle a x
-made_title a before rest x h parts (q, seen, usable, among, is, slot) = elim (made_class a q seen usable h (in_front before rest a.ps q parts among) is) [
-  | inl (p, c, asks, of_class) ↦ class_title a x p c h (subst (λ z. IsOfClass a.roots z p c) slot of_class)
-  | inr (p, size, asks, direct) ↦ direct_title a x p h (subst (λ z. IsDirect a.roots z p) slot direct)
-]
+pub made_title : (a : Parts) (before rest : List Played) (x : SlotName) → IsFiled a → a.ps ≡ before ++ rest → IsMadeIn before x →
+    HasTitle a x
+made_title a before rest x h parts (q, seen, usable, among, is, slot) =
+    elim (made_class a q seen usable h (in_front before rest a.ps q parts among) is) [
+      | inl (p, c, asks, of_class) ↦ class_title a x p c h (subst (λ z. IsOfClass a.roots z p c) slot of_class)
+      | inr (p, size, asks, direct) ↦ direct_title a x p h (subst (λ z. IsDirect a.roots z p) slot direct)
+    ]

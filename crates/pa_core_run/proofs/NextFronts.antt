@@ -39,12 +39,16 @@ use Rattle.pa_heap_effects.proofs.Sharing.{root_parts}
 use Rattle.pa_slot_effects.proofs.Handles.{over_same}
 
 -- rows that lead over some records lead over one record more
-rows_snoc : (facts : Facts) (first all : AllRegs) (before : List Played) (x : Played) (next : Regs) → RowsTo facts first before all → Row facts x.op (all x.thread) x.answer next →
+rows_snoc : (facts : Facts) (first all : AllRegs) (before : List Played) (x : Played) (next : Regs) → RowsTo facts first before all →
+    Row facts x.op (all x.thread) x.answer next →
     RowsTo facts first (before ++ x ∷ []) (with_thread all x.thread next)
-rows_snoc facts first all [] x next to row = (next, subst (λ (r : AllRegs). Row facts x.op (r x.thread) x.answer next) to row, ap (λ (r : AllRegs). with_thread r x.thread next) to)
-rows_snoc facts first all (y ∷ before) x next (after, here, to) row = (after, here, rows_snoc facts (with_thread first y.thread after) all before x next to row)
+rows_snoc facts first all [] x next to row =
+    (next, subst (λ (r : AllRegs). Row facts x.op (r x.thread) x.answer next) to row, ap (λ (r : AllRegs). with_thread r x.thread next) to)
+rows_snoc facts first all (y ∷ before) x next (after, here, to) row =
+    (after, here, rows_snoc facts (with_thread first y.thread after) all before x next to row)
 
-pub replayed_acts : (pools : List PoolEntry) (es : List RootEntry) (r : Root) → root_replayed pools es r ≡ root_after pools (map (λ (e : RootEntry). e.act) es) r
+pub replayed_acts : (pools : List PoolEntry) (es : List RootEntry) (r : Root) →
+    root_replayed pools es r ≡ root_after pools (map (λ (e : RootEntry). e.act) es) r
 replayed_acts pools [] r = refl
 replayed_acts pools (e ∷ es) r = replayed_acts pools es (root_next pools e.act r)
 
@@ -58,7 +62,8 @@ after_record a before x st regs cache content = record {
   content = content;
 }
 
-module _ (a : Parts) (before rest : List Played) (x : Played) (h : IsFiled a) (parts : a.ps ≡ before ++ x ∷ rest) (st : Standing) (f : IsFrontOf a x.line before (x ∷ rest) st) where
+module _ (a : Parts) (before rest : List Played) (x : Played) (h : IsFiled a) (parts : a.ps ≡ before ++ x ∷ rest) (st : Standing)
+    (f : IsFrontOf a x.line before (x ∷ rest) st) where
   pub among : Contains a.ps x
   among = in_middle before rest a.ps x parts
 
@@ -77,7 +82,8 @@ module _ (a : Parts) (before rest : List Played) (x : Played) (h : IsFiled a) (p
 
   -- the front with the record
   pub front_next : (content : SlotName → ℕ) →
-      ((y : SlotName) → held_of (word_after (before ++ x ∷ []) y) ≡ 1 → IsContent a.ps y (number_of (word_after (before ++ x ∷ []) y)) (content y)) →
+      ((y : SlotName) → held_of (word_after (before ++ x ∷ []) y) ≡ 1 →
+      IsContent a.ps y (number_of (word_after (before ++ x ∷ []) y)) (content y)) →
       IsFrontOf a (x.line + 1) (before ++ x ∷ []) rest (after_record a before x st regs_left cache_left content)
   front_next content right = record {
     registers = rows_snoc (facts_of a) no_regs st.regs before x regs_left f.registers row_here;
@@ -90,11 +96,13 @@ module _ (a : Parts) (before rest : List Played) (x : Played) (h : IsFiled a) (p
   }
 
   -- a record that swaps with no cell leaves the cells
-  pub cells_left : ((k reg : ℕ) → x.op ≡ Swap k reg → ⊥) → (k : ℕ) → gave_last Nothing (below cell_line (x.line + 1) (a.cells k)) ≡ st.held k
-  cells_left other k = ap (gave_last Nothing) (sym (below_gap cell_line x.line (x.line + 1) (a.cells k) (omega arith) (λ e member. elim (cases_eq e.line x.line) [
-    | inl same ↦ let (reg, op) = exchange_op a x k e h among member same in absurd (other k reg op)
-    | inr apart ↦ around e.line apart
-  ]))) ∙ sym (f.cells k)
+  pub cells_left : ((k reg : ℕ) → x.op ≡ Swap k reg → ⊥) → (k : ℕ) →
+      gave_last Nothing (below cell_line (x.line + 1) (a.cells k)) ≡ st.held k
+  cells_left other k = ap (gave_last Nothing)
+      (sym (below_gap cell_line x.line (x.line + 1) (a.cells k) (omega arith) (λ e member. elim (cases_eq e.line x.line) [
+        | inl same ↦ let (reg, op) = exchange_op a x k e h among member same in absurd (other k reg op)
+        | inr apart ↦ around e.line apart
+      ]))) ∙ sym (f.cells k)
     where
       around : (l : ℕ) → (l ≡ x.line → ⊥) → (l < x.line) ⊎ (x.line + 1 ≤ l)
       around l apart = elim (cases_lt l x.line) [ inl less ↦ inl less | inr more ↦ inr (omega arith) ]
@@ -112,7 +120,8 @@ module _ (a : Parts) (before rest : List Played) (x : Played) (h : IsFiled a) (p
       around l apart = elim (cases_lt l x.line) [ inl less ↦ inl less | inr more ↦ inr (omega arith) ]
 
       each : (p : ℕ) → root_at a (x.line + 1) p ≡ root_at a x.line p
-      each p = ap (λ es. root_replayed a.pools es new_root) (sym (below_gap entry_line x.line (x.line + 1) (a.roots p) (omega arith) (λ e member. around e.line (no_entry p e member))))
+      each p = ap (λ es. root_replayed a.pools es new_root)
+          (sym (below_gap entry_line x.line (x.line + 1) (a.roots p) (omega arith) (λ e member. around e.line (no_entry p e member))))
 
   -- the root of a partition after the line: the line's entries replay from the one before it
   pub root_line : (p : ℕ) → root_at a (x.line + 1) p ≡ root_after a.pools (acts_of a.roots x.line p) (root_at a x.line p)
@@ -120,10 +129,12 @@ module _ (a : Parts) (before rest : List Played) (x : Played) (h : IsFiled a) (p
       let steady = h.order.journals p in
       let cut = below_next entry_line x.line (x.line + 1) (a.roots p) (omega arith) (λ e member up. omega arith) steady in
       ap (λ es. root_replayed a.pools es new_root) cut
-      ∙ (root_parts a.pools (below entry_line x.line (a.roots p)) (on entry_line x.line (a.roots p)) new_root ∙ replayed_acts a.pools (on entry_line x.line (a.roots p)) (root_at a x.line p))
+      ∙ (root_parts a.pools (below entry_line x.line (a.roots p)) (on entry_line x.line (a.roots p)) new_root ∙
+      replayed_acts a.pools (on entry_line x.line (a.roots p)) (root_at a x.line p))
 
   -- if the line's one entry is a refusal, the roots stay
-  pub roots_refused : (p : ℕ) (class : Option ℕ) (asked : ℕ) → OnlyActs a.roots x.line p (Full class asked ∷ []) → root_at a (x.line + 1) ≡ root_at a x.line
+  pub roots_refused : (p : ℕ) (class : Option ℕ) (asked : ℕ) → OnlyActs a.roots x.line p (Full class asked ∷ []) →
+      root_at a (x.line + 1) ≡ root_at a x.line
   roots_refused p class asked only = λ i q. each q i
     where
       each : (q : ℕ) → root_at a (x.line + 1) q ≡ root_at a x.line q
@@ -137,7 +148,8 @@ module _ (a : Parts) (before rest : List Played) (x : Played) (h : IsFiled a) (p
       → over a.partitions (λ p. listed_times y (with_cache st.caches x.thread list j p) 0 170) ≡ in_lists a.partitions st y (suc j)
   lists_beside list j y ne =
       let same : with_cache st.caches x.thread list j ≡ st.caches j = rw (ne_eqb j x.thread ne) refl in
-      over_same a.partitions (λ p. listed_times y (st.caches j p) 0 170) (λ p. listed_times y (with_cache st.caches x.thread list j p) 0 170)
+      over_same a.partitions (λ p. listed_times y (st.caches j p) 0 170)
+      (λ p. listed_times y (with_cache st.caches x.thread list j p) 0 170)
       (λ p. ap (λ (c : Cache). listed_times y (c p) 0 170) same)
 
   pub lists_left : (content : SlotName → ℕ) (j : ℕ) (y : SlotName) → (j ≡ x.thread → ⊥) →
@@ -145,8 +157,10 @@ module _ (a : Parts) (before rest : List Played) (x : Played) (h : IsFiled a) (p
   lists_left content j y ne = lists_beside cache_left j y ne
 
   -- the word that a step leaves, of the word that stands
-  pub stepped_to : (m : Mark) (p : Step) → mark_of x ≡ Some m → m.step ≡ Some p → word_after (before ++ x ∷ []) m.slot ≡ stepped p (st.word m.slot)
-  stepped_to m p is step = word_here before x m is ∙ ap (λ o. stepped_by o (word_after before m.slot)) step ∙ ap (stepped p) (sym (f.words m.slot))
+  pub stepped_to : (m : Mark) (p : Step) → mark_of x ≡ Some m → m.step ≡ Some p →
+      word_after (before ++ x ∷ []) m.slot ≡ stepped p (st.word m.slot)
+  stepped_to m p is step = word_here before x m is ∙ ap (λ o. stepped_by o (word_after before m.slot)) step ∙
+      ap (stepped p) (sym (f.words m.slot))
 
   pub found_word : (m : Mark) → mark_of x ≡ Some m → m.found ≡ st.word m.slot
   found_word m is = found_is a before rest x m h parts is ∙ sym (f.words m.slot)
@@ -155,7 +169,8 @@ module _ (a : Parts) (before rest : List Played) (x : Played) (h : IsFiled a) (p
   can_step m p is step = subst (λ w. CanStep p w) (found_word m is) (step_can a before rest x m p h parts is step)
 
   -- a record that sets one register and steps on one slot
-  pub set_by : (m : Mark) (p : Step) (reg : ℕ) (new : Reg) (content : SlotName → ℕ) → mark_of x ≡ Some m → m.step ≡ Some p → reg < 64 → ((k r : ℕ) → x.op ≡ Swap k r → ⊥) →
+  pub set_by : (m : Mark) (p : Step) (reg : ℕ) (new : Reg) (content : SlotName → ℕ) → mark_of x ≡ Some m → m.step ≡ Some p → reg < 64 →
+      ((k r : ℕ) → x.op ≡ Swap k r → ⊥) →
       Becomes regs_left (with (st.regs x.thread) reg new) → ((y : SlotName) → (y ≡ m.slot → ⊥) → content y ≡ st.content y) →
       IsSet a.partitions st (after_record a before x st regs_left cache_left content) x.thread reg new m.slot (stepped p (st.word m.slot))
   set_by m p reg new content is step few other becomes same = record {
@@ -187,7 +202,8 @@ module _ (a : Parts) (before rest : List Played) (x : Played) (h : IsFiled a) (p
   lists_same content same (suc j) y = elim (cases_eq j x.thread) [
     | inl e ↦
         let there : with_cache st.caches x.thread cache_left j ≡ cache_left = rw (eq-eqb j x.thread e) refl in
-        over_same a.partitions (λ p. listed_times y (st.caches j p) 0 170) (λ p. listed_times y (with_cache st.caches x.thread cache_left j p) 0 170)
+        over_same a.partitions (λ p. listed_times y (st.caches j p) 0 170)
+        (λ p. listed_times y (with_cache st.caches x.thread cache_left j p) 0 170)
         (λ p. ap (λ (c : Cache). listed_times y (c p) 0 170) there
         ∙ (listed_agree y (cache_left p) (st.caches x.thread p) 0 170 (λ c low. same p c)
         ∙ ap (λ i. listed_times y (st.caches i p) 0 170) (sym e)))
@@ -195,21 +211,27 @@ module _ (a : Parts) (before rest : List Played) (x : Played) (h : IsFiled a) (p
   ]
 
   -- a record that steps on no slot leaves the words
-  pub words_same : (mark_of x ≡ None) ⊎ ((m : Mark) × (mark_of x ≡ Some m) × (m.step ≡ None)) → (y : SlotName) → word_after (before ++ x ∷ []) y ≡ st.word y
+  pub words_same : (mark_of x ≡ None) ⊎ ((m : Mark) × (mark_of x ≡ Some m) × (m.step ≡ None)) → (y : SlotName) →
+      word_after (before ++ x ∷ []) y ≡ st.word y
   words_same (inl none) y = word_same before x y none ∙ sym (f.words y)
   words_same (inr (m, is, look)) y = elim (same_slot_cases m.slot y) [
-    | inl e ↦ subst (λ z. word_after (before ++ x ∷ []) z ≡ st.word z) e (word_here before x m is ∙ ap (λ o. stepped_by o (word_after before m.slot)) look ∙ sym (f.words m.slot))
+    | inl e ↦ subst (λ z. word_after (before ++ x ∷ []) z ≡ st.word z) e
+        (word_here before x m is ∙ ap (λ o. stepped_by o (word_after before m.slot)) look ∙ sym (f.words m.slot))
     | inr ne ↦ word_other before x m y is ne ∙ sym (f.words y)
   ]
 
   -- the contents after such a record, and after one that steps on a slot
   pub right_same : ((y : SlotName) → word_after (before ++ x ∷ []) y ≡ st.word y) →
-      (y : SlotName) → held_of (word_after (before ++ x ∷ []) y) ≡ 1 → IsContent a.ps y (number_of (word_after (before ++ x ∷ []) y)) (st.content y)
-  right_same same y held = subst (λ w. IsContent a.ps y (number_of w) (st.content y)) (sym (same y)) (f.contents y (ap held_of (sym (same y)) ∙ held))
+      (y : SlotName) → held_of (word_after (before ++ x ∷ []) y) ≡ 1 →
+      IsContent a.ps y (number_of (word_after (before ++ x ∷ []) y)) (st.content y)
+  right_same same y held =
+      subst (λ w. IsContent a.ps y (number_of w) (st.content y)) (sym (same y)) (f.contents y (ap held_of (sym (same y)) ∙ held))
 
-  pub right_after : (m : Mark) (p : Step) (content : SlotName → ℕ) → mark_of x ≡ Some m → m.step ≡ Some p → ((y : SlotName) → (y ≡ m.slot → ⊥) → content y ≡ st.content y) →
+  pub right_after : (m : Mark) (p : Step) (content : SlotName → ℕ) → mark_of x ≡ Some m → m.step ≡ Some p →
+      ((y : SlotName) → (y ≡ m.slot → ⊥) → content y ≡ st.content y) →
       (held_of (stepped p (st.word m.slot)) ≡ 1 → IsContent a.ps m.slot (number_of (st.word m.slot) + 1) (content m.slot)) →
-      (y : SlotName) → held_of (word_after (before ++ x ∷ []) y) ≡ 1 → IsContent a.ps y (number_of (word_after (before ++ x ∷ []) y)) (content y)
+      (y : SlotName) → held_of (word_after (before ++ x ∷ []) y) ≡ 1 →
+      IsContent a.ps y (number_of (word_after (before ++ x ∷ []) y)) (content y)
   right_after m p content is step same here y held = elim (same_slot_cases m.slot y) [
     | inl e ↦
         let now = stepped_to m p is step in

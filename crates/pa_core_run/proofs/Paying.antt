@@ -1,10 +1,10 @@
 -- What a change of one register, and of a thread's lists, pays for in the ledger.
-use Rattle.std.proofs.Common.{◌≡◌, ℕ, zero, suc, ◌+◌, ◌<◌, ◌≤◌, List, [], ◌∷◌, refl, sym, ◌∙◌, ap, subst, arith, inl, inr}
+use Rattle.std.proofs.Common.{◌≡◌, ℕ, zero, suc, ◌+◌, ◌<◌, ◌≤◌, false, List, [], ◌∷◌, refl, sym, ◌∙◌, ap, subst, arith, inl, inr}
 use Rattle.std.proofs.lemmas.Bool.{cases_eq, eq-eqb, ne_eqb}
 use Rattle.pa_slot.specs.declared.word.SlotName.{SlotName}
 use Rattle.pa_slot.specs.declared.title.Title.{Title}
 use Rattle.pa_slot.specs.declared.title.OwnState.TheVariants.{Clean}
-use Rattle.pa_slot.specs.Holdings.{Piece, OwnPiece, RefPiece, FreeTitle, OwnOf, RefOf, held_in}
+use Rattle.pa_slot.specs.Holdings.{Piece, RefPiece, FreeTitle, OwnOf, RefOf, held_in}
 use Rattle.pa_machine.specs.Events.{of_actor}
 use Rattle.pa_slot.proofs.Runs.{same_slot_yes, same_slot_no}
 use Rattle.pa_slot.proofs.Same.{title_tells}
@@ -18,21 +18,26 @@ use Rattle.pa_slot_effects.specs.Shown.{owns, points}
 use Rattle.pa_core_run.specs.Ledger.{IsPaid}
 use Rattle.pa_core_run.specs.Standing.{Standing, in_registers, in_lists, ledger_of}
 use Rattle.pa_core_run.specs.Moves.{HaveNames}
+use Rattle.pa_core_run.proofs.Showing.{own_piece}
 use Rattle.pa_slot_effects.proofs.Handles.{over_same, over_one}
 
 -- ---- sums
 
 -- ---- pieces by name
 
-pub owns_piece : (Made : Title → Type 0) (t u : Title) → HaveNames Made → Made t → Made u → held_in (OwnPiece t Clean ∷ []) (OwnOf u) ≡ owns (name_of u) (Own (name_of t))
+pub owns_piece : (Made : Title → Type 0) (t u : Title) → HaveNames Made → Made t → Made u →
+    held_in (own_piece t ∷ []) (OwnOf u) ≡ owns (name_of u) (Own (name_of t))
 owns_piece Made t u one m n = elim (title_tells t u) [
-  | inl y ↦ subst (λ (v : Title). held_in (OwnPiece t Clean ∷ []) (OwnOf v) ≡ owns (name_of v) (Own (name_of t))) y.1 (own_self t Clean ∙ sym (rw (same_slot_yes (name_of t) (name_of t) refl) refl))
-  | inr x ↦ (own_none t u Clean x.1).own ∙ sym (rw (same_slot_no (name_of t) (name_of u) (λ e. x.1 (one t u m n e))) refl)
+  | inl y ↦ subst (λ (v : Title). held_in (own_piece t ∷ []) (OwnOf v) ≡ owns (name_of v) (Own (name_of t))) y.1
+      (own_self false t Clean ∙ sym (rw (same_slot_yes (name_of t) (name_of t) refl) refl))
+  | inr x ↦ (own_none false t u Clean x.1).own ∙ sym (rw (same_slot_no (name_of t) (name_of u) (λ e. x.1 (one t u m n e))) refl)
 ]
 
-pub points_piece : (Made : Title → Type 0) (t u : Title) → HaveNames Made → Made t → Made u → held_in (RefPiece t ∷ []) (RefOf u) ≡ points (name_of u) (Ref (name_of t))
+pub points_piece : (Made : Title → Type 0) (t u : Title) → HaveNames Made → Made t → Made u →
+    held_in (RefPiece t ∷ []) (RefOf u) ≡ points (name_of u) (Ref (name_of t))
 points_piece Made t u one m n = elim (title_tells t u) [
-  | inl y ↦ subst (λ (v : Title). held_in (RefPiece t ∷ []) (RefOf v) ≡ points (name_of v) (Ref (name_of t))) y.1 (ref_self t ∙ sym (rw (same_slot_yes (name_of t) (name_of t) refl) refl))
+  | inl y ↦ subst (λ (v : Title). held_in (RefPiece t ∷ []) (RefOf v) ≡ points (name_of v) (Ref (name_of t))) y.1
+      (ref_self t ∙ sym (rw (same_slot_yes (name_of t) (name_of t) refl) refl))
   | inr x ↦ (ref_none t u x.1).ref ∙ sym (rw (same_slot_no (name_of t) (name_of u) (λ e. x.1 (one t u m n e))) refl)
 ]
 
@@ -56,23 +61,31 @@ pub set_apart : (regs : Regs) (reg : ℕ) (new : Reg) (r : ℕ) → (r ≡ reg �
 set_apart regs reg new r ne = rw (ne_eqb r reg ne) refl
 
 -- what the registers have then
-registers_set : (partitions : ℕ) (st next : Standing) (k reg : ℕ) (new : Reg) (x : SlotName) (word : ℕ) (f : Reg → ℕ) → IsSet partitions st next k reg new x word →
+registers_set : (partitions : ℕ) (st next : Standing) (k reg : ℕ) (new : Reg) (x : SlotName) (word : ℕ) (f : Reg → ℕ) →
+    IsSet partitions st next k reg new x word →
     in_registers f next (suc k) + f (st.regs k reg) ≡ in_registers f st (suc k) + f new
 registers_set partitions st next k reg new x word f s =
-    let one = over_one 64 reg (λ r. f (st.regs k r)) (λ r. f (next.regs k r)) s.few (λ r ne. ap f (s.here r ∙ set_apart (st.regs k) reg new r ne)) in
+    let one = over_one 64 reg (λ r. f (st.regs k r)) (λ r. f (next.regs k r)) s.few
+    (λ r ne. ap f (s.here r ∙ set_apart (st.regs k) reg new r ne)) in
     let e = ap f (s.here reg ∙ set_at (st.regs k) reg new) in
     omega arith
 
-registers_apart : (partitions : ℕ) (st next : Standing) (k reg : ℕ) (new : Reg) (x : SlotName) (word : ℕ) (f : Reg → ℕ) → IsSet partitions st next k reg new x word →
+registers_apart : (partitions : ℕ) (st next : Standing) (k reg : ℕ) (new : Reg) (x : SlotName) (word : ℕ) (f : Reg → ℕ) →
+    IsSet partitions st next k reg new x word →
     (j : ℕ) → (j ≡ suc k → ⊥) → in_registers f next j ≡ in_registers f st j
-registers_apart partitions st next k reg new x word f s zero ne = over_same 64 (λ c. f (reg_of (st.held c))) (λ c. f (reg_of (next.held c))) (λ c. ap (λ h. f (reg_of h)) (s.held c))
-registers_apart partitions st next k reg new x word f s (suc j) ne = over_same 64 (λ r. f (st.regs j r)) (λ r. f (next.regs j r)) (λ r. ap f (s.other j (λ e. ne (ap suc e)) r))
+registers_apart partitions st next k reg new x word f s zero ne =
+    over_same 64 (λ c. f (reg_of (st.held c))) (λ c. f (reg_of (next.held c))) (λ c. ap (λ h. f (reg_of h)) (s.held c))
+registers_apart partitions st next k reg new x word f s (suc j) ne =
+    over_same 64 (λ r. f (st.regs j r)) (λ r. f (next.regs j r)) (λ r. ap f (s.other j (λ e. ne (ap suc e)) r))
 
-pub set_paid : (Made : Title → Type 0) (partitions : ℕ) (st next : Standing) (k reg : ℕ) (new : Reg) (t : Title) (word : ℕ) (lost gained : List Piece) →
+pub set_paid : (Made : Title → Type 0) (partitions : ℕ) (st next : Standing) (k reg : ℕ) (new : Reg) (t : Title) (word : ℕ)
+    (lost gained : List Piece) →
     IsSet partitions st next k reg new (name_of t) word →
     ((u : Title) → Made u → owns (name_of u) new + held_in lost (OwnOf u) ≤ owns (name_of u) (st.regs k reg) + held_in gained (OwnOf u)) →
-    ((u : Title) → Made u → points (name_of u) new + held_in lost (RefOf u) ≤ points (name_of u) (st.regs k reg) + held_in gained (RefOf u)) →
-    ((u : Title) → Made u → in_lists partitions next (name_of u) (suc k) + held_in lost (FreeTitle u) ≤ in_lists partitions st (name_of u) (suc k) + held_in gained (FreeTitle u)) →
+    ((u : Title) → Made u → points (name_of u) new + held_in lost (RefOf u) ≤ points (name_of u) (st.regs k reg) + held_in gained
+    (RefOf u)) →
+    ((u : Title) → Made u → in_lists partitions next (name_of u) (suc k) + held_in lost (FreeTitle u) ≤ in_lists partitions st (name_of u)
+    (suc k) + held_in gained (FreeTitle u)) →
     IsPaid Made (ledger_of partitions st) (ledger_of partitions next) (of_actor (suc k) lost) (of_actor (suc k) gained) t word
 set_paid Made partitions st next k reg new t word lost gained s own point free = record {
   own = λ j u m. elim (cases_eq j (suc k)) [

@@ -38,12 +38,15 @@ use Rattle.pa_slot_effects.proofs.Handles.{over_same}
 
 module _ (a : Parts) (before rest : List Played) (x : Played) (h : IsFiled a) (some : 1 ≤ a.partitions)
     (parts : a.ps ≡ before ++ x ∷ rest) (st : Standing) (f : IsFrontOf a x.line before (x ∷ rest) st) (s : State)
-    (shown : IsShown (titles_in a (root_at a x.line)) (a.threads + 1) (2097152 * a.supers) (ledger_of a.partitions st) s) (slots : ℕ) (answer : x.answer ≡ answers.Purged slots) where
+    (shown : IsShown (titles_in a (root_at a x.line)) (a.threads + 1) (2097152 * a.supers) (ledger_of a.partitions st) s) (slots : ℕ)
+    (answer : x.answer ≡ answers.Purged slots) where
   -- the op purges, since its line has an entry that does
   purges : x.op ≡ ops.Purge
   purges =
       let row = purged_row a before rest x h parts st f s shown slots answer in
-      let (e, member, line, is) = act_entry a.roots x.line 0 Purge (subst (λ acts. Contains acts Purge) (sym (row.0 0 some)) (purge_in (st.caches x.thread 0) 0 170)) in
+      let (e, member, line, is) =
+      act_entry a.roots x.line 0 Purge
+      (subst (λ acts. Contains acts Purge) (sym (row.0 0 some)) (purge_in (st.caches x.thread 0) 0 170)) in
       let (y, of, make) = entry_made a 0 e h member in
       let same : y ≡ x = same_played a y x h of.0 (among a before rest x h parts st f) (of.1 ∙ line) in
       let P : RootAct → Type 0 = λ act. MakesEntry a.pools 0 act x in
@@ -53,7 +56,8 @@ module _ (a : Parts) (before rest : List Played) (x : Played) (h : IsFiled a) (s
   unmarked = ap (λ z. mark_of_answer x.line x.op z) answer
 
   stays : Becomes (regs_left a before rest x h parts st f) (st.regs x.thread)
-  stays = (subst (λ o. Row (facts_of a) o (st.regs x.thread) x.answer (regs_left a before rest x h parts st f)) purges (row_here a before rest x h parts st f)).2
+  stays = (subst (λ o. Row (facts_of a) o (st.regs x.thread) x.answer (regs_left a before rest x h parts st f)) purges
+      (row_here a before rest x h parts st f)).2
 
   abbrev next : Standing
   next = next_st a before rest x h parts st f s shown st.content
@@ -62,7 +66,9 @@ module _ (a : Parts) (before rest : List Played) (x : Played) (h : IsFiled a) (s
   words = words_same a before rest x h parts st f (inl unmarked)
 
   registers : (g : Reg → ℕ) (k : ℕ) → in_registers g next k ≡ in_registers g st k
-  registers g zero = over_same 64 _ _ (λ c. ap (λ v. g (reg_of v)) (cells_left a before rest x h parts st f (λ k r swap. (let both : ops.Purge ≡ ops.Swap k r = sym purges ∙ swap in absurd cc)) c))
+  registers g zero = over_same 64 _ _
+      (λ c. ap (λ v. g (reg_of v))
+      (cells_left a before rest x h parts st f (λ k r swap. (let both : ops.Purge ≡ ops.Swap k r = sym purges ∙ swap in absurd cc)) c))
   registers g (suc j) = over_same 64 _ _ (λ r. ap g (regs_same a before rest x h parts st f stays j r))
 
   others : (j : ℕ) (y : SlotName) → (j ≡ suc x.thread → ⊥) → in_lists a.partitions next y j ≤ in_lists a.partitions st y j
@@ -74,7 +80,8 @@ module _ (a : Parts) (before rest : List Played) (x : Played) (h : IsFiled a) (s
       let Kept = KeptIn (root_at a x.line) in
       let ts = purged_titles a before rest x h parts st f s shown slots answer in
       let are = (purged_titled a before rest x h parts st f s shown slots answer).1 in
-      let (after, r) = titles_go a before rest x h parts st f s shown st next ts s shown registers words (λ y. refl) are.made (lists_fall a before rest x h parts st f s shown slots answer) others in
+      let (after, r) = titles_go a before rest x h parts st f s shown st next ts s shown registers words (λ y. refl) are.made
+      (lists_fall a before rest x h parts st f s shown slots answer) others in
       let e : suc x.thread ≡ x.thread + 1 = omega arith in (
         after,
         play_none (MadeIn a) x s after r.events unmarked shown.good r.run (subst (λ i. AreBeside i r.events) e r.beside),
@@ -83,13 +90,15 @@ module _ (a : Parts) (before rest : List Played) (x : Played) (h : IsFiled a) (s
           front = front_next a before rest x h parts st f st.content (right_same a before rest x h parts st f words);
           shown = renamed (keeping (titles_in a (root_at a x.line)) (kept_with Kept ts)) (names_next a before rest x h parts st f s shown)
               (a.threads + 1) (2097152 * a.supers) (ledger_of a.partitions next) after (λ u made. made)
-              (there_given a before rest x h parts st f (giving a before rest x h parts st f s shown slots answer)) (kept_next a before rest x h parts st f s shown slots answer) r.shown;
+              (there_given a before rest x h parts st f (giving a before rest x h parts st f s shown slots answer))
+              (kept_next a before rest x h parts st f s shown slots answer) r.shown;
         },
       )
 
 pub purged_record_plays : (a : Parts) (before rest : List Played) (x : Played) (slots : ℕ) → IsFiled a → 1 ≤ a.partitions
     → a.ps ≡ before ++ x ∷ rest → x.answer ≡ answers.Purged slots → CanBePlayed a before x rest
-purged_record_plays a before rest x slots h some parts answer s shows = purge_plays a before rest x h some parts shows.st shows.front s shows.shown slots answer
+purged_record_plays a before rest x slots h some parts answer s shows =
+    purge_plays a before rest x h some parts shows.st shows.front s shows.shown slots answer
 
 pub purged_records_play : PurgedRecordsArePlayed
 purged_records_play t r limits filed_run before x rest slots parts answer =

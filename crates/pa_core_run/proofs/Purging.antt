@@ -49,9 +49,11 @@ all_slots cache (suc p) = all_slots cache p ++ slots_from (cache p) 0 170
 slots_stand : (y : SlotName) (lists : ℕ → List Numbered) (class n : ℕ) → stands y (slots_from lists class n) ≡ listed_times y lists class n
 unfolding listed_times
 slots_stand y lists class zero = refl
-slots_stand y lists class (suc n) = let a = stands_append y (lists class) (slots_from lists (class + 1) n) in let ih = slots_stand y lists (class + 1) n in omega arith
+slots_stand y lists class (suc n) = let a = stands_append y (lists class) (slots_from lists (class + 1) n) in
+    let ih = slots_stand y lists (class + 1) n in omega arith
 
-all_stand : (y : SlotName) (cache : Cache) (partitions : ℕ) → stands y (all_slots cache partitions) ≡ over partitions (λ p. listed_times y (cache p) 0 170)
+all_stand : (y : SlotName) (cache : Cache) (partitions : ℕ) →
+    stands y (all_slots cache partitions) ≡ over partitions (λ p. listed_times y (cache p) 0 170)
 all_stand y cache zero = refl
 all_stand y cache (suc p) =
     let a = stands_append y (all_slots cache p) (slots_from (cache p) 0 170) in
@@ -60,7 +62,8 @@ all_stand y cache (suc p) =
     omega arith
 
 -- each is in a list
-slot_among : (lists : ℕ → List Numbered) (class n : ℕ) (m : Numbered) → Contains (slots_from lists class n) m → (c : ℕ) × Contains (lists c) m
+slot_among : (lists : ℕ → List Numbered) (class n : ℕ) (m : Numbered) → Contains (slots_from lists class n) m → (c : ℕ) ×
+    Contains (lists c) m
 slot_among lists class zero m among = absurd (not_in_none m among)
 slot_among lists class (suc n) m among = elim (Contains-append_cases (lists class) (slots_from lists (class + 1) n) m among) [
   | inl here ↦ (class, here)
@@ -75,27 +78,33 @@ all_among cache (suc p) m among = elim (Contains-append_cases (all_slots cache p
 ]
 
 -- empty lists have none
-none_over : (y : SlotName) (cache : Cache) (partitions : ℕ) → ((p c : ℕ) → cache p c ≡ []) → over partitions (λ p. listed_times y (cache p) 0 170) ≡ 0
+none_over : (y : SlotName) (cache : Cache) (partitions : ℕ) → ((p c : ℕ) → cache p c ≡ []) →
+    over partitions (λ p. listed_times y (cache p) 0 170) ≡ 0
 none_over y cache zero none = refl
 none_over y cache (suc p) none = let ih = none_over y cache p none in let here = listed_none y (cache p) 0 170 (none p) in omega arith
 
 -- a purge of a partition ends with its Purge
 pub purge_in : (lists : ℕ → List Numbered) (class n : ℕ) → Contains (purge_acts lists class n) Purge
 purge_in lists class zero = first_in Purge []
-purge_in lists class (suc n) = Contains-append_right (gives (lists class)) (purge_acts lists (class + 1) n) Purge (purge_in lists (class + 1) n)
+purge_in lists class (suc n) =
+    Contains-append_right (gives (lists class)) (purge_acts lists (class + 1) n) Purge (purge_in lists (class + 1) n)
 
 -- ---- the line of a purge
 
-module _ (a : Parts) (before rest : List Played) (x : Played) (h : IsFiled a) (parts : a.ps ≡ before ++ x ∷ rest) (st : Standing) (f : IsFrontOf a x.line before (x ∷ rest) st) (s : State)
-    (shown : IsShown (titles_in a (root_at a x.line)) (a.threads + 1) (2097152 * a.supers) (ledger_of a.partitions st) s) (slots : ℕ) (answer : x.answer ≡ answers.Purged slots) where
+module _ (a : Parts) (before rest : List Played) (x : Played) (h : IsFiled a) (parts : a.ps ≡ before ++ x ∷ rest) (st : Standing)
+    (f : IsFrontOf a x.line before (x ∷ rest) st) (s : State)
+    (shown : IsShown (titles_in a (root_at a x.line)) (a.threads + 1) (2097152 * a.supers) (ledger_of a.partitions st) s) (slots : ℕ)
+    (answer : x.answer ≡ answers.Purged slots) where
   abbrev cache : Cache
   cache = st.caches x.thread
 
   pub purged_row : PurgedRow a.partitions a.roots x slots (st.caches x.thread) (cache_left a before rest x h parts st f)
-  purged_row = subst (λ z. CacheRow a.partitions a.roots x z (st.caches x.thread) (cache_left a before rest x h parts st f)) answer (cache_row a before rest x h parts st f)
+  purged_row = subst (λ z. CacheRow a.partitions a.roots x z (st.caches x.thread) (cache_left a before rest x h parts st f)) answer
+      (cache_row a before rest x h parts st f)
 
   acts_past : (p : ℕ) → a.partitions ≤ p → acts_of a.roots x.line p ≡ []
-  acts_past p past = ap (λ es. map (λ (e : RootEntry). e.act) (filter (λ (e : RootEntry). e.line == x.line) es)) (h.journals.none_past p past)
+  acts_past p past = ap (λ es. map (λ (e : RootEntry). e.act) (filter (λ (e : RootEntry). e.line == x.line) es))
+      (h.journals.none_past p past)
 
   pub giving : (p : ℕ) → AreGiving (acts_of a.roots x.line p)
   giving p = elim (cases_lt p a.partitions) [
@@ -107,7 +116,8 @@ module _ (a : Parts) (before rest : List Played) (x : Played) (h : IsFiled a) (p
   pub purged_titled : (ts : List Title) × AreTitlesOf a (all_slots cache a.partitions) ts
   purged_titled =
       let known = lists_known a x.line before (x ∷ rest) st f x.thread in
-      titles_for a (all_slots cache a.partitions) (λ m among. let (p, c, there) = all_among cache a.partitions m among in class_title a m.slot p c h (known p c m there))
+      titles_for a (all_slots cache a.partitions) (λ m among. let (p, c, there) = all_among cache a.partitions m among in
+      class_title a m.slot p c h (known p c m there))
 
   abbrev pub purged_titles : List Title
   purged_titles = purged_titled.0
@@ -122,8 +132,10 @@ module _ (a : Parts) (before rest : List Played) (x : Played) (h : IsFiled a) (p
           ap (back_in (name_of u)) (purged_row.0 p low) ∙ back_purge (name_of u) (cache p) 0 170 in
           let part = over_part a.partitions p (λ q. listed_times (name_of u) (cache q) 0 170) low in
           let all = all_stand (name_of u) cache a.partitions in
-          inr (title_among a (all_slots cache a.partitions) purged_titles purged_titled.1 u h (p, inl (made_at_end a h p (x.line + 1) u made)) (omega arith))
-      | inr past ↦ let none : back_in (name_of u) (acts_of a.roots x.line p) ≡ 0 = ap (back_in (name_of u)) (acts_past p past) in absurd (omega arith)
+          inr (title_among a (all_slots cache a.partitions) purged_titles purged_titled.1 u h
+          (p, inl (made_at_end a h p (x.line + 1) u made)) (omega arith))
+      | inr past ↦ let none : back_in (name_of u) (acts_of a.roots x.line p) ≡ 0 = ap (back_in (name_of u)) (acts_past p past) in
+          absurd (omega arith)
     ]
   ]
 

@@ -35,7 +35,8 @@ use Rattle.pa_slot_effects.proofs.Handles.{over_same}
 -- a ledger with the same numbers, words and contents is shown too
 shown_alike : (names : Titles) (actors bytes : ℕ) (b next : Ledger) (s : State) → IsShown names actors bytes b s
     → ((k : ℕ) (x : SlotName) → next.own k x ≡ b.own k x) → ((k : ℕ) (x : SlotName) → next.ref k x ≡ b.ref k x) →
-    ((k : ℕ) (x : SlotName) → next.free k x ≡ b.free k x) → ((x : SlotName) → next.word x ≡ b.word x) → ((x : SlotName) → next.content x ≡ b.content x) → IsShown names actors bytes next s
+    ((k : ℕ) (x : SlotName) → next.free k x ≡ b.free k x) → ((x : SlotName) → next.word x ≡ b.word x) →
+    ((x : SlotName) → next.content x ≡ b.content x) → IsShown names actors bytes next s
 shown_alike names actors bytes b next s h own ref free word content = record {
   good = h.good;
   many = h.many;
@@ -47,11 +48,13 @@ shown_alike names actors bytes b next s h own ref free word content = record {
   words = λ t held. h.words t held ∙ sym (word (name_of t));
   contents = λ t some. let had = h.contents t some in λ i low inside. had i low inside ∙ sym (content (name_of t));
   clean = h.clean;
+  sealed = h.sealed;
   raw = h.raw;
   there = h.there;
 }
 
-module _ (a : Parts) (before rest : List Played) (x : Played) (h : IsFiled a) (parts : a.ps ≡ before ++ x ∷ rest) (st : Standing) (f : IsFrontOf a x.line before (x ∷ rest) st) (s : State)
+module _ (a : Parts) (before rest : List Played) (x : Played) (h : IsFiled a) (parts : a.ps ≡ before ++ x ∷ rest) (st : Standing)
+    (f : IsFrontOf a x.line before (x ∷ rest) st) (s : State)
     (shown : IsShown (titles_in a (root_at a x.line)) (a.threads + 1) (2097152 * a.supers) (ledger_of a.partitions st) s) where
   -- the record is played, and the core shows the state after it
   abbrev pub Outcome : Type 0
@@ -62,7 +65,8 @@ module _ (a : Parts) (before rest : List Played) (x : Played) (h : IsFiled a) (p
 
   -- if the roots stay
   pub shows_next : (content : SlotName → ℕ) (next : State) → root_at a (x.line + 1) ≡ root_at a x.line →
-      ((y : SlotName) → held_of (word_after (before ++ x ∷ []) y) ≡ 1 → IsContent a.ps y (number_of (word_after (before ++ x ∷ []) y)) (content y)) →
+      ((y : SlotName) → held_of (word_after (before ++ x ∷ []) y) ≡ 1 →
+      IsContent a.ps y (number_of (word_after (before ++ x ∷ []) y)) (content y)) →
       IsShown (titles_in a (root_at a x.line)) (a.threads + 1) (2097152 * a.supers)
       (ledger_of a.partitions (after_record a before x st (regs_left a before rest x h parts st f)
       (cache_left a before rest x h parts st f) content)) next →
@@ -72,11 +76,13 @@ module _ (a : Parts) (before rest : List Played) (x : Played) (h : IsFiled a) (p
       record {
         st = st2;
         front = front_next a before rest x h parts st f content right;
-        shown = subst (λ (root : ℕ → Root). IsShown (titles_in a root) (a.threads + 1) (2097152 * a.supers) (ledger_of a.partitions st2) next) (sym same) now;
+        shown = subst (λ (root : ℕ → Root). IsShown (titles_in a root) (a.threads + 1) (2097152 * a.supers)
+            (ledger_of a.partitions st2) next) (sym same) now;
       }
 
   -- what a record without a step leaves shown
-  still_shown : (mark_of x ≡ None) ⊎ ((m : Mark) × (mark_of x ≡ Some m) × (m.step ≡ None)) → Becomes (regs_left a before rest x h parts st f) (st.regs x.thread) →
+  still_shown : (mark_of x ≡ None) ⊎ ((m : Mark) × (mark_of x ≡ Some m) × (m.step ≡ None)) →
+      Becomes (regs_left a before rest x h parts st f) (st.regs x.thread) →
       SameLists (cache_left a before rest x h parts st f) (st.caches x.thread) → ((k r : ℕ) → x.op ≡ ops.Swap k r → ⊥)
       → root_at a (x.line + 1) ≡ root_at a x.line → ShowsFront a (x.line + 1) (before ++ x ∷ []) rest s
   still_shown unmarked regs lists other none =
@@ -85,7 +91,8 @@ module _ (a : Parts) (before rest : List Played) (x : Played) (h : IsFiled a) (p
       (shown_alike (titles_in a (root_at a x.line)) (a.threads + 1) (2097152 * a.supers) (ledger_of a.partitions st)
       (ledger_of a.partitions (after_record a before x st (regs_left a before rest x h parts st f)
       (cache_left a before rest x h parts st f) st.content)) s shown
-      (λ k y. registers (owns y) k) (λ k y. registers (points y) k) (λ k y. lists_same a before rest x h parts st f st.content lists k y) words (λ y. refl))
+      (λ k y. registers (owns y) k) (λ k y. registers (points y) k)
+      (λ k y. lists_same a before rest x h parts st f st.content lists k y) words (λ y. refl))
     where
       registers : (g : Reg → ℕ) (k : ℕ) → in_registers g (after_record a before x st (regs_left a before rest x h parts st f)
           (cache_left a before rest x h parts st f) st.content) k ≡ in_registers g st k
@@ -93,19 +100,23 @@ module _ (a : Parts) (before rest : List Played) (x : Played) (h : IsFiled a) (p
       registers g (suc j) = over_same 64 _ _ (λ r. ap g (regs_same a before rest x h parts st f regs j r))
 
   -- a record that reports no slot
-  pub none_plays : mark_of x ≡ None → Becomes (regs_left a before rest x h parts st f) (st.regs x.thread) → SameLists (cache_left a before rest x h parts st f) (st.caches x.thread) →
+  pub none_plays : mark_of x ≡ None → Becomes (regs_left a before rest x h parts st f) (st.regs x.thread) →
+      SameLists (cache_left a before rest x h parts st f) (st.caches x.thread) →
       ((k r : ℕ) → x.op ≡ ops.Swap k r → ⊥) → root_at a (x.line + 1) ≡ root_at a x.line → Outcome
   none_plays unmarked regs lists other none =
       (s, play_none (MadeIn a) x s s [] unmarked shown.good (run_start s shown.good) tt, still_shown (inl unmarked) regs lists other none)
 
   -- the title of the slot that a register names
   pub named_title : (reg : ℕ) (y : SlotName) → slot_in (st.regs x.thread reg) ≡ Some y → HasTitle a y
-  named_title reg y names = made_title a before (x ∷ rest) y h parts ((holds_made a before (x ∷ rest) st.regs h parts f.registers).registers x.thread reg y names)
+  named_title reg y names =
+      made_title a before (x ∷ rest) y h parts ((holds_made a before (x ∷ rest) st.regs h parts f.registers).registers x.thread reg y names)
 
   -- a look at the slot that a register names
-  pub look_plays : (m : Mark) (reg : ℕ) → mark_of x ≡ Some m → m.step ≡ None → reg < 64 → (st.regs x.thread reg ≡ Own m.slot) ⊎ (st.regs x.thread reg ≡ Ref m.slot) →
+  pub look_plays : (m : Mark) (reg : ℕ) → mark_of x ≡ Some m → m.step ≡ None → reg < 64 → (st.regs x.thread reg ≡ Own m.slot) ⊎
+      (st.regs x.thread reg ≡ Ref m.slot) →
       ((t : Title) → MadeIn a t → name_of t ≡ m.slot → HasHandle s (x.thread + 1) t → HasRead s.words t (read_by x.op x.answer)) →
-      Becomes (regs_left a before rest x h parts st f) (st.regs x.thread) → SameLists (cache_left a before rest x h parts st f) (st.caches x.thread) →
+      Becomes (regs_left a before rest x h parts st f) (st.regs x.thread) →
+      SameLists (cache_left a before rest x h parts st f) (st.caches x.thread) →
       ((k r : ℕ) → x.op ≡ ops.Swap k r → ⊥) → root_at a (x.line + 1) ≡ root_at a x.line → Outcome
   look_plays m reg is look below names reads regs lists other none =
       let (t, made, name) = named_title reg m.slot (elim names [ inl own ↦ ap slot_in own | inr ref ↦ ap slot_in ref ]) in
@@ -118,6 +129,7 @@ module _ (a : Parts) (before rest : List Played) (x : Played) (h : IsFiled a) (p
       let many = shown.many in (
         s,
         play_look (MadeIn a) x s m t is look shown.good (omega arith) here made name
-            (shown.words t (handle_held s (x.thread + 1) t here) ∙ (ap st.word name ∙ sym (found_word a before rest x h parts st f m is))) (reads t made name here),
+            (shown.words t (handle_held s (x.thread + 1) t here) ∙ (ap st.word name ∙ sym (found_word a before rest x h parts st f m is)))
+            (reads t made name here),
         still_shown (inr (m, is, look)) regs lists other none,
       )

@@ -40,7 +40,8 @@ use Rattle.pa_core_run.proofs.FilledRoots.{IsFilledTo, slot_not_map, differ_once
 use Rattle.pa_core_run.proofs.Bringing.{named_times, titles_come}
 use Rattle.pa_record.proofs.Leaving.{slot_out}
 
-module _ (a : Parts) (before rest : List Played) (x : Played) (h : IsFiled a) (parts : a.ps ≡ before ++ x ∷ rest) (st : Standing) (f : IsFrontOf a x.line before (x ∷ rest) st) (s : State)
+module _ (a : Parts) (before rest : List Played) (x : Played) (h : IsFiled a) (parts : a.ps ≡ before ++ x ∷ rest) (st : Standing)
+    (f : IsFrontOf a x.line before (x ∷ rest) st) (s : State)
     (shown : IsShown (titles_in a (root_at a x.line)) (a.threads + 1) (2097152 * a.supers) (ledger_of a.partitions st) s)
     (p class : ℕ) (asked : Option ℕ) (xs : List Numbered) (only : OnlyActs a.roots x.line p (Fill class asked xs ∷ [])) where
   abbrev old_root : Root
@@ -84,7 +85,8 @@ module _ (a : Parts) (before rest : List Played) (x : Played) (h : IsFiled a) (p
 
   there_at : (q : ℕ) (u : Title) → IsThere (root_at a x.line q) u → IsThere (root_at a (x.line + 1) q) u
   there_at q u there = elim (cases_eq q p) [
-    | inl e ↦ subst (λ z. IsThere (root_at a (x.line + 1) z) u) (sym e) (stays_there u (subst (λ z. IsThere (root_at a x.line z) u) e there))
+    | inl e ↦ subst (λ z. IsThere (root_at a (x.line + 1) z) u) (sym e)
+        (stays_there u (subst (λ z. IsThere (root_at a x.line z) u) e there))
     | inr ne ↦ subst (λ (r : Root). IsThere r u) (sym (root_other a before rest x h parts st f p (Fill class asked xs) only q ne)) there
   ]
 
@@ -92,7 +94,8 @@ module _ (a : Parts) (before rest : List Played) (x : Played) (h : IsFiled a) (p
   new_apart t u q among there =
       let (made, away) = new_made t among in
       elim (apart_here a (x.line + 1) h p q t u (inl made) (there_at q u there)) [
-        | inl (place, same) ↦ absurd (away (subst (λ z. IsThere (root_at a x.line z) t) (sym place) (subst (λ v. IsThere (root_at a x.line q) v) (sym same) there)))
+        | inl (place, same) ↦ absurd
+            (away (subst (λ z. IsThere (root_at a x.line z) t) (sym place) (subst (λ v. IsThere (root_at a x.line q) v) (sym same) there)))
         | inr apart ↦ apart
       ]
 
@@ -159,12 +162,14 @@ module _ (a : Parts) (before rest : List Played) (x : Played) (h : IsFiled a) (p
 
   kept_next : (u : Title) → KeptIn (root_at a (x.line + 1)) u → kept_without Cut taken u
   kept_next u (q, made, away) = elim (cases_eq q p) [
-    | inl e ↦ kept_here u (subst (λ z. IsMade (root_at a (x.line + 1) z) u) e made) (subst (λ z. IsNameOut (root_at a (x.line + 1) z) (name_of u) → ⊥) e away)
+    | inl e ↦ kept_here u (subst (λ z. IsMade (root_at a (x.line + 1) z) u) e made)
+        (subst (λ z. IsNameOut (root_at a (x.line + 1) z) (name_of u) → ⊥) e away)
     | inr ne ↦
         let same = root_other a before rest x h parts st f p (Fill class asked xs) only q ne in
         let all = titles_follow.titles a.supers a.partitions a.ps a.pools a.roots h.journals h.pool in (
           inl (q, subst (λ (r : Root). IsMade r u) same made, subst (λ (r : Root). IsNameOut r (name_of u) → ⊥) same away),
-          λ among. ne (all.owned q p u u (inl (made_at_end a h q (x.line + 1) u made)) (inl (made_at_end a h p (x.line + 1) u (fill.made u among))) refl),
+          λ among. ne (all.owned q p u u (inl (made_at_end a h q (x.line + 1) u made))
+              (inl (made_at_end a h p (x.line + 1) u (fill.made u among))) refl),
         )
   ]
 
@@ -174,17 +179,20 @@ module _ (a : Parts) (before rest : List Played) (x : Played) (h : IsFiled a) (p
   list_now = with_list (st.caches x.thread) p class xs
 
   lists_filled : class < 170 → st.caches x.thread p class ≡ [] → (y : SlotName) →
-      in_lists a.partitions (listing a before rest x h parts st f s shown list_now) y (suc x.thread) ≤ in_lists a.partitions st y (suc x.thread) + named_in y taken
+      in_lists a.partitions (listing a before rest x h parts st f s shown list_now) y (suc x.thread) ≤ in_lists a.partitions st y
+      (suc x.thread) + named_in y taken
   lists_filled real empty y =
       let mine = lists_mine a before rest x h parts st f s shown list_now y in
       let none = ap (stands y) empty in
       let grown = over_lists a.partitions p class y (st.caches x.thread) list_now xs (stands y xs) real (λ q c. refl) (omega arith) in
-      let named : named_in y taken ≡ stands y xs = named_times y taken ∙ ap (times y) (filled_names a before rest x h parts st f p class asked xs only) in
+      let named : named_in y taken ≡ stands y xs = named_times y taken ∙
+      ap (times y) (filled_names a before rest x h parts st f p class asked xs only) in
       omega arith
 
   -- ---- the line
 
-  pub fill_brings : class < 170 → st.caches x.thread p class ≡ [] → (mid : State) × IsBrought a before rest x h parts st f s shown list_now mid
+  pub fill_brings : class < 170 → st.caches x.thread p class ≡ [] → (mid : State) ×
+      IsBrought a before rest x h parts st f s shown list_now mid
   fill_brings real empty = titles_come a before rest x h parts st f s shown new taken list_now (record {
     can = can_cut;
     apart = all_apart new (λ t among. (new_made t among).0) fresh.1.once;

@@ -18,12 +18,14 @@ use Rattle.pa_core_run.proofs.NextFronts.{regs_left, row_here, cache_left, cache
 use Rattle.pa_core_run.proofs.Records.{none_plays}
 
 -- a refused request leaves the registers
-request_left : (facts : Facts) (regs after : Regs) (reg size entry : ℕ) → RequestRow facts regs reg size (answers.Full entry) after → Becomes after regs
+request_left : (facts : Facts) (regs after : Regs) (reg size entry : ℕ) → RequestRow facts regs reg size (answers.Full entry) after →
+    Becomes after regs
 request_left facts regs after reg size entry (inl (large, is, becomes)) = absurd cc
 request_left facts regs after reg size entry (inr (inl (fits, seen, is, becomes))) = absurd cc
 request_left facts regs after reg size entry (inr (inr (fits, other, is, becomes))) = becomes
 
-refused_left : (r : Reg) (facts : Facts) (regs after : Regs) (reg size entry : ℕ) → AllocRow r facts regs reg size (answers.Full entry) after → Becomes after regs
+refused_left : (r : Reg) (facts : Facts) (regs after : Regs) (reg size entry : ℕ) →
+    AllocRow r facts regs reg size (answers.Full entry) after → Becomes after regs
 refused_left Empty facts regs after reg size entry row = request_left facts regs after reg size entry row
 refused_left Freed facts regs after reg size entry row = request_left facts regs after reg size entry row
 refused_left Cleared facts regs after reg size entry row = request_left facts regs after reg size entry row
@@ -39,7 +41,8 @@ record IsRefused (a : Parts) (x : Played) (cache after : Cache) : Type 0 where
   lists : SameLists after cache
   roots : root_at a (x.line + 1) ≡ root_at a x.line
 
-pub refused_plays : (a : Parts) (before rest : List Played) (x : Played) (entry : ℕ) → IsFiled a → a.ps ≡ before ++ x ∷ rest → x.answer ≡ answers.Full entry → CanBePlayed a before x rest
+pub refused_plays : (a : Parts) (before rest : List Played) (x : Played) (entry : ℕ) → IsFiled a → a.ps ≡ before ++ x ∷ rest →
+    x.answer ≡ answers.Full entry → CanBePlayed a before x rest
 refused_plays a before rest x entry h parts answer s shows =
     let st = shows.st in
     let f = shows.front in
@@ -55,14 +58,25 @@ refused_plays a before rest x entry h parts answer s shows =
         lists = same;
         roots = roots_refused a before rest x h parts st f p (Some class) asked only;
       }
-      | inr (p, size, asked, (reg, op, direct), only, same) ↦ record { reg = reg; part = p; size = size; op = op; lists = same; roots = roots_refused a before rest x h parts st f p None asked only }
+      | inr (p, size, asked, (reg, op, direct), only, same) ↦
+          record {
+            reg = reg;
+            part = p;
+            size = size;
+            op = op;
+            lists = same;
+            roots = roots_refused a before rest x h parts st f p None asked only;
+          }
     ] in
-    let row = subst (λ o. Row (facts_of a) o (st.regs x.thread) x.answer (regs_left a before rest x h parts st f)) told.op (row_here a before rest x h parts st f) in
-    let row2 = subst (λ z. AllocRow (st.regs x.thread told.reg) (facts_of a) (st.regs x.thread) told.reg told.size z (regs_left a before rest x h parts st f)) answer row in
+    let row = subst (λ o. Row (facts_of a) o (st.regs x.thread) x.answer (regs_left a before rest x h parts st f)) told.op
+    (row_here a before rest x h parts st f) in
+    let row2 = subst (λ z. AllocRow (st.regs x.thread told.reg) (facts_of a) (st.regs x.thread) told.reg told.size z
+    (regs_left a before rest x h parts st f)) answer row in
     none_plays a before rest x h parts st f s shows.shown (ap (λ z. mark_of_answer x.line x.op z) answer)
     (refused_left (st.regs x.thread told.reg) (facts_of a) (st.regs x.thread) (regs_left a before rest x h parts st f) told.reg
     told.size entry row2)
     told.lists (λ k r e. (let both : ops.Alloc told.reg told.part told.size ≡ ops.Swap k r = sym told.op ∙ e in absurd cc)) told.roots
 
 pub refused_records_play : RefusedRecordsArePlayed
-refused_records_play t r limits filed_run before x rest entry parts answer = refused_plays (parts_of t (told_by r)) before rest x entry (filed t (told_by r) limits filed_run) parts answer
+refused_records_play t r limits filed_run before x rest entry parts answer =
+    refused_plays (parts_of t (told_by r)) before rest x entry (filed t (told_by r) limits filed_run) parts answer

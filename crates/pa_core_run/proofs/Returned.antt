@@ -42,14 +42,18 @@ use Rattle.pa_core_run.proofs.Moving.{keeping}
 use Rattle.pa_core_run.proofs.Batching.{kept_with}
 use Rattle.pa_core_run.proofs.Bringing.{titles_go}
 
-module _ (a : Parts) (before rest : List Played) (x : Played) (h : IsFiled a) (parts : a.ps ≡ before ++ x ∷ rest) (st : Standing) (f : IsFrontOf a x.line before (x ∷ rest) st) (s : State)
+module _ (a : Parts) (before rest : List Played) (x : Played) (h : IsFiled a) (parts : a.ps ≡ before ++ x ∷ rest) (st : Standing)
+    (f : IsFrontOf a x.line before (x ∷ rest) st) (s : State)
     (shown : IsShown (titles_in a (root_at a x.line)) (a.threads + 1) (2097152 * a.supers) (ledger_of a.partitions st) s) where
   -- the thread's lists get no more than the slot
   abbrev pub Grows : Cache → SlotName → Type 0
-  Grows list slot = (y : SlotName) → in_lists a.partitions (listing a before rest x h parts st f s shown list) y (suc x.thread) ≤ in_lists a.partitions st y (suc x.thread) + once y slot
+  Grows list slot = (y : SlotName) →
+      in_lists a.partitions (listing a before rest x h parts st f s shown list) y (suc x.thread) ≤ in_lists a.partitions st y
+      (suc x.thread) + once y slot
 
   -- a slot before a list is one more of it
-  pub one_more : (p class : ℕ) (slot : Numbered) → class < 170 → Grows (with_list (st.caches x.thread) p class (slot ∷ st.caches x.thread p class)) slot.slot
+  pub one_more : (p class : ℕ) (slot : Numbered) → class < 170 →
+      Grows (with_list (st.caches x.thread) p class (slot ∷ st.caches x.thread p class)) slot.slot
   one_more p class slot real y =
       let cache = st.caches x.thread in
       let list = with_list cache p class (slot ∷ cache p class) in
@@ -59,7 +63,8 @@ module _ (a : Parts) (before rest : List Played) (x : Played) (h : IsFiled a) (p
       omega arith
 
   -- what the step gives back is the slot
-  gives_slot : (m : Mark) (p : Step) (list : Cache) → mark_of x ≡ Some m → m.step ≡ Some p → IsReturning p m.found → Grows list m.slot → GetsBack a before rest x h parts st f s shown list p m.slot
+  gives_slot : (m : Mark) (p : Step) (list : Cache) → mark_of x ≡ Some m → m.step ≡ Some p → IsReturning p m.found → Grows list m.slot →
+      GetsBack a before rest x h parts st f s shown list p m.slot
   gives_slot m p list is step returning grows t made name word u mine =
       let more = grows (name_of u) in
       let back = left_free a before rest x h parts st f s shown m p t u is step returning made name word mine in
@@ -120,7 +125,8 @@ module _ (a : Parts) (before rest : List Played) (x : Played) (h : IsFiled a) (p
       → IsReturning step seen.found.0 → Grows list seen.slot → (mid : State) × IsGivenBack a before rest x h parts st f s shown list mid
   return_plays step seen list makes answer returning grows =
       let within = All-contains (λ (y : Played). IsOpWithin a.partitions y.op) a.ps x h.within (among a before rest x h parts st f) in
-      let row = subst (λ z. Row (facts_of a) x.op (st.regs x.thread) z (regs_left a before rest x h parts st f)) answer (row_here a before rest x h parts st f) in
+      let row = subst (λ z. Row (facts_of a) x.op (st.regs x.thread) z (regs_left a before rest x h parts st f)) answer
+      (row_here a before rest x h parts st f) in
       by_op x.op step seen list refl makes answer within row returning grows
 
   -- ---- what follows

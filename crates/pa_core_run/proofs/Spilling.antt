@@ -36,11 +36,13 @@ use Rattle.pa_core_run.proofs.Given.{AreGiving, giving_gives, there_given, kept_
 use Rattle.pa_core_run.proofs.Titled.{AreTitlesOf, lists_known, titles_for, named_stands, title_among}
 use Rattle.pa_one_run.proofs.numbers.NextNumbers.{spilled_in, class_partition}
 
-module _ (a : Parts) (before rest : List Played) (x : Played) (h : IsFiled a) (parts : a.ps ≡ before ++ x ∷ rest) (st : Standing) (f : IsFrontOf a x.line before (x ∷ rest) st) (s : State)
+module _ (a : Parts) (before rest : List Played) (x : Played) (h : IsFiled a) (parts : a.ps ≡ before ++ x ∷ rest) (st : Standing)
+    (f : IsFrontOf a x.line before (x ∷ rest) st) (s : State)
     (shown : IsShown (titles_in a (root_at a x.line)) (a.threads + 1) (2097152 * a.supers) (ledger_of a.partitions st) s)
     (p class : ℕ) (slot : Numbered) (of : IsOfClass a.roots slot.slot p class)
     (only : OnlyActs a.roots x.line p (gives (spilled class (slot ∷ st.caches x.thread p class))))
-    (becomes : SameLists (cache_left a before rest x h parts st f) (with_list (st.caches x.thread) p class (kept class (slot ∷ st.caches x.thread p class)))) where
+    (becomes : SameLists (cache_left a before rest x h parts st f)
+    (with_list (st.caches x.thread) p class (kept class (slot ∷ st.caches x.thread p class)))) where
   abbrev list : List Numbered
   list = slot ∷ st.caches x.thread p class
 
@@ -70,12 +72,14 @@ module _ (a : Parts) (before rest : List Played) (x : Played) (h : IsFiled a) (p
   ts = titled.0
 
   -- with what goes back the thread's lists are what they were with the slot
-  lists_fall : (y : SlotName) → over a.partitions (λ q. listed_times y (left q) 0 170) + named_in y ts ≤ over a.partitions (λ q. listed_times y (list_full q) 0 170)
+  lists_fall : (y : SlotName) →
+      over a.partitions (λ q. listed_times y (left q) 0 170) + named_in y ts ≤ over a.partitions (λ q. listed_times y (list_full q) 0 170)
   lists_fall y =
       let split = stands_kept y class list in
       let full = ap (stands y) (list_changed (st.caches x.thread) p class list) in
       let named = named_stands a back ts titled.1 y in
-      let fall = less_lists a.partitions p class y list_full left (kept class list) (stands y back) real (class_partition a slot.slot p class h of)
+      let fall = less_lists a.partitions p class y list_full left (kept class list) (stands y back) real
+      (class_partition a slot.slot p class h of)
       (λ q c. becomes q c ∙ list_twice (st.caches x.thread) p class list (kept class list) q c) (omega arith) in
       omega arith
 
@@ -94,12 +98,15 @@ module _ (a : Parts) (before rest : List Played) (x : Played) (h : IsFiled a) (p
           let same : back_in (name_of u) (acts_of a.roots x.line q) ≡ stands (name_of u) back =
           ap (back_in (name_of u)) (ap (acts_of a.roots x.line) e ∙ only.0) ∙ back_gives (name_of u) back in
           inr (title_among a back ts titled.1 u h (q, inl (made_at_end a h q (x.line + 1) u made)) (omega arith))
-      | inr ne ↦ let none : back_in (name_of u) (acts_of a.roots x.line q) ≡ 0 = ap (back_in (name_of u)) (only.1 q ne) in absurd (omega arith)
+      | inr ne ↦ let none : back_in (name_of u) (acts_of a.roots x.line q) ≡ 0 = ap (back_in (name_of u)) (only.1 q ne) in
+          absurd (omega arith)
     ]
   ]
 
   -- from a core that shows the list with the slot, the thread's events give back what doesn't stay and lead to the next roots
-  pub slots_go : (mid : State) → IsShown (titles_in a (root_at a x.line)) (a.threads + 1) (2097152 * a.supers) (ledger_of a.partitions (given_st a before rest x h parts st f s shown list_full)) mid →
+  pub slots_go : (mid : State) →
+      IsShown (titles_in a (root_at a x.line)) (a.threads + 1) (2097152 * a.supers)
+      (ledger_of a.partitions (given_st a before rest x h parts st f s shown list_full)) mid →
       (last : State) × IsReached (names_next a before rest x h parts st f s shown) (a.threads + 1) (2097152 * a.supers)
       (ledger_of a.partitions (given_st a before rest x h parts st f s shown left)) mid (suc x.thread) last
   slots_go mid now =

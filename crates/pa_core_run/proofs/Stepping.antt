@@ -1,5 +1,5 @@
 -- The counted ops, one whole: the core can play each, and shows the state after it.
-use Rattle.std.proofs.Common.{◌≡◌, ℕ, suc, ◌+◌, ◌<◌, ◌≤◌, List, [], ◌∷◌, ◌++◌, get_or, refl, sym, ◌∙◌, ap, subst, arith, ◌⊎◌, inl, inr}
+use Rattle.std.proofs.Common.{◌≡◌, ℕ, suc, ◌+◌, ◌<◌, ◌≤◌, false, List, [], ◌∷◌, ◌++◌, get_or, refl, sym, ◌∙◌, ap, subst, arith, ◌⊎◌, inl, inr}
 use Rattle.std.proofs.lemmas.List.Sums.{sum_by-cons}
 use Rattle.pa_slot.specs.declared.word.SlotName.{SlotName}
 use Rattle.pa_slot.specs.declared.word.Step.{Step}
@@ -34,7 +34,7 @@ use Rattle.pa_core_steps.proofs.Turning.{turn_then}
 use Rattle.pa_core_run.specs.Ledger.{Titles, IsShown, IsPaid}
 use Rattle.pa_core_run.specs.Standing.{Standing, in_lists, ledger_of}
 use Rattle.pa_core_run.specs.Moves.{HaveNames}
-use Rattle.pa_core_run.proofs.Showing.{no_pieces, free_pieces, ref_pieces, own_pieces, returned_pieces}
+use Rattle.pa_core_run.proofs.Showing.{own_piece, no_pieces, free_pieces, ref_pieces, own_pieces, returned_pieces}
 use Rattle.pa_core_run.proofs.Moving.{turn_shown}
 use Rattle.pa_core_run.proofs.Acting.{HasHandle, handle_held}
 use Rattle.pa_core_run.proofs.Paying.{owns_piece, points_piece, IsSet, set_paid}
@@ -42,9 +42,11 @@ use Rattle.pa_machine.proofs.Noting.{returned_states}
 use Rattle.pa_machine.proofs.Holding.{own_title, ref_title, free_title}
 
 -- an op's turn is a turn
-pub done_turn : (s after : State) (actor : ℕ) (t : Title) (p : Step) (lost gained : List Piece) (first : List Event) → IsGoodState s → IsDone s actor t p lost gained first after →
-    IsTurn s actor t lost gained (stepped p (count_word s.words t)) (first ++ Count actor t p ∷ []) after
-done_turn s after actor t p lost gained first good d = turn_then s d.mid after actor t lost d.between gained _ _ first (Count actor t p ∷ []) good d.prepares d.steps
+pub done_turn : (s after : State) (actor : ℕ) (t : Title) (p : Step) (e : Event) (lost gained : List Piece) (first : List Event) →
+    IsGoodState s → IsDone s actor t p e lost gained first after →
+    IsTurn s actor t lost gained (stepped p (count_word s.words t)) (first ++ e ∷ []) after
+done_turn s after actor t p e lost gained first good d =
+    turn_then s d.mid after actor t lost d.between gained _ _ first (e ∷ []) good d.prepares d.steps
 
 -- an actor that has an Own has it in some state
 pub own_some : (t : Title) (ps : List Piece) → 0 < held_in ps (OwnOf t) → (a : OwnState) × (0 < held_in ps (OwnAs t a))
@@ -67,23 +69,25 @@ own_some t (RefPiece u ∷ ps) some =
     let d = sum_by-cons (amount (OwnAs t rest.0)) (RefPiece u) ps in
     let r = rest.1 in
     (rest.0, omega arith)
-own_some t (OwnPiece u b ∷ ps) some = elim (title_tells u t) [
+own_some t (OwnPiece sealed u b ∷ ps) some = elim (title_tells u t) [
   | inl y ↦
-      let d = sum_by-cons (amount (OwnAs t b)) (OwnPiece u b) ps in
-      let e : amount (OwnAs t b) (OwnPiece u b) ≡ 1 = rw (y.0, state_self b) refl in
+      let d = sum_by-cons (amount (OwnAs t b)) (OwnPiece sealed u b) ps in
+      let e : amount (OwnAs t b) (OwnPiece sealed u b) ≡ 1 = rw (y.0, state_self b) refl in
       (b, omega arith)
   | inr n ↦
-      let c = sum_by-cons (amount (OwnOf t)) (OwnPiece u b) ps in
-      let z : amount (OwnOf t) (OwnPiece u b) ≡ 0 = rw n.0 refl in
+      let c = sum_by-cons (amount (OwnOf t)) (OwnPiece sealed u b) ps in
+      let z : amount (OwnOf t) (OwnPiece sealed u b) ≡ 0 = rw n.0 refl in
       let rest = own_some t ps (omega arith) in
-      let d = sum_by-cons (amount (OwnAs t rest.0)) (OwnPiece u b) ps in
+      let d = sum_by-cons (amount (OwnAs t rest.0)) (OwnPiece sealed u b) ps in
       let r = rest.1 in
       (rest.0, omega arith)
 ]
 
-module _ (names : Titles) (partitions actors bytes : ℕ) (st : Standing) (s : State) (h : IsShown names actors bytes (ledger_of partitions st) s) (unique : HaveNames names.Made) where
+module _ (names : Titles) (partitions actors bytes : ℕ) (st : Standing) (s : State)
+    (h : IsShown names actors bytes (ledger_of partitions st) s) (unique : HaveNames names.Made) where
   -- a register's owner is an Own of the thread's actor, and its raw_ptr a Ref
-  pub has_own : (k reg : ℕ) (t : Title) → suc k < actors → reg < 64 → names.Made t → st.regs k reg ≡ Own (name_of t) → Holds s (suc k) (OwnAs t Clean)
+  pub has_own : (k reg : ℕ) (t : Title) → suc k < actors → reg < 64 → names.Made t → st.regs k reg ≡ Own (name_of t) →
+      Holds s (suc k) (OwnAs t Clean)
   has_own k reg t below few made owner =
       let part = over_part 64 reg (λ r. owns (name_of t) (st.regs k r)) few in
       let here = ap (owns (name_of t)) owner ∙ owns_one (name_of t) in
@@ -92,7 +96,8 @@ module _ (names : Titles) (partitions actors bytes : ℕ) (st : Standing) (s : S
       let clean = h.clean t own.0 (in_total s (suc k) (OwnAs t own.0) own.1) in
       (let P : OwnState → Type 0 = λ a. Holds s (suc k) (OwnAs t a) in subst P clean own.1)
 
-  pub has_ref : (k reg : ℕ) (t : Title) → suc k < actors → reg < 64 → names.Made t → st.regs k reg ≡ Ref (name_of t) → Holds s (suc k) (RefOf t)
+  pub has_ref : (k reg : ℕ) (t : Title) → suc k < actors → reg < 64 → names.Made t → st.regs k reg ≡ Ref (name_of t) →
+      Holds s (suc k) (RefOf t)
   has_ref k reg t below few made pointer =
       let part = over_part 64 reg (λ r. points (name_of t) (st.regs k r)) few in
       let here = ap (points (name_of t)) pointer ∙ points_one (name_of t) in
@@ -100,7 +105,8 @@ module _ (names : Titles) (partitions actors bytes : ℕ) (st : Standing) (s : S
       omega arith
 
   -- a thread with an Own or a Ref of a made title's slot in a register has a handle to the title
-  pub has_handle : (k reg : ℕ) (t : Title) → suc k < actors → reg < 64 → names.Made t → (st.regs k reg ≡ Own (name_of t)) ⊎ (st.regs k reg ≡ Ref (name_of t)) → HasHandle s (suc k) t
+  pub has_handle : (k reg : ℕ) (t : Title) → suc k < actors → reg < 64 → names.Made t → (st.regs k reg ≡ Own (name_of t)) ⊎
+      (st.regs k reg ≡ Ref (name_of t)) → HasHandle s (suc k) t
   has_handle k reg t below few made (inl owner) = inl (has_own k reg t below few made owner)
   has_handle k reg t below few made (inr pointer) = inr (has_ref k reg t below few made pointer)
 
@@ -110,24 +116,31 @@ module _ (names : Titles) (partitions actors bytes : ℕ) (st : Standing) (s : S
   -- the content of an Own that was clean stays
   own_stays : (after : State) (actor : ℕ) (t : Title) (lost gained : List Piece) (w : ℕ) (es : List Event) → HasActor s actor
       → IsTurn s actor t lost gained w es after → held_in gained (OwnAs t Clean) ≡ 0 →
-      ((value : ℕ) → HasContentFrom s.words t 0 value → HasContentFrom after.words t 0 value) → 0 < total_of after (OwnAs t Clean) → HasContentFrom after.words t 0 (st.content (name_of t))
+      ((value : ℕ) → HasContentFrom s.words t 0 value → HasContentFrom after.words t 0 value) → 0 < total_of after (OwnAs t Clean) →
+      HasContentFrom after.words t 0 (st.content (name_of t))
   own_stays after actor t lost gained w es has turn none keeps some =
       let e = total_exchanged s.holdings after.holdings actor actor lost gained turn.holdings has has (OwnAs t Clean) in
       keeps (st.content (name_of t)) (h.contents t (omega arith))
 
   -- a copy
-  pub copy_stands : (next : Standing) (k from to : ℕ) (t : Title) → suc k < actors → from < 64 → names.Made t → (st.regs k from ≡ Own (name_of t)) ⊎ (st.regs k from ≡ Ref (name_of t)) →
-      HoldsNone (st.regs k to) → CanStep Copy (st.word (name_of t)) → IsSet partitions st next k to (Ref (name_of t)) (name_of t) (stepped Copy (st.word (name_of t))) →
-      next.content (name_of t) ≡ st.content (name_of t) → ((y : SlotName) → in_lists partitions next y (suc k) ≡ in_lists partitions st y (suc k)) →
-      (after : State) × IsDone s (suc k) t Copy [] (RefPiece t ∷ []) [] after × IsShown names actors bytes (ledger_of partitions next) after
+  pub copy_stands : (next : Standing) (k from to : ℕ) (t : Title) → suc k < actors → from < 64 → names.Made t →
+      (st.regs k from ≡ Own (name_of t)) ⊎ (st.regs k from ≡ Ref (name_of t)) →
+      HoldsNone (st.regs k to) → CanStep Copy (st.word (name_of t)) →
+      IsSet partitions st next k to (Ref (name_of t)) (name_of t) (stepped Copy (st.word (name_of t))) →
+      next.content (name_of t) ≡ st.content (name_of t) →
+      ((y : SlotName) → in_lists partitions next y (suc k) ≡ in_lists partitions st y (suc k)) →
+      (after : State) × IsDone s (suc k) t Copy (Count (suc k) t Copy) [] (RefPiece t ∷ []) [] after ×
+      IsShown names actors bytes (ledger_of partitions next) after
   copy_stands next k from to t below few made names_it none can set content lists =
       let handle = has_handle k from t below few made names_it in
       let held = handle_held s (suc k) t handle in
       let word = h.words t held in
       let has = has_actor (suc k) below in
-      let r = copies_can_happen s (suc k) t h.good has handle (subst (λ w. CanStep Copy w) (sym word) can) in
-      let turn = done_turn s r.0 (suc k) t Copy [] (RefPiece t ∷ []) [] h.good r.1 in
-      let paid = set_paid names.Made partitions st next k to (Ref (name_of t)) t (stepped Copy (st.word (name_of t))) [] (RefPiece t ∷ []) set
+      let r = copies_can_happen s (suc k) t h.good has
+      (elim handle [ inl own ↦ inl (own, h.sealed (suc k) t below) | inr ref ↦ inr ref ]) (subst (λ w. CanStep Copy w) (sym word) can) in
+      let turn = done_turn s r.0 (suc k) t Copy (Count (suc k) t Copy) [] (RefPiece t ∷ []) [] h.good r.1 in
+      let paid = set_paid names.Made partitions st next k to (Ref (name_of t)) t (stepped Copy (st.word (name_of t))) []
+      (RefPiece t ∷ []) set
       (λ u m. let a = none_owns (name_of u) (st.regs k to) none in let z : held_in [] (OwnOf u) ≡ 0 = refl in omega arith)
       (λ u m. let p = points_piece names.Made t u unique made m in let z : held_in [] (RefOf u) ≡ 0 = refl in omega arith)
       (λ u m. let e = lists (name_of u) in let z : held_in [] (FreeTitle u) ≡ 0 = refl in omega arith) in (
@@ -135,23 +148,31 @@ module _ (names : Titles) (partitions actors bytes : ℕ) (st : Standing) (s : S
         r.1,
         turn_shown names actors bytes (ledger_of partitions st) (ledger_of partitions next) s r.0 (suc k) t [] (RefPiece t ∷ [])
             (stepped Copy (count_word s.words t)) (Count (suc k) t Copy ∷ []) h (omega arith) below held (no_pieces t) (ref_pieces t) turn
-            (subst (λ w. IsPaid names.Made (ledger_of partitions st) (ledger_of partitions next) (of_actor (suc k) []) (of_actor (suc k) (RefPiece t ∷ [])) t (stepped Copy w)) (sym word) paid)
-            (λ some. subst (λ v. HasContentFrom r.0.words t 0 v) (sym content) (own_stays r.0 (suc k) t [] (RefPiece t ∷ []) _ _ has turn refl r.2 some)),
+            (subst (λ w. IsPaid names.Made (ledger_of partitions st) (ledger_of partitions next) (of_actor (suc k) [])
+            (of_actor (suc k) (RefPiece t ∷ [])) t (stepped Copy w)) (sym word) paid)
+            (λ some. subst (λ v. HasContentFrom r.0.words t 0 v) (sym content)
+            (own_stays r.0 (suc k) t [] (RefPiece t ∷ []) _ _ has turn refl r.2 some)),
       )
 
   -- a reset
-  pub reset_stands : (next : Standing) (k reg : ℕ) (t : Title) → suc k < actors → names.Made t → st.regs k reg ≡ Ref (name_of t) → CanStep Reset (st.word (name_of t)) →
-      IsSet partitions st next k reg Cleared (name_of t) (stepped Reset (st.word (name_of t))) → next.content (name_of t) ≡ st.content (name_of t) →
-      ((u : Title) → names.Made u → in_lists partitions next (name_of u) (suc k) ≤ in_lists partitions st (name_of u) (suc k) + held_in (left_by Reset s t) (FreeTitle u)) →
-      (after : State) × IsDone s (suc k) t Reset (RefPiece t ∷ []) (left_by Reset s t) [] after × IsShown names actors bytes (ledger_of partitions next) after
+  pub reset_stands : (next : Standing) (k reg : ℕ) (t : Title) → suc k < actors → names.Made t → st.regs k reg ≡ Ref (name_of t) →
+      CanStep Reset (st.word (name_of t)) →
+      IsSet partitions st next k reg Cleared (name_of t) (stepped Reset (st.word (name_of t))) →
+      next.content (name_of t) ≡ st.content (name_of t) →
+      ((u : Title) → names.Made u →
+      in_lists partitions next (name_of u) (suc k) ≤ in_lists partitions st (name_of u) (suc k) + held_in (left_by Reset s t)
+      (FreeTitle u)) →
+      (after : State) × IsDone s (suc k) t Reset (Count (suc k) t Reset) (RefPiece t ∷ []) (left_by Reset s t) [] after ×
+      IsShown names actors bytes (ledger_of partitions next) after
   reset_stands next k reg t below made pointer can set content lists =
       let ref = has_ref k reg t below set.few made pointer in
       let held = ref_title s (suc k) t ref in
       let word = h.words t held in
       let has = has_actor (suc k) below in
       let r = resets_can_happen s (suc k) t h.good has ref (subst (λ w. CanStep Reset w) (sym word) can) in
-      let turn = done_turn s r.0 (suc k) t Reset (RefPiece t ∷ []) (left_by Reset s t) [] h.good r.1 in
-      let paid = set_paid names.Made partitions st next k reg Cleared t (stepped Reset (st.word (name_of t))) (RefPiece t ∷ []) (left_by Reset s t) set
+      let turn = done_turn s r.0 (suc k) t Reset (Count (suc k) t Reset) (RefPiece t ∷ []) (left_by Reset s t) [] h.good r.1 in
+      let paid = set_paid names.Made partitions st next k reg Cleared t (stepped Reset (st.word (name_of t))) (RefPiece t ∷ [])
+      (left_by Reset s t) set
       (λ u m. let z : held_in (RefPiece t ∷ []) (OwnOf u) ≡ 0 = refl in omega arith)
       (λ u m. let p = points_piece names.Made t u unique made m in let a = ap (points (name_of u)) pointer in omega arith)
       (λ u m. let e = lists u m in let z : held_in (RefPiece t ∷ []) (FreeTitle u) ≡ 0 = refl in omega arith) in (
@@ -168,84 +189,108 @@ module _ (names : Titles) (partitions actors bytes : ℕ) (st : Standing) (s : S
       )
 
   -- a free
-  pub free_stands : (next : Standing) (k reg : ℕ) (t : Title) → suc k < actors → names.Made t → st.regs k reg ≡ Own (name_of t) → CanStep Free (st.word (name_of t)) →
+  pub free_stands : (next : Standing) (k reg : ℕ) (t : Title) → suc k < actors → names.Made t → st.regs k reg ≡ Own (name_of t) →
+      CanStep Free (st.word (name_of t)) →
       IsSet partitions st next k reg Freed (name_of t) (stepped Free (st.word (name_of t))) →
-      ((u : Title) → names.Made u → in_lists partitions next (name_of u) (suc k) ≤ in_lists partitions st (name_of u) (suc k) + held_in (left_by Free s t) (FreeTitle u)) →
-      (after : State) × IsDone s (suc k) t Free (OwnPiece t Clean ∷ []) (left_by Free s t) (poisons (content_count t) (suc k) t) after × IsShown names actors bytes (ledger_of partitions next) after
+      ((u : Title) → names.Made u →
+      in_lists partitions next (name_of u) (suc k) ≤ in_lists partitions st (name_of u) (suc k) + held_in (left_by Free s t)
+      (FreeTitle u)) →
+      (after : State) × IsDone s (suc k) t Free (Count (suc k) t Free) (own_piece t ∷ []) (left_by Free s t)
+      (poisons (content_count t) (suc k) t) after ×
+      IsShown names actors bytes (ledger_of partitions next) after
   free_stands next k reg t below made owner can set lists =
       let own = has_own k reg t below set.few made owner in
       let held = own_title s (suc k) t Clean own in
       let word = h.words t held in
       let has = has_actor (suc k) below in
-      let r = frees_can_happen s (suc k) t h.good has own (subst (λ w. CanStep Free w) (sym word) can) in
-      let turn = done_turn s r.0 (suc k) t Free (OwnPiece t Clean ∷ []) (left_by Free s t) (poisons (content_count t) (suc k) t) h.good r.1 in
-      let paid = set_paid names.Made partitions st next k reg Freed t (stepped Free (st.word (name_of t))) (OwnPiece t Clean ∷ []) (left_by Free s t) set
+      let r = frees_can_happen s (suc k) t false h.good has own (h.sealed (suc k) t below)
+      (subst (λ w. CanStep Free w) (sym word) can) in
+      let turn = done_turn s r.0 (suc k) t Free (Count (suc k) t Free) (own_piece t ∷ []) (left_by Free s t)
+      (poisons (content_count t) (suc k) t) h.good r.1 in
+      let paid = set_paid names.Made partitions st next k reg Freed t (stepped Free (st.word (name_of t))) (own_piece t ∷ [])
+      (left_by Free s t) set
       (λ u m. let p = owns_piece names.Made t u unique made m in let a = ap (owns (name_of u)) owner in omega arith)
-      (λ u m. let z : held_in (OwnPiece t Clean ∷ []) (RefOf u) ≡ 0 = refl in omega arith)
-      (λ u m. let e = lists u m in let z : held_in (OwnPiece t Clean ∷ []) (FreeTitle u) ≡ 0 = refl in omega arith) in (
+      (λ u m. let z : held_in (own_piece t ∷ []) (RefOf u) ≡ 0 = refl in omega arith)
+      (λ u m. let e = lists u m in let z : held_in (own_piece t ∷ []) (FreeTitle u) ≡ 0 = refl in omega arith) in (
         r.0,
         r.1,
-        turn_shown names actors bytes (ledger_of partitions st) (ledger_of partitions next) s r.0 (suc k) t (OwnPiece t Clean ∷ [])
+        turn_shown names actors bytes (ledger_of partitions st) (ledger_of partitions next) s r.0 (suc k) t (own_piece t ∷ [])
             (left_by Free s t) (stepped Free (count_word s.words t)) _ h (omega arith) below held (own_pieces t)
             (returned_pieces (stepped Free (count_word s.words t)) t) turn
             (subst (λ w. IsPaid names.Made (ledger_of partitions st) (ledger_of partitions next)
-            (of_actor (suc k) (OwnPiece t Clean ∷ [])) (of_actor (suc k) (left_by Free s t)) t (stepped Free w)) (sym word) paid)
+            (of_actor (suc k) (own_piece t ∷ [])) (of_actor (suc k) (left_by Free s t)) t (stepped Free w)) (sym word) paid)
             (λ some.
-            let e = total_exchanged s.holdings r.0.holdings (suc k) (suc k) (OwnPiece t Clean ∷ []) (left_by Free s t) turn.holdings has has (OwnAs t Clean) in
+            let e = total_exchanged s.holdings r.0.holdings (suc k) (suc k) (own_piece t ∷ []) (left_by Free s t) turn.holdings has has
+            (OwnAs t Clean) in
             let z = returned_states (stepped Free (count_word s.words t)) t Clean in
-            let o = state_here t Clean in
+            let o = state_here false t Clean in
             let part = (tally_of s.holdings).part t Clean in
-            let few = few_owns s t h.good (own_of_state (total_of s) t Clean (tally_of s.holdings) (in_total s (suc k) (OwnAs t Clean) own)) in
+            let few = few_owns s t h.good
+            (own_of_state (total_of s) t Clean (tally_of s.holdings) (in_total s (suc k) (OwnAs t Clean) own)) in
             absurd (omega arith)),
       )
 
   -- a write
-  pub write_stands : (next : Standing) (k reg value : ℕ) (t : Title) → suc k < actors → names.Made t → st.regs k reg ≡ Own (name_of t) → refs_of (st.word (name_of t)) ≡ 0 →
-      CanStep Write (st.word (name_of t)) → IsSet partitions st next k reg (Own (name_of t)) (name_of t) (stepped Write (st.word (name_of t))) → next.content (name_of t) ≡ value →
+  pub write_stands : (next : Standing) (k reg value : ℕ) (t : Title) → suc k < actors → names.Made t → st.regs k reg ≡ Own (name_of t) →
+      refs_of (st.word (name_of t)) ≡ 0 →
+      CanStep Write (st.word (name_of t)) →
+      IsSet partitions st next k reg (Own (name_of t)) (name_of t) (stepped Write (st.word (name_of t))) →
+      next.content (name_of t) ≡ value →
       ((y : SlotName) → in_lists partitions next y (suc k) ≡ in_lists partitions st y (suc k)) →
-      (after : State) × IsDone s (suc k) t Write (OwnPiece t Clean ∷ []) (OwnPiece t Clean ∷ []) (stores (content_count t) 0 (suc k) t value) after
+      (after : State) × IsDone s (suc k) t Write (Count (suc k) t Write) (own_piece t ∷ []) (own_piece t ∷ [])
+      (stores (content_count t) 0 (suc k) t value) after
       × IsShown names actors bytes (ledger_of partitions next) after
   write_stands next k reg value t below made owner alone can set content lists =
       let own = has_own k reg t below set.few made owner in
       let held = own_title s (suc k) t Clean own in
       let word = h.words t held in
       let has = has_actor (suc k) below in
-      let r = writes_can_happen s (suc k) t value h.good has own (ap refs_of word ∙ alone) (subst (λ w. CanStep Write w) (sym word) can) in
-      let turn = done_turn s r.0 (suc k) t Write (OwnPiece t Clean ∷ []) (OwnPiece t Clean ∷ []) (stores (content_count t) 0 (suc k) t value) h.good r.1 in
-      let paid = set_paid names.Made partitions st next k reg (Own (name_of t)) t (stepped Write (st.word (name_of t))) (OwnPiece t Clean ∷ []) (OwnPiece t Clean ∷ []) set
+      let r = writes_can_happen s (suc k) t false value h.good has own (h.sealed (suc k) t below) (ap refs_of word ∙ alone)
+      (subst (λ w. CanStep Write w) (sym word) can) in
+      let turn = done_turn s r.0 (suc k) t Write (Count (suc k) t Write) (own_piece t ∷ []) (own_piece t ∷ [])
+      (stores (content_count t) 0 (suc k) t value) h.good r.1 in
+      let paid = set_paid names.Made partitions st next k reg (Own (name_of t)) t (stepped Write (st.word (name_of t)))
+      (own_piece t ∷ []) (own_piece t ∷ []) set
       (λ u m. let a = ap (owns (name_of u)) owner in omega arith)
-      (λ u m. let z : held_in (OwnPiece t Clean ∷ []) (RefOf u) ≡ 0 = refl in omega arith)
+      (λ u m. let z : held_in (own_piece t ∷ []) (RefOf u) ≡ 0 = refl in omega arith)
       (λ u m. let e = lists (name_of u) in omega arith) in (
         r.0,
         r.1,
-        turn_shown names actors bytes (ledger_of partitions st) (ledger_of partitions next) s r.0 (suc k) t (OwnPiece t Clean ∷ [])
-            (OwnPiece t Clean ∷ []) (stepped Write (count_word s.words t)) _ h (omega arith) below held (own_pieces t) (own_pieces t) turn
+        turn_shown names actors bytes (ledger_of partitions st) (ledger_of partitions next) s r.0 (suc k) t (own_piece t ∷ [])
+            (own_piece t ∷ []) (stepped Write (count_word s.words t)) _ h (omega arith) below held (own_pieces t) (own_pieces t) turn
             (subst (λ w. IsPaid names.Made (ledger_of partitions st) (ledger_of partitions next)
-            (of_actor (suc k) (OwnPiece t Clean ∷ [])) (of_actor (suc k) (OwnPiece t Clean ∷ [])) t (stepped Write w)) (sym word) paid)
+            (of_actor (suc k) (own_piece t ∷ [])) (of_actor (suc k) (own_piece t ∷ [])) t (stepped Write w)) (sym word) paid)
             (λ some. subst (λ v. HasContentFrom r.0.words t 0 v) (sym content) r.2),
       )
 
   -- an issue of a slot that the thread has in its lists
-  pub issue_stands : (next : Standing) (k reg : ℕ) (t : Title) → suc k < actors → names.Made t → HoldsNone (st.regs k reg) → CanStep Issue (st.word (name_of t)) →
-      IsSet partitions st next k reg (Own (name_of t)) (name_of t) (stepped Issue (st.word (name_of t))) → next.content (name_of t) ≡ 0 → Holds s (suc k) (FreeTitle t) →
-      ((u : Title) → names.Made u → in_lists partitions next (name_of u) (suc k) + held_in (FreePiece t ∷ []) (FreeTitle u) ≤ in_lists partitions st (name_of u) (suc k)) →
-      (after : State) × IsDone s (suc k) t Issue (FreePiece t ∷ []) (OwnPiece t Clean ∷ []) (stores (content_count t) 0 (suc k) t 0) after
+  pub issue_stands : (next : Standing) (k reg : ℕ) (t : Title) → suc k < actors → names.Made t → HoldsNone (st.regs k reg) →
+      CanStep Issue (st.word (name_of t)) →
+      IsSet partitions st next k reg (Own (name_of t)) (name_of t) (stepped Issue (st.word (name_of t))) → next.content (name_of t) ≡ 0 →
+      Holds s (suc k) (FreeTitle t) →
+      ((u : Title) → names.Made u →
+      in_lists partitions next (name_of u) (suc k) + held_in (FreePiece t ∷ []) (FreeTitle u) ≤ in_lists partitions st (name_of u)
+      (suc k)) →
+      (after : State) × IsDone s (suc k) t Issue (Count (suc k) t Issue) (FreePiece t ∷ []) (own_piece t ∷ [])
+      (stores (content_count t) 0 (suc k) t 0) after
       × IsShown names actors bytes (ledger_of partitions next) after
   issue_stands next k reg t below made none can set content free lists =
       let held = free_title s (suc k) t free in
       let word = h.words t held in
       let has = has_actor (suc k) below in
-      let r = issues_can_happen s (suc k) t h.good has free (subst (λ w. CanStep Issue w) (sym word) can) in
-      let turn = done_turn s r.0 (suc k) t Issue (FreePiece t ∷ []) (OwnPiece t Clean ∷ []) (stores (content_count t) 0 (suc k) t 0) h.good r.1 in
-      let paid = set_paid names.Made partitions st next k reg (Own (name_of t)) t (stepped Issue (st.word (name_of t))) (FreePiece t ∷ []) (OwnPiece t Clean ∷ []) set
+      let r = issues_can_happen s (suc k) t false h.good has free (subst (λ w. CanStep Issue w) (sym word) can) in
+      let turn = done_turn s r.0 (suc k) t Issue (Count (suc k) t Issue) (FreePiece t ∷ []) (own_piece t ∷ [])
+      (stores (content_count t) 0 (suc k) t 0) h.good r.1 in
+      let paid = set_paid names.Made partitions st next k reg (Own (name_of t)) t (stepped Issue (st.word (name_of t))) (FreePiece t ∷ [])
+      (own_piece t ∷ []) set
       (λ u m. let p = owns_piece names.Made t u unique made m in let z : held_in (FreePiece t ∷ []) (OwnOf u) ≡ 0 = refl in omega arith)
       (λ u m. let z : held_in (FreePiece t ∷ []) (RefOf u) ≡ 0 = refl in omega arith)
       (λ u m. let e = lists u m in omega arith) in (
         r.0,
         r.1,
         turn_shown names actors bytes (ledger_of partitions st) (ledger_of partitions next) s r.0 (suc k) t (FreePiece t ∷ [])
-            (OwnPiece t Clean ∷ []) (stepped Issue (count_word s.words t)) _ h (omega arith) below held (free_pieces t) (own_pieces t) turn
+            (own_piece t ∷ []) (stepped Issue (count_word s.words t)) _ h (omega arith) below held (free_pieces t) (own_pieces t) turn
             (subst (λ w. IsPaid names.Made (ledger_of partitions st) (ledger_of partitions next) (of_actor (suc k) (FreePiece t ∷ []))
-            (of_actor (suc k) (OwnPiece t Clean ∷ [])) t (stepped Issue w)) (sym word) paid)
+            (of_actor (suc k) (own_piece t ∷ [])) t (stepped Issue w)) (sym word) paid)
             (λ some. subst (λ v. HasContentFrom r.0.words t 0 v) (sym content) r.2),
       )

@@ -1,18 +1,19 @@
 -- Free titles that come from actor 0 to a thread, and titles that are cut, one after the other: what a fill is in the core.
-use Rattle.std.proofs.Common.{◌≡◌, ℕ, ◌+◌, ◌<◌, ◌≤◌, List, [], ◌∷◌, refl, sym, ◌∙◌, subst, arith, inl, inr, ◌==◌, if◌then◌else◌}
+use Rattle.std.proofs.Common.{◌≡◌, ℕ, ◌+◌, ◌<◌, ◌≤◌, false, List, [], ◌∷◌, refl, sym, subst, arith, inl, inr, ◌==◌, if◌then◌else◌}
 use Rattle.std.specs.Prelude.{Contains}
 use Rattle.std.proofs.lemmas.Bool.{cases_eq, eq-eqb, ne_eqb}
 use Rattle.pa_slot.specs.declared.word.SlotName.{SlotName}
 use Rattle.pa_slot.specs.declared.title.Title.{Title}
 use Rattle.pa_machine.specs.declared.event.Item.TheVariants.{Free as FreeItem}
 use Rattle.pa_machine.specs.declared.event.Event.TheVariants.{Hand}
-use Rattle.pa_slot.specs.Holdings.{FreePiece, Thing, FreeTitle, OwnOf, RefOf, held_in}
+use Rattle.pa_slot.specs.Holdings.{FreePiece, FreeTitle, OwnOf, RefOf, held_in}
 use Rattle.pa_machine.specs.Events.{State, of_actor}
 use Rattle.pa_machine.proofs.Parts.{free_none}
 use Rattle.pa_machine.proofs.Lasting.{run_start}
 use Rattle.pa_machine.proofs.Totals.{of_actor_here, of_actor_apart}
 use Rattle.pa_record.specs.Spans.{name_of}
 use Rattle.pa_lists.proofs.Members.{first_in, later_in, in_cases, not_in_none}
+use Rattle.pa_core_steps.proofs.Exchanging.{none_of}
 use Rattle.pa_core_steps.proofs.Joining.{run_join}
 use Rattle.pa_rules.specs.Once.{once}
 use Rattle.pa_core_run.specs.Ledger.{Ledger, Titles, IsShown, IsPaid}
@@ -29,14 +30,16 @@ kept_without K ts u = K u × (Contains ts u → ⊥)
 
 module _ (names : Titles) (actors bytes k : ℕ) (some : 0 < k) (below : k < actors) (unique : HaveNames names.Made) where
   -- one title comes
-  one_comes : (b : Ledger) (free : ℕ → SlotName → ℕ) (K : Title → Type 0) (s : State) (t : Title) → IsShown (keeping names K) actors bytes b s → names.Made t → K t →
+  one_comes : (b : Ledger) (free : ℕ → SlotName → ℕ) (K : Title → Type 0) (s : State) (t : Title) →
+      IsShown (keeping names K) actors bytes b s → names.Made t → K t →
       ((x : SlotName) → free k x ≤ b.free k x + once x (name_of t)) → ((j : ℕ) (x : SlotName) → (j ≡ k → ⊥) → free j x ≤ b.free j x) →
-      (after : State) × IsHanded (keeping names (kept_without K (t ∷ []))) actors bytes (asking b free) s 0 k (FreeItem t) after
+      (after : State) × IsHanded (keeping names (kept_without K (t ∷ []))) actors bytes (asking b free) s 0 k (FreeItem t) false after
   one_comes b free K s t h made has more other =
       let holds = h.kept t has in
-      let paid : IsPaid names.Made b (asking b free) (of_actor 0 (FreePiece t ∷ [])) (of_actor k (FreePiece t ∷ [])) t (b.word (name_of t)) = record {
-        own = λ j u m. let z = no_handle j (OwnOf u) refl in omega arith;
-        ref = λ j u m. let z = no_handle j (RefOf u) refl in omega arith;
+      let paid : IsPaid names.Made b (asking b free) (of_actor 0 (FreePiece t ∷ [])) (of_actor k (FreePiece t ∷ [])) t
+      (b.word (name_of t)) = record {
+        own = λ j u m. let z = none_of 0 j (FreePiece t ∷ []) (OwnOf u) refl in omega arith;
+        ref = λ j u m. let z = none_of 0 j (FreePiece t ∷ []) (RefOf u) refl in omega arith;
         free = λ j u up m. elim (cases_eq j k) [
           | inl e ↦
               let a = more (name_of u) in
@@ -45,24 +48,21 @@ module _ (names : Titles) (actors bytes k : ℕ) (some : 0 < k) (below : k < act
               let p = free_piece names.Made t u unique made m in
               subst (λ i. free i (name_of u) + held_in (of_actor 0 (FreePiece t ∷ []) i) (FreeTitle u) ≤ b.free i (name_of u) + held_in
               (of_actor k (FreePiece t ∷ []) i) (FreeTitle u)) (sym e) (omega arith)
-          | inr ne ↦ let a = other j (name_of u) ne in let l = of_actor_apart 0 j (FreePiece t ∷ []) (FreeTitle u) (λ z. omega arith) in omega arith
+          | inr ne ↦ let a = other j (name_of u) ne in let l = of_actor_apart 0 j (FreePiece t ∷ []) (FreeTitle u) (λ z. omega arith) in
+              omega arith
         ];
         word_left = refl;
         words = λ x ne. refl;
         contents = λ x ne. refl;
       } in
-      hand_shown (keeping names K) (kept_without K (t ∷ [])) actors bytes b (asking b free) s 0 k (FreeItem t) t h (omega arith) below holds (free_title s 0 t holds) (free_pieces t) paid refl
+      hand_shown (keeping names K) (kept_without K (t ∷ [])) actors bytes b (asking b free) s 0 k (FreeItem t) false t h
+      (omega arith) below holds tt
+      (free_title s 0 t holds) (free_pieces t) paid refl
       (λ u kept.
       let l = of_actor_here 0 (FreePiece t ∷ []) (FreeTitle u) in
       let none = (free_none t u (λ e. kept.1 (subst (λ (v : Title). Contains (t ∷ []) v) e (first_in t [])))).free in
       let had = h.kept u kept.0 in
       omega arith)
-    where
-      no_handle : (j : ℕ) (thing : Thing) → held_in (FreePiece t ∷ []) thing ≡ 0 → held_in (of_actor 0 (FreePiece t ∷ []) j) thing ≡ 0
-      no_handle j thing none = elim (cases_eq j 0) [
-        | inl e ↦ subst (λ n. held_in (of_actor 0 (FreePiece t ∷ []) n) thing ≡ 0) (sym e) (of_actor_here 0 (FreePiece t ∷ []) thing ∙ none)
-        | inr ne ↦ of_actor_apart 0 j (FreePiece t ∷ []) thing ne
-      ]
 
   -- a batch comes, title by title
   pub batch_comes : (ts : List Title) (b : Ledger) (later : ℕ → SlotName → ℕ) (K : Title → Type 0) (s : State)
@@ -98,13 +98,15 @@ module _ (names : Titles) (actors bytes k : ℕ) (some : 0 < k) (below : k < act
           ],
         ),
       ))
-      alone.1 (λ x. let e = here x in let a = mine x in omega arith) (λ j x ne. let e = there j x ne in let a = other j x ne in omega arith) in (
+      alone.1 (λ x. let e = here x in let a = mine x in omega arith)
+      (λ j x ne. let e = there j x ne in let a = other j x ne in omega arith) in (
         rest.0,
         record {
           events = Hand 0 k (FreeItem t) ∷ rest.1.events;
           run = run_join s first.0 rest.0 (Hand 0 k (FreeItem t) ∷ []) rest.1.events h.good first.1.run rest.1.run;
           beside = ((inl refl, inr refl), rest.1.beside);
-          shown = asks_less names actors bytes k some below unique (asking b later) later (kept_without (kept_without K (t ∷ [])) ts) (kept_without K (t ∷ ts)) rest.0 rest.1.shown (λ j x. omega arith)
+          shown = asks_less names actors bytes k some below unique (asking b later) later (kept_without (kept_without K (t ∷ [])) ts)
+              (kept_without K (t ∷ ts)) rest.0 rest.1.shown (λ j x. omega arith)
               (λ u kept. (
                 (
                   kept.0,

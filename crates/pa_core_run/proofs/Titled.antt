@@ -22,15 +22,18 @@ use Rattle.pa_core_run.proofs.Named.{HasTitle, made_unique}
 use Rattle.pa_core_run.proofs.Bringing.{named_times}
 
 -- the slots in the threads' lists came from fills of their list's partition and class
-pub lists_known : (a : Parts) (n : ℕ) (before rest : List Played) (st : Standing) → IsFrontOf a n before rest st → (thread : ℕ) → IsKnown a.roots (st.caches thread)
-lists_known a n before rest st f = all_known a.partitions a.roots before _ st.caches (λ t p c m among. absurd (not_in_none m among)) f.caches
+pub lists_known : (a : Parts) (n : ℕ) (before rest : List Played) (st : Standing) → IsFrontOf a n before rest st → (thread : ℕ) →
+    IsKnown a.roots (st.caches thread)
+lists_known a n before rest st f =
+    all_known a.partitions a.roots before _ st.caches (λ t p c m among. absurd (not_in_none m among)) f.caches
 
 -- the titles of these slots, in their order
 pub record AreTitlesOf (a : Parts) (xs : List Numbered) (ts : List Title) : Type 0 where
   pub named : map name_of ts ≡ names xs
   pub made : (t : Title) → Contains ts t → MadeIn a t
 
-pub titles_for : (a : Parts) (xs : List Numbered) → ((m : Numbered) → Contains xs m → HasTitle a m.slot) → (ts : List Title) × AreTitlesOf a xs ts
+pub titles_for : (a : Parts) (xs : List Numbered) → ((m : Numbered) → Contains xs m → HasTitle a m.slot) → (ts : List Title) ×
+    AreTitlesOf a xs ts
 titles_for a [] titled = ([], record { named = refl; made = λ t among. absurd (not_in_none t among) })
 titles_for a (x ∷ xs) titled =
     let (t, made, name) = titled x (first_in x xs) in

@@ -50,10 +50,13 @@ use Rattle.pa_rules.proofs.Marking.{not_look}
 
 -- an answer that reports a step made the slot, or did the op
 abbrev Steps : Answer → Mark → Type 0
-Steps answer m = ((seen : Seen) × (usable : ℕ) × (answer ≡ answers.Made seen usable) × (seen.slot ≡ m.slot)) ⊎ ((seen : Seen) × (answer ≡ answers.Done seen) × (seen.slot ≡ m.slot))
+Steps answer m = ((seen : Seen) × (usable : ℕ) × (answer ≡ answers.Made seen usable) × (seen.slot ≡ m.slot)) ⊎
+    ((seen : Seen) × (answer ≡ answers.Done seen) × (seen.slot ≡ m.slot))
 
-who_steps : (line : ℕ) (op : Op) (answer : Answer) (m : Mark) (p : Step) → mark_of_answer line op answer ≡ Some m → m.step ≡ Some p → Steps answer m
-who_steps line op (answers.Made seen usable) m p is step = inl (seen, usable, refl, ap (λ (z : Mark). z.slot) (of_some (mark_at line seen (Some Issue)) m is))
+who_steps : (line : ℕ) (op : Op) (answer : Answer) (m : Mark) (p : Step) → mark_of_answer line op answer ≡ Some m → m.step ≡ Some p →
+    Steps answer m
+who_steps line op (answers.Made seen usable) m p is step =
+    inl (seen, usable, refl, ap (λ (z : Mark). z.slot) (of_some (mark_at line seen (Some Issue)) m is))
 who_steps line op (answers.Done seen) m p is step = inr (seen, refl, ap (λ (z : Mark). z.slot) (of_some _ m is))
 who_steps line op (answers.Value seen value) m p is step = absurd (not_look line (Some seen) m p is step)
 who_steps line op (answers.Dangling seen value) m p is step = absurd (not_look line (Some seen) m p is step)
@@ -70,6 +73,7 @@ who_steps line op answers.TooLarge m p is step = absurd (not_some m is)
 who_steps line op (answers.Full entry) m p is step = absurd (not_some m is)
 who_steps line op (answers.Swapped entry) m p is step = absurd (not_some m is)
 who_steps line op (answers.Purged slots) m p is step = absurd (not_some m is)
+who_steps line op answers.Uncounted m p is step = absurd (not_some m is)
 
 -- ---- the word of a slot that no record made
 
@@ -78,12 +82,14 @@ module _ (a : Parts) (h : IsFiled a) (s : SlotName) where
   Known ps = (word_after ps s ≡ 0) ⊎ IsMadeIn ps s
 
   one_more : (done : List Played) (x : Played) (rest : List Played) → a.ps ≡ done ++ x ∷ rest → Known done → Known (done ++ x ∷ [])
-  one_more done x rest parts (inr (q, seen, usable, among, is, slot)) = inr (q, seen, usable, Contains-append_left done (x ∷ []) q among, is, slot)
+  one_more done x rest parts (inr (q, seen, usable, among, is, slot)) =
+      inr (q, seen, usable, Contains-append_left done (x ∷ []) q among, is, slot)
   one_more done x rest parts (inl zero) = by_mark (mark_of x) refl
     where
       by_step : (m : Mark) (o : Option Step) → mark_of x ≡ Some m → m.step ≡ o → m.slot ≡ s → Known (done ++ x ∷ [])
       by_step m None is step e =
-          inl (subst (λ z. word_after (done ++ x ∷ []) z ≡ 0) e (word_here done x m is ∙ (ap (λ o. stepped_by o (word_after done m.slot)) step ∙ (ap (word_after done) e ∙ zero))))
+          inl (subst (λ z. word_after (done ++ x ∷ []) z ≡ 0) e
+          (word_here done x m is ∙ (ap (λ o. stepped_by o (word_after done m.slot)) step ∙ (ap (word_after done) e ∙ zero))))
       by_step m (Some p) is step e = elim (who_steps x.line x.op x.answer m p is step) [
         | inl (seen, usable, answer, slot) ↦ inr (x, seen, usable, Contains-append_right done (x ∷ []) x (first_in x []), answer, slot ∙ e)
         | inr (seen, answer, slot) ↦
@@ -102,7 +108,8 @@ module _ (a : Parts) (h : IsFiled a) (s : SlotName) where
   all_more done [] more parts known = subst (λ z. Known z) (sym (append-nil done)) known
   all_more done (x ∷ todo) more parts known =
       subst (λ z. Known z) (append_assoc done (x ∷ []) todo)
-      (all_more (done ++ x ∷ []) todo more (parts ∙ sym (append_assoc done (x ∷ []) (todo ++ more))) (one_more done x (todo ++ more) parts known))
+      (all_more (done ++ x ∷ []) todo more (parts ∙ sym (append_assoc done (x ∷ []) (todo ++ more)))
+      (one_more done x (todo ++ more) parts known))
 
   pub word_or_made : (before rest : List Played) → a.ps ≡ before ++ rest → (word_after before s ≡ 0) ⊎ IsMadeIn before s
   word_or_made before rest parts = all_more [] before rest parts (inl refl)
@@ -123,13 +130,17 @@ module _ (a : Parts) (h : IsFiled a) where
     leaves : Contains (leaves_by e.act) s
     out : IsNameOut (root_at a (q.line + 1) p) s
 
-  leaving : (q : Played) (seen : Seen) (usable : ℕ) → Contains a.ps q → q.answer ≡ answers.Made seen usable → (p : ℕ) × (e : RootEntry) × Contains (a.roots p) e × Contains (leaves_by e.act) seen.slot
+  leaving : (q : Played) (seen : Seen) (usable : ℕ) → Contains a.ps q → q.answer ≡ answers.Made seen usable → (p : ℕ) × (e : RootEntry) ×
+      Contains (a.roots p) e × Contains (leaves_by e.act) seen.slot
   leaving q seen usable among answer = elim (made_class a q seen usable h among answer) [
-    | inl (p, c, asks, (e, asked, slots, there, is, member)) ↦ (p, e, there, subst (λ act. Contains (leaves_by act) seen.slot) (sym is) member)
-    | inr (p, n, asks, (e, asked, len, there, is)) ↦ (p, e, there, subst (λ act. Contains (leaves_by act) seen.slot) (sym is) (first_in seen.slot []))
+    | inl (p, c, asks, (e, asked, slots, there, is, member)) ↦
+        (p, e, there, subst (λ act. Contains (leaves_by act) seen.slot) (sym is) member)
+    | inr (p, n, asks, (e, asked, len, there, is)) ↦
+        (p, e, there, subst (λ act. Contains (leaves_by act) seen.slot) (sym is) (first_in seen.slot []))
   ]
 
-  made_out : (q : Played) (seen : Seen) (usable : ℕ) → Contains a.ps q → q.answer ≡ answers.Made seen usable → (p : ℕ) × (e : RootEntry) × IsOutAfter q seen.slot p e
+  made_out : (q : Played) (seen : Seen) (usable : ℕ) → Contains a.ps q → q.answer ≡ answers.Made seen usable → (p : ℕ) × (e : RootEntry) ×
+      IsOutAfter q seen.slot p e
   made_out q seen usable among answer =
       let (before, rest, parts) = parts_at a.ps q among in
       let (all, next, to, row) = record_row a before rest q h parts in
@@ -138,7 +149,8 @@ module _ (a : Parts) (h : IsFiled a) where
       let marked : mark_of q ≡ Some m = rw answer refl in
       let can = step_can a before rest q m Issue h parts marked refl in
       let (free, alone, bit, refs) = stepped_is Issue m.found can in
-      let word : word_after (before ++ q ∷ []) seen.slot ≡ stepped Issue m.found = word_here before q m marked ∙ ap (stepped Issue) (sym (found_is a before rest q m h parts marked)) in
+      let word : word_after (before ++ q ∷ []) seen.slot ≡ stepped Issue m.found = word_here before q m marked ∙
+      ap (stepped Issue) (sym (found_is a before rest q m h parts marked)) in
       let used = ap busy word ∙ busy_some (stepped Issue m.found) (omega arith) in
       elim (once a (q.line + 1) p (before ++ q ∷ []) rest (with_cache all q.thread next) seen.slot e h (cut_next a before rest q h parts)
       (caches_snoc a.partitions a.roots no_caches all before q next to row) (entry_inside p e there) there leaves) [
@@ -163,7 +175,8 @@ module _ (a : Parts) (h : IsFiled a) where
   ]
 
   -- as a slot's that comes by the line
-  pub new_word : (before rest : List Played) (n p : ℕ) (t : Title) → IsCut a n before rest → IsMade (root_at a (n + 1) p) t → (IsMade (root_at a n p) t → ⊥) → word_after before (name_of t) ≡ 0
+  pub new_word : (before rest : List Played) (n p : ℕ) (t : Title) → IsCut a n before rest → IsMade (root_at a (n + 1) p) t →
+      (IsMade (root_at a n p) t → ⊥) → word_after before (name_of t) ≡ 0
   new_word before rest n p t cut made new = never_word before rest n p t cut (inl mine) never
     where
       mine : IsMade (root_replayed a.pools (a.roots p) new_root) t

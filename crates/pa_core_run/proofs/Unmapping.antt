@@ -49,9 +49,11 @@ use Rattle.pa_core_run.proofs.Stepped.{given_st}
 use Rattle.pa_core_run.proofs.Returned.{titles_back}
 use Rattle.pa_record.proofs.Leaving.{slot_out, name_cases}
 
-module _ (a : Parts) (before rest : List Played) (x : Played) (h : IsFiled a) (parts : a.ps ≡ before ++ x ∷ rest) (st : Standing) (f : IsFrontOf a x.line before (x ∷ rest) st) (s : State)
+module _ (a : Parts) (before rest : List Played) (x : Played) (h : IsFiled a) (parts : a.ps ≡ before ++ x ∷ rest) (st : Standing)
+    (f : IsFrontOf a x.line before (x ∷ rest) st) (s : State)
     (shown : IsShown (titles_in a (root_at a x.line)) (a.threads + 1) (2097152 * a.supers) (ledger_of a.partitions st) s)
-    (p asked len : ℕ) (slot : Numbered) (only : OnlyActs a.roots x.line p (Unmap asked slot ∷ [])) (mapped : Contains (root_at a x.line p).maps (map_title slot.slot len)) where
+    (p asked len : ℕ) (slot : Numbered) (only : OnlyActs a.roots x.line p (Unmap asked slot ∷ []))
+    (mapped : Contains (root_at a x.line p).maps (map_title slot.slot len)) where
   abbrev gone : Title
   gone = map_title slot.slot len
 
@@ -72,12 +74,17 @@ module _ (a : Parts) (before rest : List Played) (x : Played) (h : IsFiled a) (p
   stays_there : (u : Title) → IsThere old_root u → (gone ≡ u → ⊥) → IsThere (unmapped slot.slot old_root) u
   stays_there u (inl made) ne = inl made
   stays_there u (inr member) ne =
-      inr (other_stays slot.slot old_root.maps u member (λ same. ne (one_by (λ (z : Title). z.born) old_root.maps gone u sound_old.alone mapped member (sym same))))
+      inr (other_stays slot.slot old_root.maps u member
+      (λ same. ne (one_by (λ (z : Title). z.born) old_root.maps gone u sound_old.alone mapped member (sym same))))
 
   there_next : (u : Title) → ThereIn (root_at a x.line) u → (gone ≡ u → ⊥) → ThereIn (root_at a (x.line + 1)) u
   there_next u (q, there) ne = elim (cases_eq q p) [
     | inl e ↦ (p, subst (λ (r : Root). IsThere r u) (sym next_is) (stays_there u (subst (λ z. IsThere (root_at a x.line z) u) e there) ne))
-    | inr other ↦ (q, subst (λ (r : Root). IsThere r u) (sym (root_other a before rest x h parts st f p (Unmap asked slot) only q other)) there)
+    | inr other ↦ (
+      q,
+      subst (λ (r : Root). IsThere r u)
+          (sym (root_other a before rest x h parts st f p (Unmap asked slot) only q other)) there,
+    )
   ]
 
   -- a slot that is out stays out
@@ -91,7 +98,8 @@ module _ (a : Parts) (before rest : List Played) (x : Played) (h : IsFiled a) (p
   kept_next u (q, made, away) = elim (cases_eq q p) [
     | inl e ↦
         let made_now = subst (λ (r : Root). IsMade r u) next_is (subst (λ z. IsMade (root_at a (x.line + 1) z) u) e made) in
-        let away_now = subst (λ (r : Root). IsNameOut r (name_of u) → ⊥) next_is (subst (λ z. IsNameOut (root_at a (x.line + 1) z) (name_of u) → ⊥) e away) in (
+        let away_now = subst (λ (r : Root). IsNameOut r (name_of u) → ⊥) next_is
+        (subst (λ z. IsNameOut (root_at a (x.line + 1) z) (name_of u) → ⊥) e away) in (
           inl (p, made_now, λ out. away_now (slot_stays u made_now out)),
           λ same. slot_not_map old_root u gone sound_old made_now mapped (ap name_of (sym same)),
         )
@@ -110,7 +118,9 @@ module _ (a : Parts) (before rest : List Played) (x : Played) (h : IsFiled a) (p
 
   inside : p < a.partitions
   inside =
-      let (e, member, line, is) = act_entry a.roots x.line p (Unmap asked slot) (subst (λ xs. Contains xs (Unmap asked slot)) (sym only.0) (first_in (Unmap asked slot) [])) in
+      let (e, member, line, is) =
+      act_entry a.roots x.line p (Unmap asked slot)
+      (subst (λ xs. Contains xs (Unmap asked slot)) (sym only.0) (first_in (Unmap asked slot) [])) in
       entry_inside a h p e member
 
   lists_fall : SameLists (cache_left a before rest x h parts st f) (st.caches x.thread) → (y : SlotName) →
@@ -131,7 +141,8 @@ module _ (a : Parts) (before rest : List Played) (x : Played) (h : IsFiled a) (p
   -- ---- the line
 
   pub map_goes : SameLists (cache_left a before rest x h parts st f) (st.caches x.thread) → (mid : State) →
-      IsShown (titles_in a (root_at a x.line)) (a.threads + 1) (2097152 * a.supers) (ledger_of a.partitions (given_st a before rest x h parts st f s shown list_back_with)) mid →
+      IsShown (titles_in a (root_at a x.line)) (a.threads + 1) (2097152 * a.supers)
+      (ledger_of a.partitions (given_st a before rest x h parts st f s shown list_back_with)) mid →
       (after : State) × IsReached (names_next a before rest x h parts st f s shown) (a.threads + 1) (2097152 * a.supers)
       (ledger_of a.partitions (given_st a before rest x h parts st f s shown (cache_left a before rest x h parts st f))) mid
       (suc x.thread) after
@@ -142,7 +153,8 @@ module _ (a : Parts) (before rest : List Played) (x : Played) (h : IsFiled a) (p
       let names_mid = keeping (titles_in a (root_at a x.line)) (kept_with (KeptIn (root_at a x.line)) (gone ∷ [])) in
       let (back, b) = titles_back a before rest x h parts st f s shown (gone ∷ []) list_back_with mid now
       (λ t member. subst (λ v. MadeIn a v) (in_one gone t member) (p, gone_made)) (lists_fall same) in
-      let (after, run, raw) = uncut_shown names_mid (KeptIn (root_at a (x.line + 1))) actors bytes ledger back gone b.shown (omega arith) (b.shown.kept gone (inr (first_in gone []))) kept_next in (
+      let (after, run, raw) = uncut_shown names_mid (KeptIn (root_at a (x.line + 1))) actors bytes ledger back gone b.shown (omega arith)
+      (b.shown.kept gone (inr (first_in gone []))) kept_next in (
         after,
         record {
           events = b.events ++ Uncut 0 gone ∷ [];

@@ -46,7 +46,8 @@ all_own t (ps ∷ hs) some =
 
 module _ (names : Titles) (actors bytes : ℕ) (b : Ledger) (s : State) (shown : IsShown names actors bytes b s) where
   -- a slot that is held has its content
-  pub held_content : (t : Title) (place : ℕ) → IsTitleHeld (total_of s) t → held_of (count_word s.words t) ≡ 1 → place < content_count t → content_at s.words t place ≡ b.content (name_of t)
+  pub held_content : (t : Title) (place : ℕ) → IsTitleHeld (total_of s) t → held_of (count_word s.words t) ≡ 1 → place < content_count t →
+      content_at s.words t place ≡ b.content (name_of t)
   held_content t place held bit inside =
       let owns = (shown.good.counted t held).owns in
       let (o, has) = all_own t s.holdings (omega arith) in
@@ -55,14 +56,16 @@ module _ (names : Titles) (actors bytes : ℕ) (b : Ledger) (s : State) (shown :
       shown.contents t (subst P clean has) place (omega arith) inside
 
   -- a slot that was freed and is pointed to has poison
-  pub freed_content : (k : ℕ) (t : Title) (place : ℕ) → HasHandle s k t → held_of (count_word s.words t) ≡ 0 → place < content_count t → content_at s.words t place ≡ poison
+  pub freed_content : (k : ℕ) (t : Title) (place : ℕ) → HasHandle s k t → held_of (count_word s.words t) ≡ 0 → place < content_count t →
+      content_at s.words t place ≡ poison
   freed_content k t place handle bit inside =
       let held = handle_held s k t handle in
       let counted = shown.good.counted t held in
       let owns = counted.owns in
       let refs = counted.refs in
       elim handle [
-        | inl own ↦ absurd (let p = own_of_state (total_of s) t Clean (tally_of s.holdings) (in_total s k (OwnAs t Clean) own) in omega arith)
+        | inl own ↦ absurd (let p = own_of_state (total_of s) t Clean (tally_of s.holdings) (in_total s k (OwnAs t Clean) own) in
+            omega arith)
         | inr ref ↦
             let p = in_total s k (RefOf t) ref in
             (shown.good.poison_kept t held).quarantine (bit, omega arith) place inside
@@ -82,7 +85,8 @@ usable_step (answers.Made seen usable) y n = elim (same_slot_cases seen.slot y) 
 ]
 usable_step answer y n = inr refl
 
-made_tells : (answer : Answer) (seen : Seen) (usable : ℕ) (y : SlotName) (n : ℕ) → answer ≡ answers.Made seen usable → seen.slot ≡ y → usable_or (made_of answer) y n ≡ usable
+made_tells : (answer : Answer) (seen : Seen) (usable : ℕ) (y : SlotName) (n : ℕ) → answer ≡ answers.Made seen usable → seen.slot ≡ y →
+    usable_or (made_of answer) y n ≡ usable
 made_tells answer seen usable y n is slot =
     let P : Answer → Type 0 = λ z. usable_or (made_of z) y n ≡ usable in
     let there : P (answers.Made seen usable) = rw (same_slot_yes seen.slot y slot) refl in
@@ -98,7 +102,9 @@ usable_made (p ∷ ps) y (q, seen, usable, among, is, slot) = elim (usable_step 
       p,
       seen,
       first_in p ps,
-      ap (λ (z : Played). z.answer) here ∙ (is ∙ ap {B = Answer} (λ k. answers.Made seen k) (sym (made_tells p.answer seen usable y (usable_in ps y) (ap (λ (z : Played). z.answer) here ∙ is) slot))),
+      ap (λ (z : Played). z.answer) here ∙
+          (is ∙ ap {B = Answer} (λ k. answers.Made seen k)
+          (sym (made_tells p.answer seen usable y (usable_in ps y) (ap (λ (z : Played). z.answer) here ∙ is) slot))),
       slot,
     )
     | inr later ↦

@@ -26,19 +26,24 @@ use Rattle.pa_core_run.specs.Standing.{ledger_of}
 use Rattle.pa_core_run.specs.Fronts.{MadeIn, titles_in, ShowsFront, CanBePlayed}
 
 -- a record that is played is a run of the core
-pub played_run : (Made : Title → Type 0) (x : Played) (s next : State) (events : List Event) → IsGoodState s → IsPlayedAs Made x s events next → IsRunTo s events next
+pub played_run : (Made : Title → Type 0) (x : Played) (s next : State) (events : List Event) → IsGoodState s →
+    IsPlayedAs Made x s events next → IsRunTo s events next
 played_run Made x s next events good p =
     let good2 = run_good s p.mid p.first good p.prepares in
-    let run = run_join s p.mid next p.first (told_events x p.title ++ p.last) good p.prepares (run_join p.mid p.after next (told_events x p.title) p.last good2 p.tells p.clears) in
+    let run = run_join s p.mid next p.first (told_events x p.title ++ p.last) good p.prepares
+    (run_join p.mid p.after next (told_events x p.title) p.last good2 p.tells p.clears) in
     subst (λ es. IsRunTo s es next) (sym p.parts) run
 
 -- if no entry and no exchange comes between two lines, the later one has the same before it
-front_later : (a : Parts) (n m : ℕ) (before rest : List Played) (s : State) → IsFiled a → IsCut a n before rest → n ≤ m → ((x : Played) → Contains rest x → m ≤ x.line) →
+front_later : (a : Parts) (n m : ℕ) (before rest : List Played) (s : State) → IsFiled a → IsCut a n before rest → n ≤ m →
+    ((x : Played) → Contains rest x → m ≤ x.line) →
     ShowsFront a n before rest s → ShowsFront a m before rest s
 front_later a n m before rest s h cut up late shows =
     let gap = recorded_cases a n m before rest cut late in
-    let cells : (k : ℕ) → below cell_line n (a.cells k) ≡ below cell_line m (a.cells k) = λ k. below_gap cell_line n m (a.cells k) up (λ e among. gap e.line (cells_recorded a k e h among)) in
-    let journals : (p : ℕ) → below entry_line n (a.roots p) ≡ below entry_line m (a.roots p) = λ p. below_gap entry_line n m (a.roots p) up (λ e among. gap e.line (entries_recorded a p e h among)) in
+    let cells : (k : ℕ) → below cell_line n (a.cells k) ≡ below cell_line m (a.cells k) =
+    λ k. below_gap cell_line n m (a.cells k) up (λ e among. gap e.line (cells_recorded a k e h among)) in
+    let journals : (p : ℕ) → below entry_line n (a.roots p) ≡ below entry_line m (a.roots p) =
+    λ p. below_gap entry_line n m (a.roots p) up (λ e among. gap e.line (entries_recorded a p e h among)) in
     let roots : root_at a n ≡ root_at a m = λ i p. root_replayed a.pools (journals p i) new_root in
     record {
       st = shows.st;
@@ -51,7 +56,8 @@ front_later a n m before rest s h cut up late shows =
         words = shows.front.words;
         contents = shows.front.contents;
       };
-      shown = subst (λ (root : ℕ → Root). IsShown (titles_in a root) (a.threads + 1) (2097152 * a.supers) (ledger_of a.partitions shows.st) s) roots shows.shown;
+      shown = subst (λ (root : ℕ → Root). IsShown (titles_in a root) (a.threads + 1) (2097152 * a.supers)
+          (ledger_of a.partitions shows.st) s) roots shows.shown;
     }
 
 -- The rest of the records is played from this state, by events that lead to a last one.
@@ -62,16 +68,19 @@ pub record IsWalked (a : Parts) (rest : List Played) (s : State) : Type 0 where
   pub plays : PlaysTo (MadeIn a) s rest events last
 
 pub walked : (a : Parts) (n : ℕ) (before rest : List Played) (s : State) → IsFiled a → IsCut a n before rest →
-    ((first : List Played) (x : Played) (then : List Played) → a.ps ≡ first ++ x ∷ then → CanBePlayed a first x then) → ShowsFront a n before rest s → IsWalked a rest s
+    ((first : List Played) (x : Played) (then : List Played) → a.ps ≡ first ++ x ∷ then → CanBePlayed a first x then) →
+    ShowsFront a n before rest s → IsWalked a rest s
 walked a n before [] s h cut each shows = record { events = []; last = s; run = run_start s shows.shown.good; plays = (refl, refl) }
 walked a n before (x ∷ rest) s h cut each shows =
-    let here = front_later a n x.line before (x ∷ rest) s h cut (cut.late x (first_in x rest)) (cut_here a before rest x h cut.parts).late shows in
+    let here = front_later a n x.line before (x ∷ rest) s h cut (cut.late x (first_in x rest))
+    (cut_here a before rest x h cut.parts).late shows in
     let (next, (events, played), shows2) = each before x rest cut.parts s here in
     let more = walked a (x.line + 1) (before ++ x ∷ []) rest next h (cut_next a before rest x h cut.parts) each shows2 in
     record {
       events = events ++ more.events;
       last = more.last;
-      run = run_join s next more.last events more.events shows.shown.good (played_run (MadeIn a) x s next events shows.shown.good played) more.run;
+      run = run_join s next more.last events more.events shows.shown.good
+          (played_run (MadeIn a) x s next events shows.shown.good played) more.run;
       plays = (events, next, more.events, refl, played, more.plays);
     }
 

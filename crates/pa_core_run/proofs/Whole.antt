@@ -30,7 +30,8 @@ module _ (a : Parts) (before rest : List Played) (x : Played) (h : IsFiled a) (s
   Plays_it = Outcome a before rest x h parts shows.st shows.front s shows.shown
 
   -- the row of the lists, by the answer
-  row_as : (answer : Answer) → x.answer ≡ answer → CacheRow a.partitions a.roots x answer (shows.st.caches x.thread) (cache_left a before rest x h parts shows.st shows.front)
+  row_as : (answer : Answer) → x.answer ≡ answer →
+      CacheRow a.partitions a.roots x answer (shows.st.caches x.thread) (cache_left a before rest x h parts shows.st shows.front)
   row_as answer is = subst (λ z. CacheRow a.partitions a.roots x z (shows.st.caches x.thread)
       (cache_left a before rest x h parts shows.st shows.front)) is (cache_row a before rest x h parts shows.st shows.front)
 
@@ -61,6 +62,7 @@ module _ (a : Parts) (before rest : List Played) (x : Played) (h : IsFiled a) (s
   by_answer (answers.StaleUse seen) is = quiet (answers.StaleUse seen) is (λ row. row.0)
   by_answer answers.Nothing is = quiet answers.Nothing is (λ row. row.0)
   by_answer answers.Filled is = quiet answers.Filled is (λ row. row.0)
+  by_answer answers.Uncounted is = quiet answers.Uncounted is (λ row. row.0)
   by_answer answers.NotRef is = quiet answers.NotRef is (λ row. row.0)
   by_answer (answers.Shared seen) is = quiet (answers.Shared seen) is (λ row. row.0)
   by_answer answers.OutOfRange is = quiet answers.OutOfRange is (λ row. row.0)
@@ -72,4 +74,5 @@ pub files_are_played : FileRunsArePlayed
 files_are_played t r limits filed_run =
     let a = parts_of t (told_by r) in
     let h = filed t (told_by r) limits filed_run in
-    walks_whole t r limits filed_run (λ before x rest parts. λ s shows. by_answer a before rest x h (limits.head.1.0) parts s shows x.answer refl)
+    walks_whole t r limits filed_run
+    (λ before x rest parts. λ s shows. by_answer a before rest x h (limits.head.1.0) parts s shows x.answer refl)

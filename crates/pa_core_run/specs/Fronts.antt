@@ -56,4 +56,5 @@ pub record ShowsFront (a : Parts) (n : ℕ) (before rest : List Played) (s : Sta
 -- The next record can be played whenever the core shows the state before it, and leads to the state before the next line.
 abbrev pub CanBePlayed : Parts → List Played → Played → List Played → Type 0
 CanBePlayed a before x rest =
-    (s : State) → ShowsFront a x.line before (x ∷ rest) s → (next : State) × Plays (MadeIn a) x s next × ShowsFront a (x.line + 1) (before ++ x ∷ []) rest next
+    (s : State) → ShowsFront a x.line before (x ∷ rest) s →
+    (next : State) × Plays (MadeIn a) x s next × ShowsFront a (x.line + 1) (before ++ x ∷ []) rest next

@@ -41,7 +41,8 @@ RefusedRecordsArePlayed =
 -- are cut, and those that a fill takes, or the direct map's, come to the thread before the slot is issued.
 abbrev pub MadeRecordsArePlayed : Type 0
 MadeRecordsArePlayed =
-    (t : Trace) (r : Run) → IsWithinLimits t → IsFileRun t r → (before : List Played) (x : Played) (rest : List Played) (seen : Seen) (usable : ℕ) →
+    (t : Trace) (r : Run) → IsWithinLimits t → IsFileRun t r →
+    (before : List Played) (x : Played) (rest : List Played) (seen : Seen) (usable : ℕ) →
     records_of t (told_by r) ≡ before ++ x ∷ rest → x.answer ≡ Made seen usable → CanBePlayed (parts_of t (told_by r)) before x rest
 
 -- Each free or reset that returned a slot to a list which spilled can be played: what doesn't stay of the list goes back to the root.
@@ -51,8 +52,8 @@ SpilledRecordsArePlayed =
     (seen : Seen) (p : ℕ) (slots : List Numbered) → records_of t (told_by r) ≡ before ++ x ∷ rest → x.answer ≡ Done seen →
     Contains (acts_of (told_by r).roots x.line p) (Give slots) → CanBePlayed (parts_of t (told_by r)) before x rest
 
--- Each reset or free that gave back a direct map can be played: its line has an Unmap. The step leaves the map's free title, which goes
--- to actor 0 and is uncut.
+-- Each reset or free that gave back a direct map can be played: its line has an Unmap. The step leaves the map's free title,
+-- which goes to actor 0 and is uncut.
 abbrev pub UnmappedRecordsArePlayed : Type 0
 UnmappedRecordsArePlayed =
     (t : Trace) (r : Run) → IsWithinLimits t → IsFileRun t r → (before : List Played) (x : Played) (rest : List Played) →

@@ -1,12 +1,12 @@
 -- What the core shows of a run so far, by the names of slots.
-use Rattle.std.specs.Prelude.{◌≡◌, ℕ, ◌+◌, ◌*◌, ◌<◌, ◌≤◌, List, length}
+use Rattle.std.specs.Prelude.{◌≡◌, ℕ, ◌+◌, ◌*◌, ◌<◌, ◌≤◌, false, List, length}
 use Rattle.pa_slot.specs.declared.word.SlotName.{SlotName}
 use Rattle.pa_slot.specs.declared.title.Title.{Title}
 use Rattle.pa_slot.specs.declared.title.OwnState.{OwnState}
 use Rattle.pa_slot.specs.declared.title.OwnState.TheVariants.{Clean}
 use Rattle.pa_slot.specs.Titles.{count_word, HasContentFrom}
 use Rattle.pa_slot.specs.Holdings.{Piece, RawByte, FreeTitle, OwnOf, OwnAs, RefOf, IsTitleHeld, held_in}
-use Rattle.pa_machine.specs.Events.{State, Holds, held_by, total_of}
+use Rattle.pa_machine.specs.Events.{State, Holds, held_by, total_of, IsSealedAs}
 use Rattle.pa_machine.specs.Trail.{IsGoodState}
 use Rattle.pa_record.specs.Spans.{name_of}
 
@@ -30,7 +30,7 @@ pub record Titles : Type 1 where
 --   free: each thread has at least the free slots that it is to have
 --   kept: actor 0 has the free slots of the roots
 --   words, contents: the count word of each title that is held is its slot's word, and a clean Own's content is its content
---   clean: between two records each Own is clean
+--   clean, sealed: between two records each Own is clean, and none is sealed
 --   raw: no thread has raw bytes
 --   there: each title that is held exists
 pub record IsShown (names : Titles) (actors bytes : ℕ) (b : Ledger) (s : State) : Type 0 where
@@ -44,15 +44,19 @@ pub record IsShown (names : Titles) (actors bytes : ℕ) (b : Ledger) (s : State
   pub words : (t : Title) → IsTitleHeld (total_of s) t → count_word s.words t ≡ b.word (name_of t)
   pub contents : (t : Title) → 0 < total_of s (OwnAs t Clean) → HasContentFrom s.words t 0 (b.content (name_of t))
   pub clean : (t : Title) (a : OwnState) → 0 < total_of s (OwnAs t a) → a ≡ Clean
+  pub sealed : (k : ℕ) (t : Title) → k < actors → IsSealedAs s k t false
   pub raw : (k byte : ℕ) → 0 < k → k < actors → held_by s k (RawByte byte) ≡ 0
   pub there : (t : Title) → IsTitleHeld (total_of s) t → names.There t
 
 -- After these pieces were lost and gained, each actor is to hold of the titles that are made no more than before, with what was gained
 -- and without what was lost. Only the word and the content of one slot change, and its word becomes this.
 pub record IsPaid (Made : Title → Type 0) (b next : Ledger) (lost gained : ℕ → List Piece) (t : Title) (word : ℕ) : Type 0 where
-  pub own : (k : ℕ) (u : Title) → Made u → next.own k (name_of u) + held_in (lost k) (OwnOf u) ≤ b.own k (name_of u) + held_in (gained k) (OwnOf u)
-  pub ref : (k : ℕ) (u : Title) → Made u → next.ref k (name_of u) + held_in (lost k) (RefOf u) ≤ b.ref k (name_of u) + held_in (gained k) (RefOf u)
-  pub free : (k : ℕ) (u : Title) → 0 < k → Made u → next.free k (name_of u) + held_in (lost k) (FreeTitle u) ≤ b.free k (name_of u) + held_in (gained k) (FreeTitle u)
+  pub own : (k : ℕ) (u : Title) → Made u →
+      next.own k (name_of u) + held_in (lost k) (OwnOf u) ≤ b.own k (name_of u) + held_in (gained k) (OwnOf u)
+  pub ref : (k : ℕ) (u : Title) → Made u →
+      next.ref k (name_of u) + held_in (lost k) (RefOf u) ≤ b.ref k (name_of u) + held_in (gained k) (RefOf u)
+  pub free : (k : ℕ) (u : Title) → 0 < k → Made u →
+      next.free k (name_of u) + held_in (lost k) (FreeTitle u) ≤ b.free k (name_of u) + held_in (gained k) (FreeTitle u)
   pub word_left : next.word (name_of t) ≡ word
   pub words : (x : SlotName) → (x ≡ name_of t → ⊥) → next.word x ≡ b.word x
   pub contents : (x : SlotName) → (x ≡ name_of t → ⊥) → next.content x ≡ b.content x

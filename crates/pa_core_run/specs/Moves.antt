@@ -76,7 +76,8 @@ TitlesCanBeUncut =
 abbrev pub SlotsCanGoBack : Type 0
 SlotsCanGoBack =
     (ts made there kept : List Title) (actors bytes k : ℕ) (b : Ledger) (rest : ℕ → SlotName → ℕ) (s : State) →
-    0 < k → k < actors → HaveNames (Contains made) → IsShown (listed_titles made there kept) actors bytes b s → ((t : Title) → Contains ts t → Contains made t) →
+    0 < k → k < actors → HaveNames (Contains made) → IsShown (listed_titles made there kept) actors bytes b s →
+    ((t : Title) → Contains ts t → Contains made t) →
     ((x : SlotName) → rest k x + named_in x ts ≤ b.free k x) → ((j : ℕ) (x : SlotName) → (j ≡ k → ⊥) → rest j x ≤ b.free j x) →
     (after : State) × IsReached (listed_titles made there (kept ++ ts)) actors bytes (asking b rest) s k after
 

@@ -4,7 +4,7 @@ use Rattle.std.specs.Prelude.{◌≡◌, ℕ, ◌+◌, ◌*◌, ◌<◌, ◌⊎�
 use Rattle.pa_slot.specs.declared.word.Step.{Step}
 use Rattle.pa_slot.specs.declared.title.Title.{Title}
 use Rattle.pa_machine.specs.declared.event.Event.{Event}
-use Rattle.pa_machine.specs.declared.event.Event.TheVariants.{Count, Store, Poison, Load, Hand, Cut, Uncut}
+use Rattle.pa_machine.specs.declared.event.Event.TheVariants.{Count, Sealed, Store, Poison, Load, Hand, Cut, Uncut}
 use Rattle.pa_slot.specs.Run.{Mark}
 use Rattle.pa_slot.specs.Titles.{content_count, content_place, count_place, content_at, count_word}
 use Rattle.pa_machine.specs.Events.{State, IsStart}
@@ -65,6 +65,7 @@ IsOfTwo actor other = (other ≡ 0) ⊎ (other ≡ actor)
 -- The event is no step on a count word, and is of this actor or of actor 0, as both sides are if something is handed over.
 abbrev pub IsBeside : ℕ → Event → Type 0
 IsBeside actor (Count other t step) = ⊥
+IsBeside actor (Sealed other t) = ⊥
 IsBeside actor (Store other at value) = IsOfTwo actor other
 IsBeside actor (Poison other t) = IsOfTwo actor other
 IsBeside actor (Load other at) = IsOfTwo actor other

@@ -30,8 +30,8 @@ pub fn made_records_are_played()
     ensures { MadeRecordsArePlayed }
 {}
 
-/// The law that each free or reset with a slot that came to a list which spilled can be played wherever the core shows what comes before
-/// it.
+/// The law that each free or reset with a slot that came to a list which spilled can be
+/// played wherever the core shows what comes before it.
 pub fn spilled_records_are_played()
     ensures { SpilledRecordsArePlayed }
 {}

@@ -8,7 +8,8 @@ use Rattle.pa_machine.proofs.Lasting.{lasts, run_start, run_more}
 use Rattle.pa_core_steps.specs.Turns.{RunsJoin}
 
 -- events after events
-played_join : (s : State) (es fs : List Event) (ss ts : List State) → Played s es ss → Played (end_of s ss) fs ts → Played s (es ++ fs) (ss ++ ts)
+played_join : (s : State) (es fs : List Event) (ss ts : List State) → Played s es ss → Played (end_of s ss) fs ts →
+    Played s (es ++ fs) (ss ++ ts)
 played_join s [] fs [] ts p q = q
 played_join s (e ∷ es) fs (next ∷ ss) ts p q = (p.0, p.1, played_join next es fs ss ts p.2 q)
 played_join s [] fs (next ∷ ss) ts p q = absurd p
@@ -27,7 +28,8 @@ played_good s (e ∷ es) [] good p = absurd p
 pub run_good : (s after : State) (es : List Event) → IsGoodState s → IsRunTo s es after → IsGoodState after
 run_good s after es good r = subst IsGoodState (sym r.ends) (played_good s es r.states good r.played)
 
-pub run_join : (s mid after : State) (es fs : List Event) → IsGoodState s → IsRunTo s es mid → IsRunTo mid fs after → IsRunTo s (es ++ fs) after
+pub run_join : (s mid after : State) (es fs : List Event) → IsGoodState s → IsRunTo s es mid → IsRunTo mid fs after →
+    IsRunTo s (es ++ fs) after
 run_join s mid after es fs good r q =
     let played = played_join s es fs r.states q.states r.played (subst (λ (x : State). Played x fs q.states) r.ends q.played) in
     record {

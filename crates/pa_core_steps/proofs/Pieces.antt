@@ -1,68 +1,116 @@
 -- Pieces that are taken out of what an actor holds: one piece, or a range of raw bytes.
-use Rattle.std.proofs.Common.{◌≡◌, ℕ, ◌+◌, ◌-◌, ◌<◌, ◌≤◌, true, false, ◌&&◌, List, [], ◌∷◌, refl, ◌∙◌, ap, arith, ◌⊎◌, inl, inr, eqb, cond}
+use Rattle.std.proofs.Common.{◌≡◌, ℕ, ◌+◌, ◌-◌, ◌<◌, ◌≤◌, Bool, true, false, ◌&&◌, List, [], ◌∷◌, refl, ◌∙◌, ap, arith, ◌⊎◌, inl, inr, eqb, cond}
 use Rattle.std.specs.Prelude.{nat_le, nat_lt}
-use Rattle.std.proofs.lemmas.List.Sums.{sum_by-cons}
+use Rattle.std.proofs.lemmas.List.Sums.{sum_by-cons, sum_by-le-sum_by}
 use Rattle.std.proofs.lemmas.Bool.{cases_lt}
 use Rattle.std.proofs.lemmas.Bool.Decides.{eqb_tells}
 use Rattle.pa_slot.specs.declared.title.Title.{Title}
 use Rattle.pa_slot.specs.declared.title.OwnState.{OwnState}
 use Rattle.pa_slot.specs.Titles.{same_title, same_state}
-use Rattle.pa_slot.specs.Holdings.{Piece, RawPiece, FreePiece, OwnPiece, RefPiece, Thing, RawByte, FreeTitle, OwnOf, OwnAs, RefOf, one, amount, held_in}
-use Rattle.pa_slot.proofs.Same.{title_tells, state_tells}
+use Rattle.pa_slot.specs.Holdings.{Piece, RawPiece, FreePiece, OwnPiece, RefPiece, Thing, RawByte, FreeTitle, OwnOf, OwnAs, SealedOwn, RefOf, one, amount, held_in}
+use Rattle.pa_slot.proofs.Same.{title_tells, title_self, state_tells}
+use Rattle.pa_machine.proofs.Totals.{amount_seal}
 
 -- the pieces without the first that counts as the thing
 abbrev pub taken_out : Thing → List Piece → List Piece
 taken_out x [] = []
 taken_out x (p ∷ ps) = cond (eqb (amount x p) 0) (p ∷ taken_out x ps) ps
 
--- if only one kind of piece counts as the thing, one such piece is gone
-pub taken_out_has : (x : Thing) (q : Piece) → ((p : Piece) → 0 < amount x p → p ≡ q) → (ps : List Piece) → 0 < held_in ps x →
-    (y : Thing) → held_in (taken_out x ps) y + amount y q ≡ held_in ps y
-taken_out_has x q only [] has y = absurd (omega arith)
-taken_out_has x q only (p ∷ ps) has y = elim (eqb_tells (amount x p) 0) [
+-- What is taken out is one piece, which counts as the thing.
+pub record IsTakenOut (x : Thing) (ps : List Piece) : Type 0 where
+  pub piece : Piece
+  pub counts : 0 < amount x piece
+  pub left : (y : Thing) → held_in (taken_out x ps) y + amount y piece ≡ held_in ps y
+
+pub is_taken_out : (x : Thing) (ps : List Piece) → 0 < held_in ps x → IsTakenOut x ps
+is_taken_out x [] has = absurd (omega arith)
+is_taken_out x (p ∷ ps) has = elim (eqb_tells (amount x p) 0) [
   | inl none ↦
       let here = sum_by-cons (amount x) p ps in
-      let none0 = none.1 in
-      let again = taken_out_has x q only ps (omega arith) y in
-      let a = sum_by-cons (amount y) p (taken_out x ps) in
-      let b = sum_by-cons (amount y) p ps in
-      rw none.0 (omega arith)
-  | inr some ↦
-      let e : p ≡ q = only p (elim (cases_lt 0 (amount x p)) [ inl y ↦ y | inr n ↦ absurd (some.1 (omega arith)) ]) in
-      let b = sum_by-cons (amount y) p ps in
-      let c = ap (λ (z : Piece). amount y z) e in
-      rw some.0 (omega arith)
+      let none1 = none.1 in
+      let again = is_taken_out x ps (omega arith) in
+      record {
+        piece = again.piece;
+        counts = again.counts;
+        left = λ y.
+            let l = again.left y in
+            let a = sum_by-cons (amount y) p (taken_out x ps) in
+            let b = sum_by-cons (amount y) p ps in
+            rw none.0 (omega arith);
+      }
+  | inr some ↦ record {
+    piece = p;
+    counts = elim (cases_lt 0 (amount x p)) [ inl y ↦ y | inr n ↦ absurd (some.1 (omega arith)) ];
+    left = λ y. let b = sum_by-cons (amount y) p ps in rw some.0 (omega arith);
+  }
 ]
 
 pub only_free : (t : Title) (p : Piece) → 0 < amount (FreeTitle t) p → p ≡ FreePiece t
 only_free t (RawPiece start len) has = absurd (omega arith)
-only_free t (FreePiece u) has = elim (title_tells u t) [ inl y ↦ ap FreePiece y.1 | inr n ↦ absurd (let h : 0 < one (same_title u t) = has in let z = ap one n.0 in omega arith) ]
-only_free t (OwnPiece u a) has = absurd (omega arith)
+only_free t (FreePiece u) has =
+    elim (title_tells u t) [
+      | inl y ↦ ap FreePiece y.1
+      | inr n ↦
+          absurd (let h : 0 < one (same_title u t) = has in let z = ap one n.0 in omega arith)
+    ]
+only_free t (OwnPiece sealed u a) has = absurd (omega arith)
 only_free t (RefPiece u) has = absurd (omega arith)
 
 pub only_ref : (t : Title) (p : Piece) → 0 < amount (RefOf t) p → p ≡ RefPiece t
 only_ref t (RawPiece start len) has = absurd (omega arith)
 only_ref t (FreePiece u) has = absurd (omega arith)
-only_ref t (OwnPiece u a) has = absurd (omega arith)
-only_ref t (RefPiece u) has = elim (title_tells u t) [ inl y ↦ ap RefPiece y.1 | inr n ↦ absurd (let h : 0 < one (same_title u t) = has in let z = ap one n.0 in omega arith) ]
+only_ref t (OwnPiece sealed u a) has = absurd (omega arith)
+only_ref t (RefPiece u) has =
+    elim (title_tells u t) [
+      | inl y ↦ ap RefPiece y.1
+      | inr n ↦
+          absurd (let h : 0 < one (same_title u t) = has in let z = ap one n.0 in omega arith)
+    ]
 
-pub only_own : (t : Title) (a : OwnState) (p : Piece) → 0 < amount (OwnAs t a) p → p ≡ OwnPiece t a
+pub only_own : (t : Title) (a : OwnState) (p : Piece) → 0 < amount (OwnAs t a) p → (sealed : Bool) × (p ≡ OwnPiece sealed t a)
 only_own t a (RawPiece start len) has = absurd (omega arith)
 only_own t a (FreePiece u) has = absurd (omega arith)
 only_own t a (RefPiece u) has = absurd (omega arith)
-only_own t a (OwnPiece u b) has = elim (title_tells u t) [
+only_own t a (OwnPiece sealed u b) has = elim (title_tells u t) [
   | inl y ↦ elim (state_tells b a) [
-    | inl z ↦ ap (λ (v : Title). OwnPiece v b) y.1 ∙ ap (λ (c : OwnState). OwnPiece t c) z.1
-    | inr n ↦ absurd (let h : 0 < one (same_title u t && same_state b a) = has in let k : same_title u t && same_state b a ≡ false = rw (y.0, n.0) refl in let e = ap one k in omega arith)
+    | inl z ↦ (sealed, ap (λ (v : Title). OwnPiece sealed v b) y.1 ∙ ap (λ (c : OwnState). OwnPiece sealed t c) z.1)
+    | inr n ↦ absurd (let h : 0 < one (same_title u t && same_state b a) = has in let k : same_title u t &&
+        same_state b a ≡ false = rw (y.0, n.0) refl in let e = ap one k in omega arith)
   ]
-  | inr n ↦ absurd (let h : 0 < one (same_title u t && same_state b a) = has in let k : same_title u t && same_state b a ≡ false = rw n.0 refl in let e = ap one k in omega arith)
+  | inr n ↦ absurd (let h : 0 < one (same_title u t && same_state b a) = has in let k : same_title u t &&
+      same_state b a ≡ false = rw n.0 refl in let e = ap one k in omega arith)
 ]
+
+-- ---- sealed Owns
+
+-- a title's sealed Owns are among its Owns
+few_sealed : (t : Title) (ps : List Piece) → held_in ps (SealedOwn t) ≤ held_in ps (OwnOf t)
+few_sealed t ps = sum_by-le-sum_by (amount (SealedOwn t)) (amount (OwnOf t)) ps (amount_seal t)
+
+-- if that piece is the only Own of its title among these, it is sealed as they are
+pub only_sealed : (t : Title) (a : OwnState) (found sealed : Bool) (ps left : List Piece) →
+    ((y : Thing) → held_in left y + amount y (OwnPiece found t a) ≡ held_in ps y) →
+    held_in ps (OwnOf t) ≤ 1 → held_in ps (SealedOwn t) ≡ one sealed → found ≡ sealed
+only_sealed t a true true ps left out few is = refl
+only_sealed t a false false ps left out few is = refl
+only_sealed t a true false ps left out few is =
+    let e = out (SealedOwn t) in
+    let here : amount (SealedOwn t) (OwnPiece true t a) ≡ 1 = rw (title_self t) refl in
+    absurd (omega arith)
+only_sealed t a false true ps left out few is =
+    let e = out (SealedOwn t) in
+    let none : amount (SealedOwn t) (OwnPiece false t a) ≡ 0 = rw (title_self t) refl in
+    let o = out (OwnOf t) in
+    let here : amount (OwnOf t) (OwnPiece false t a) ≡ 1 = rw (title_self t) refl in
+    let among = few_sealed t left in
+    absurd (omega arith)
 
 -- ---- raw bytes
 
 -- a byte is in a raw piece or not
 pub raw_cases : (b start len : ℕ) →
-    ((start ≤ b) × (b < start + len) × (amount (RawByte b) (RawPiece start len) ≡ 1)) ⊎ (((start ≤ b) × (b < start + len) → ⊥) × (amount (RawByte b) (RawPiece start len) ≡ 0))
+    ((start ≤ b) × (b < start + len) × (amount (RawByte b) (RawPiece start len) ≡ 1)) ⊎
+    (((start ≤ b) × (b < start + len) → ⊥) × (amount (RawByte b) (RawPiece start len) ≡ 0))
 raw_cases b start len = elim (cases_lt b start) [
   | inl below ↦ inr (λ h. let low = h.0 in omega arith, let e : nat_le start b ≡ false = grind arith in rw e refl)
   | inr from ↦
@@ -85,7 +133,7 @@ abbrev pub cut_out : ℕ → ℕ → List Piece → List Piece
 cut_out a e [] = []
 cut_out a e (RawPiece b m ∷ ps) = left_below a b m ∷ left_behind e b m ∷ cut_out a e ps
 cut_out a e (FreePiece t ∷ ps) = FreePiece t ∷ cut_out a e ps
-cut_out a e (OwnPiece t s ∷ ps) = OwnPiece t s ∷ cut_out a e ps
+cut_out a e (OwnPiece sealed t s ∷ ps) = OwnPiece sealed t s ∷ cut_out a e ps
 cut_out a e (RefPiece t ∷ ps) = RefPiece t ∷ cut_out a e ps
 
 both_parts : (a e c b m : ℕ) → a ≤ e → ((a ≤ c) × (c < e) → ⊥) →
@@ -127,7 +175,8 @@ no_parts a e c b m low high = (
 )
 
 -- bytes outside are held as before
-cut_outside : (a e c : ℕ) → a ≤ e → ((a ≤ c) × (c < e) → ⊥) → (ps : List Piece) → held_in (cut_out a e ps) (RawByte c) ≡ held_in ps (RawByte c)
+cut_outside : (a e c : ℕ) → a ≤ e → ((a ≤ c) × (c < e) → ⊥) → (ps : List Piece) →
+    held_in (cut_out a e ps) (RawByte c) ≡ held_in ps (RawByte c)
 cut_outside a e c order out [] = refl
 cut_outside a e c order out (RawPiece b m ∷ ps) =
     let again = cut_outside a e c order out ps in
@@ -139,9 +188,13 @@ cut_outside a e c order out (RawPiece b m ∷ ps) =
 cut_outside a e c order out (FreePiece t ∷ ps) =
     let again = cut_outside a e c order out ps in
     omega (arith, sum_by-cons (amount (RawByte c)) (FreePiece t) (cut_out a e ps), sum_by-cons (amount (RawByte c)) (FreePiece t) ps)
-cut_outside a e c order out (OwnPiece t s ∷ ps) =
+cut_outside a e c order out (OwnPiece sealed t s ∷ ps) =
     let again = cut_outside a e c order out ps in
-    omega (arith, sum_by-cons (amount (RawByte c)) (OwnPiece t s) (cut_out a e ps), sum_by-cons (amount (RawByte c)) (OwnPiece t s) ps)
+    omega (
+      arith,
+      sum_by-cons (amount (RawByte c)) (OwnPiece sealed t s) (cut_out a e ps),
+      sum_by-cons (amount (RawByte c)) (OwnPiece sealed t s) ps,
+    )
 cut_outside a e c order out (RefPiece t ∷ ps) =
     let again = cut_outside a e c order out ps in
     omega (arith, sum_by-cons (amount (RawByte c)) (RefPiece t) (cut_out a e ps), sum_by-cons (amount (RawByte c)) (RefPiece t) ps)
@@ -160,9 +213,9 @@ cut_inside a e c low high (RawPiece b m ∷ ps) =
 cut_inside a e c low high (FreePiece t ∷ ps) =
     let again = cut_inside a e c low high ps in
     omega (arith, sum_by-cons (amount (RawByte c)) (FreePiece t) (cut_out a e ps))
-cut_inside a e c low high (OwnPiece t s ∷ ps) =
+cut_inside a e c low high (OwnPiece sealed t s ∷ ps) =
     let again = cut_inside a e c low high ps in
-    omega (arith, sum_by-cons (amount (RawByte c)) (OwnPiece t s) (cut_out a e ps))
+    omega (arith, sum_by-cons (amount (RawByte c)) (OwnPiece sealed t s) (cut_out a e ps))
 cut_inside a e c low high (RefPiece t ∷ ps) =
     let again = cut_inside a e c low high ps in
     omega (arith, sum_by-cons (amount (RawByte c)) (RefPiece t) (cut_out a e ps))
@@ -186,9 +239,9 @@ cut_others a e x none (RawPiece b m ∷ ps) =
 cut_others a e x none (FreePiece t ∷ ps) =
     let again = cut_others a e x none ps in
     omega (arith, sum_by-cons (amount x) (FreePiece t) (cut_out a e ps), sum_by-cons (amount x) (FreePiece t) ps)
-cut_others a e x none (OwnPiece t s ∷ ps) =
+cut_others a e x none (OwnPiece sealed t s ∷ ps) =
     let again = cut_others a e x none ps in
-    omega (arith, sum_by-cons (amount x) (OwnPiece t s) (cut_out a e ps), sum_by-cons (amount x) (OwnPiece t s) ps)
+    omega (arith, sum_by-cons (amount x) (OwnPiece sealed t s) (cut_out a e ps), sum_by-cons (amount x) (OwnPiece sealed t s) ps)
 cut_others a e x none (RefPiece t ∷ ps) =
     let again = cut_others a e x none ps in
     omega (arith, sum_by-cons (amount x) (RefPiece t) (cut_out a e ps), sum_by-cons (amount x) (RefPiece t) ps)
@@ -203,4 +256,5 @@ cut_out_has a n ps once (RawByte c) = elim (raw_cases c a n) [
 cut_out_has a n ps once (FreeTitle t) = let e = cut_others a (a + n) (FreeTitle t) (λ b m. refl) ps in omega arith
 cut_out_has a n ps once (OwnOf t) = let e = cut_others a (a + n) (OwnOf t) (λ b m. refl) ps in omega arith
 cut_out_has a n ps once (OwnAs t s) = let e = cut_others a (a + n) (OwnAs t s) (λ b m. refl) ps in omega arith
+cut_out_has a n ps once (SealedOwn t) = let e = cut_others a (a + n) (SealedOwn t) (λ b m. refl) ps in omega arith
 cut_out_has a n ps once (RefOf t) = let e = cut_others a (a + n) (RefOf t) (λ b m. refl) ps in omega arith

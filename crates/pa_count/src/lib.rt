@@ -4,4 +4,4 @@
 
 mod steps;
 
-pub use steps::{Fate, copy, free, issue, look, reset, wrote};
+pub use steps::{Fate, copy, free, issue, issue_sealed, look, reset, wrote};

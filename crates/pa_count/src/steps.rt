@@ -3,7 +3,7 @@ ghost use Rattle.pa_slot.specs.declared.word.Step.TheVariants.{Issue, Copy, Rese
 ghost use Rattle.pa_slot.specs.Run.{IsReturning};
 ghost use Rattle.pa_region.specs.Views.{HasStake, free_of};
 ghost use Rattle.pa_region.specs.Moves.{CanCount};
-ghost use Rattle.pa_region.specs.Shares.{IsUser, IsStepMade, IsLooked};
+ghost use Rattle.pa_region.specs.Shares.{IsUser, IsStepMade, IsSealedMade, IsLooked};
 
 use pa_region::{Region, Seat, releases_leave};
 use pa_slot::{Step, Title, Word, returns};
@@ -24,7 +24,16 @@ pub fn issue(region: &Region, seat: &mut Seat, title: Title) -> Word
     region.count_step(seat, title, Step::Issue)
 }
 
-/// A `raw_ptr` is made, from the owner's pointer or from another `raw_ptr`: the seat gets one more Ref.
+/// A heap gives a free slot out whose Own is sealed: no copy of it can be made, so no `raw_ptr` ever points to the slot.
+pub fn issue_sealed(region: &Region, seat: &mut Seat, title: Title) -> Word
+    requires region { seat.old.region ≡ region.now }
+    requires able { CanCount Issue title seat.old.view }
+    ensures { IsSealedMade title result.0 seat.old seat.new }
+{
+    region.count_sealed(seat, title)
+}
+
+/// A `raw_ptr` is made, from the owner's pointer, if its Own isn't sealed, or from another `raw_ptr`: the seat gets one more Ref.
 pub fn copy(region: &Region, seat: &mut Seat, title: Title) -> Word
     requires region { seat.old.region ≡ region.now }
     requires able { CanCount Copy title seat.old.view }
@@ -55,8 +64,8 @@ pub fn reset(region: &Region, seat: &mut Seat, title: Title) -> (Word, Fate)
     release(region, seat, title, Step::Reset)
 }
 
-/// The owner frees the slot. `Last` if and only if no `raw_ptr` points to it: then the seat holds the title free. Else
-/// the slot is quarantined.
+/// The owner frees the slot. `Last` if and only if no `raw_ptr` points to it:
+/// then the seat holds the title free. Else the slot is quarantined.
 pub fn free(region: &Region, seat: &mut Seat, title: Title) -> (Word, Fate)
     requires region { seat.old.region ≡ region.now }
     requires able { CanCount Free title seat.old.view }

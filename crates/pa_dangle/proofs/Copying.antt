@@ -193,7 +193,8 @@ module _ (version : ℕ) (cells : Cells) (ps : List Played) (h : HaveHandles ver
       let bit = owners_find_the_bit version cells ps x m regs (used_by x.op) h has (is ∙ ap Own (of_some s m.slot names)) mark in
       absurd (omega (arith, free, bit))
   through x m regs (Ref s) among mark q has first is names =
-      let (y, put) = was_put version cells ps x regs (used_by x.op) h.rising has (λ empty. let none : Ref s ≡ Empty = sym is ∙ empty in cc) in
+      let (y, put) =
+      was_put version cells ps x regs (used_by x.op) h.rising has (λ empty. let none : Ref s ≡ Empty = sym is ∙ empty in cc) in
       comes_from_copy x among (used_by x.op) s y first (subst (λ (r : Reg). WasPut cells ps x (used_by x.op) r y) is put)
   through x m regs Freed among mark q has first is names = absurd (not_some m.slot names)
   through x m regs Cleared among mark q has first is names = absurd (not_some m.slot names)
@@ -215,7 +216,8 @@ module _ (version : ℕ) (cells : Cells) (ps : List Played) (h : HaveHandles ver
       ]
 
 -- the record at a place has an origin, if it saw a slot in quarantine
-pub saw_origin : (version : ℕ) (cells : Cells) (ps : List Played) (i : ℕ) (told : Played) (seen : Seen) → HaveHandles version cells ps → IsRecord ps i told
+pub saw_origin : (version : ℕ) (cells : Cells) (ps : List Played) (i : ℕ) (told : Played) (seen : Seen) →
+    HaveHandles version cells ps → IsRecord ps i told
     → SawUse told seen → (x : Played) → IsRecord ps i x → (line : ℕ) × HasOrigin cells ps x line
 saw_origin version cells ps i told seen h at ((m, saw), q) x here =
     let has = use_has_origin version cells ps h told m (at_in ps i told at) saw.mark (subst IsQuarantined (sym saw.found) q) in

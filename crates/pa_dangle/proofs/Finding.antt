@@ -46,7 +46,8 @@ abbrev seen_place : Seen → SlotName × ℕ
 seen_place seen = (seen.slot, seen.found.0)
 
 -- of an answer and of its mark the same slot and the same word are known
-mark_seen : (line : ℕ) (op : Op) (answer : Answer) → option_map mark_place (mark_of_answer line op answer) ≡ option_map seen_place (seen_by_answer answer)
+mark_seen : (line : ℕ) (op : Op) (answer : Answer) →
+    option_map mark_place (mark_of_answer line op answer) ≡ option_map seen_place (seen_by_answer answer)
 mark_seen line op (answers.Made seen usable) = refl
 mark_seen line op (answers.Done seen) = refl
 mark_seen line op (answers.Value seen value) = refl
@@ -66,10 +67,12 @@ mark_seen line op answers.TooLarge = refl
 mark_seen line op (answers.Full entry) = refl
 mark_seen line op (answers.Swapped entry) = refl
 mark_seen line op (answers.Purged slots) = refl
+mark_seen line op answers.Uncounted = refl
 
 pub saw_mark : (x : Played) (seen : Seen) → seen_by_answer x.answer ≡ Some seen → (m : Mark) × IsMarkSeen x seen m
 saw_mark x seen e =
-    let (m, mark, same) = option_cases mark_place (mark_of x) (seen_place seen) (mark_seen x.line x.op x.answer ∙ ap (option_map seen_place) e) in
+    let (m, mark, same) =
+    option_cases mark_place (mark_of x) (seen_place seen) (mark_seen x.line x.op x.answer ∙ ap (option_map seen_place) e) in
     (m, record { mark = mark; slot = ap (λ (p : SlotName × ℕ). p.0) same; found = ap (λ (p : SlotName × ℕ). p.1) same })
 
 is_free : (op : Op) (seen : Seen) → step_of op ≡ Some steps.Free → seen_by tables.Free op (answers.Done seen) ≡ Some seen
@@ -88,7 +91,8 @@ numbered_as Issued = tables.Issue
 numbered_as Freed = tables.Free
 
 saw_at : (kind : Kind) (line : ℕ) (op : Op) (answer : Answer) (seen : Seen) → seen_by (numbered_as kind) op answer ≡ Some seen
-    → (m : Mark) × (mark_of_answer line op answer ≡ Some m) × (m.slot ≡ seen.slot) × (m.found ≡ seen.found.0) × (m.step ≡ Some (step_of_kind kind))
+    → (m : Mark) × (mark_of_answer line op answer ≡ Some m) × (m.slot ≡ seen.slot) × (m.found ≡ seen.found.0) ×
+    (m.step ≡ Some (step_of_kind kind))
 saw_at Issued line op (answers.Made a usable) seen e =
     let same = of_some a seen e in
     (mark_at line a (Some steps.Issue), refl, ap (λ (z : Seen). z.slot) same, ap (λ (z : Seen). z.found.0) same, refl)
@@ -157,7 +161,8 @@ steps_of kind ps at k h = record {
 -- ---- the last step below a number
 
 -- what the table has of a step of the slot
-listed : (kind : Kind) (ps : List Played) (at : Table) (s : SlotName) (j : Mark) → AreStepsOf kind ps at (length ps) → Contains (marks_of ps) j → j.slot ≡ s
+listed : (kind : Kind) (ps : List Played) (at : Table) (s : SlotName) (j : Mark) → AreStepsOf kind ps at (length ps) →
+    Contains (marks_of ps) j → j.slot ≡ s
     → j.step ≡ Some (step_of_kind kind) → (i : ℕ) × (at (word_key s (number_of j.found)) ≡ Some i)
 listed kind ps at s j h among slot step =
     let (x, member, mark) = mark_from ps j among in
@@ -166,11 +171,14 @@ listed kind ps at s j h among slot step =
     (v, subst (λ (z : SlotName). at (word_key z (number_of j.found)) ≡ Some v) slot is)
 
 -- the number that a key between those of a slot has
-key_back : (s : SlotName) (high q : ℕ) → word_key s 0 ≤ q → q < word_key s high → (word_key s (q - word_key s 0) ≡ q) × (q - word_key s 0 < high)
+key_back : (s : SlotName) (high q : ℕ) → word_key s 0 ≤ q → q < word_key s high →
+    (word_key s (q - word_key s 0) ≡ q) × (q - word_key s 0 < high)
 key_back s high q from under = (omega (arith, from), omega (arith, from, under))
 
-pub last_is : (kind : Kind) (ps : List Played) (at : Table) (s : SlotName) (below q i : ℕ) (d : Played) → AreStepsOf kind ps at (length ps) → s.start < 4294967296 → below < 18446744073709551616
-    → IsGreatest at (word_key s 0) (word_key s below) q i → (m : Mark) × IsLastStep kind (marks_of ps) s below (get_or ps i d).line (q - word_key s 0) m
+pub last_is : (kind : Kind) (ps : List Played) (at : Table) (s : SlotName) (below q i : ℕ) (d : Played) →
+    AreStepsOf kind ps at (length ps) → s.start < 4294967296 → below < 18446744073709551616
+    → IsGreatest at (word_key s 0) (word_key s below) q i →
+    (m : Mark) × IsLastStep kind (marks_of ps) s below (get_or ps i d).line (q - word_key s 0) m
 last_is kind ps at s below q i d h start few greatest =
     let (x, m, less, here, mark, step, start', low, key) = h.hit q i greatest.here in
     let n = q - word_key s 0 in
@@ -188,13 +196,15 @@ last_is kind ps at s below q i d h start few greatest =
         last = λ j among slot' step' under'. elim (cases_lt n (number_of j.found)) [
           | inl more ↦
               let (v, is) = listed kind ps at s j h among slot' step' in
-              absurd (not_some v (sym (greatest.last (word_key s (number_of j.found)) (omega (arith, more, q_is)) (omega (arith, under'))) ∙ is))
+              absurd (not_some v
+              (sym (greatest.last (word_key s (number_of j.found)) (omega (arith, more, q_is)) (omega (arith, under'))) ∙ is))
           | inr most ↦ omega (arith, most)
         ];
       },
     )
 
-pub none_is : (kind : Kind) (ps : List Played) (at : Table) (s : SlotName) (below : ℕ) → AreStepsOf kind ps at (length ps) → HasNoKey at (word_key s 0) (word_key s below)
+pub none_is : (kind : Kind) (ps : List Played) (at : Table) (s : SlotName) (below : ℕ) → AreStepsOf kind ps at (length ps) →
+    HasNoKey at (word_key s 0) (word_key s below)
     → NoStepBelow kind (marks_of ps) s below
 none_is kind ps at s below h none j among slot step under =
     let (v, is) = listed kind ps at s j h among slot step in

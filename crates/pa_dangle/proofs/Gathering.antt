@@ -27,7 +27,8 @@ use Rattle.pa_dangle.proofs.Tracing.{place_below}
 abbrev Cells : Type 0
 Cells = ℕ → List CellEntry
 
-pub collected_skip : (cells : Cells) (ps : List Played) (pairs : List Pair) (k : ℕ) (d : Played) → k < length ps → ((m : Mark) → mark_of (get_or ps k d) ≡ Some m → IsQuarantined m.found
+pub collected_skip : (cells : Cells) (ps : List Played) (pairs : List Pair) (k : ℕ) (d : Played) → k < length ps →
+    ((m : Mark) → mark_of (get_or ps k d) ≡ Some m → IsQuarantined m.found
     → ⊥) → AreCollected cells ps pairs k → AreCollected cells ps pairs (k + 1)
 collected_skip cells ps pairs k d below none h = record {
   each = λ p among. let (i, x, less, at, from) = h.each p among in (i, x, omega (arith, less), at, from);
@@ -41,14 +42,16 @@ collected_skip cells ps pairs k d below none h = record {
 }
 
 -- if no record is a use, there are no pairs
-pub collected_none : (cells : Cells) (ps : List Played) (pairs : List Pair) → pairs ≡ [] → All IsNoUse ps → AreCollected cells ps pairs (length ps)
+pub collected_none : (cells : Cells) (ps : List Played) (pairs : List Pair) → pairs ≡ [] → All IsNoUse ps →
+    AreCollected cells ps pairs (length ps)
 collected_none cells ps pairs none h = rw none (record {
   each = λ p among. absurd (omega (arith, among.1));
   whole = λ i x m less at mark q. absurd (All-contains IsNoUse ps x h (at_in ps i x at) m mark q);
   rise = λ i j d less below. absurd (omega (arith, below));
 })
 
-pub collected_push : (cells : Cells) (ps : List Played) (pairs : List Pair) (k : ℕ) (d : Played) (p : Pair) → RiseByLine ps → k < length ps → IsPairFrom cells ps (get_or ps k d) p
+pub collected_push : (cells : Cells) (ps : List Played) (pairs : List Pair) (k : ℕ) (d : Played) (p : Pair) → RiseByLine ps →
+    k < length ps → IsPairFrom cells ps (get_or ps k d) p
     → AreCollected cells ps pairs k → AreCollected cells ps (pairs ++ p ∷ []) (k + 1)
 collected_push cells ps pairs k d p rising below from h =
     let here = here_is ps k d below in
@@ -91,7 +94,8 @@ uses_once line (p ∷ ps) rise =
     let sum = sum_by-cons (on_line line) p ps in
     elim (cases_eq p.later line) [
       | inl same ↦
-          let rest = uses_none line ps (λ q among. let up = pairs_head (λ (a b : Pair). a.later < b.later) p q ps rise among in omega (arith, up, same)) in
+          let rest = uses_none line ps (λ q among. let up =
+          pairs_head (λ (a b : Pair). a.later < b.later) p q ps rise among in omega (arith, up, same)) in
           let on : on_line line p ≡ 1 = rw (eq-eqb p.later line same) refl in
           omega (arith, rest, on, sum)
       | inr other ↦
@@ -108,12 +112,14 @@ stands_above p q a b most = elim (cases_lt p.free q.free) [
   | inr not ↦ inr (omega (arith, a, b, most, not), omega (arith, a, b, most, not))
 ]
 
-pub found_is : (cells : Cells) (ps : List Played) (pairs sorted : List Pair) (count : ℕ) → RiseByLine ps → Slots (marks_of ps) → AreCollected cells ps pairs (length ps)
+pub found_is : (cells : Cells) (ps : List Played) (pairs sorted : List Pair) (count : ℕ) → RiseByLine ps → Slots (marks_of ps) →
+    AreCollected cells ps pairs (length ps)
     → IsPermutation pairs sorted → IsNonDecreasingBy rank_of sorted
     → count ≡ length (filter (λ (x : Played). keeps_slot x.op x.answer) ps) → AreFound cells ps sorted count
 found_is cells ps pairs sorted count rising slots h permuted order freed =
     let short : (p : Pair) → Contains sorted p → p.later < 4294967296 = λ p among.
-    let (i, x, less, at, from) = h.each p (Contains-permutation sorted pairs p (IsPermutation-sym pairs sorted permuted) among) in from.short in
+    let (i, x, less, at, from) =
+    h.each p (Contains-permutation sorted pairs p (IsPermutation-sym pairs sorted permuted) among) in from.short in
     record {
       each = λ p among.
           let (i, x, less, at, from) = h.each p (Contains-permutation sorted pairs p (IsPermutation-sym pairs sorted permuted) among) in
@@ -129,7 +135,8 @@ found_is cells ps pairs sorted count rising slots h permuted order freed =
           let free_is : from.free ≡ f = uses_are_paired.one (marks_of ps) from.free f u slots lines pair.uses is in
           (p, Contains-permutation pairs sorted p permuted among, subst (λ (z : Mark). IsPairOf cells ps z u p) free_is pair);
       order = λ i j d less below.
-          stands_above (get_or sorted i d) (get_or sorted j d) (short (get_or sorted i d) (Contains-get_or sorted i d (omega (arith, less, below))))
+          stands_above (get_or sorted i d) (get_or sorted j d)
+          (short (get_or sorted i d) (Contains-get_or sorted i d (omega (arith, less, below))))
           (short (get_or sorted j d) (Contains-get_or sorted j d below)) (order i j d (omega (arith, less)) below);
       once = λ line.
           let most = uses_once line pairs h.rise in

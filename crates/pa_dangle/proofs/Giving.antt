@@ -14,7 +14,8 @@ use Rattle.pa_dangle.specs.declared.ways.Way.TheVariants.{Unknown}
 abbrev Cells : Type 0
 Cells = ℕ → List CellEntry
 
-pub giver_none : (cells : Cells) (ps : List Played) (k j : ℕ) (e : CellEntry) (o : Option ℕ) → (j ≡ 0 → ⊥) → IsExchange cells k (j - 1) e → IfNone o (NoneOnLine ps e.line)
+pub giver_none : (cells : Cells) (ps : List Played) (k j : ℕ) (e : CellEntry) (o : Option ℕ) → (j ≡ 0 → ⊥) → IsExchange cells k (j - 1) e →
+    IfNone o (NoneOnLine ps e.line)
     → IfNone o ((i : ℕ) → IsGiverAt cells ps k j i → ⊥)
 giver_none cells ps k j e None some at none = λ i giver.
     let (m, f, next, at', on) = giver in
@@ -25,7 +26,8 @@ giver_none cells ps k j e (Some i) some at none = tt
 
 -- ---- the way back
 
-pub back_unknown : (cells : Cells) (ps : List Played) (y : Played) (k reg j : ℕ) → y.op ≡ ops.Swap k reg → y.answer ≡ Swapped j → ((i : ℕ) → IsGiverAt cells ps k j i → ⊥)
+pub back_unknown : (cells : Cells) (ps : List Played) (y : Played) (k reg j : ℕ) → y.op ≡ ops.Swap k reg → y.answer ≡ Swapped j →
+    ((i : ℕ) → IsGiverAt cells ps k j i → ⊥)
     → IsWayBack cells ps y Unknown
 back_unknown cells ps y k reg j op answer none = (
   λ (from, to, copy). let e : ops.Copy from to ≡ ops.Swap k reg = sym copy ∙ op in cc,
@@ -35,5 +37,11 @@ back_unknown cells ps y k reg j op answer none = (
       let cell : given.cell ≡ k = cc in
       let next : j ≡ given.index + 1 = cc in
       let (i, here) = in_at ps z given.giver in
-      none i (given.index, given.entry, next, subst (λ c. IsExchange cells c given.index given.entry) cell given.exchange, (z, here, given.line)),
+      none i (
+        given.index,
+        given.entry,
+        next,
+        subst (λ c. IsExchange cells c given.index given.entry) cell given.exchange,
+        (z, here, given.line),
+      ),
 )

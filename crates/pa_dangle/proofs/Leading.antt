@@ -89,18 +89,23 @@ puts_by cells ps f g k v d (Some r) below same is small puts h t reg few =
       | inr other ↦
           subst (IsLastPutAt cells ps t reg (k + 1)) (sym (puts.other (register_key t reg) other))
           (last_kept cells ps t reg k d (f (register_key t reg)) below
-          (λ of put. other (ap (λ n. 64 * n + reg) (sym of) ∙ ap (λ n. 64 * x.thread + n) (sym (of_some r reg (sym is ∙ put))))) (h t reg few))
+          (λ of put. other (ap (λ n. 64 * n + reg) (sym of) ∙ ap (λ n. 64 * x.thread + n) (sym (of_some r reg (sym is ∙ put)))))
+          (h t reg few))
     ]
 
-pub puts_more : (cells : Cells) (ps : List Played) (f g : ℕ → Option ℕ) (k v : ℕ) (d : Played) → k < length ps → v ≡ k → All IsPlayedWithin ps
-    → PutsInto f g (get_or ps k d).thread (put_into cells (get_or ps k d).op (get_or ps k d).answer) v → AreLastPuts cells ps f k → AreLastPuts cells ps g (k + 1)
+pub puts_more : (cells : Cells) (ps : List Played) (f g : ℕ → Option ℕ) (k v : ℕ) (d : Played) →
+    k < length ps → v ≡ k → All IsPlayedWithin ps
+    → PutsInto f g (get_or ps k d).thread (put_into cells (get_or ps k d).op (get_or ps k d).answer) v → AreLastPuts cells ps f k →
+    AreLastPuts cells ps g (k + 1)
 puts_more cells ps f g k v d below same within enters h =
     puts_by cells ps f g k v d (put_into cells (get_or ps k d).op (get_or ps k d).answer) below same refl
-    (λ r e. put_small cells (get_or ps k d).op (get_or ps k d).answer r (All-contains IsPlayedWithin ps (get_or ps k d) within (record_among ps k d below)).1 e) enters h
+    (λ r e. put_small cells (get_or ps k d).op (get_or ps k d).answer r
+    (All-contains IsPlayedWithin ps (get_or ps k d) within (record_among ps k d below)).1 e) enters h
 
 -- ---- the ways, one record on
 
-pub ways_more : (cells : Cells) (ps : List Played) (ws : List Way) (w : Way) (k : ℕ) (d : Played) → k < length ps → IsWayOf cells ps (get_or ps k d) w → AreWays cells ps ws k
+pub ways_more : (cells : Cells) (ps : List Played) (ws : List Way) (w : Way) (k : ℕ) (d : Played) → k < length ps →
+    IsWayOf cells ps (get_or ps k d) w → AreWays cells ps ws k
     → AreWays cells ps (ws ++ w ∷ []) (k + 1)
 ways_more cells ps ws w k d below way h =
     let long = h.long in
@@ -115,12 +120,14 @@ ways_more cells ps ws w k d below way h =
     }
 
 -- the part of a list that a callee wrote, which is all of it
-pub ways_back : (cells : Cells) (ps : List Played) (new rest : List Way) (n : ℕ) → n ≡ length ps → AreWays cells ps new (length ps) → AreWays cells ps (take n (new ++ rest)) (length ps)
+pub ways_back : (cells : Cells) (ps : List Played) (new rest : List Way) (n : ℕ) → n ≡ length ps → AreWays cells ps new (length ps) →
+    AreWays cells ps (take n (new ++ rest)) (length ps)
 ways_back cells ps new rest n all h = subst (λ zs. AreWays cells ps zs (length ps)) (sym (take_at new rest n (h.long ∙ sym all))) h
 
 -- ---- a way is shortened
 
-ways_set : (cells : Cells) (ps : List Played) (ws : List Way) (i line : ℕ) → AreWays cells ps ws (length ps) → i < length ps → ((x : Played) → IsRecord ps i x → HasOrigin cells ps x line)
+ways_set : (cells : Cells) (ps : List Played) (ws : List Way) (i line : ℕ) → AreWays cells ps ws (length ps) → i < length ps →
+    ((x : Played) → IsRecord ps i x → HasOrigin cells ps x line)
     → AreWays cells ps (set ws i (Copied line)) (length ps)
 ways_set cells ps ws i line h below leads =
     let long = h.long in
@@ -128,7 +135,10 @@ ways_set cells ps ws i line h below leads =
       long = length-set ws i (Copied line) ∙ long;
       each = λ j x w at here. elim (cases_eq j i) [
         | inl mine ↦
-            let is : Copied line ≡ w = of_some (Copied line) w (sym (set_here ws i (Copied line) (omega (arith, long, below))) ∙ ap (slice_get (set ws i (Copied line))) (sym mine) ∙ at) in
+            let is : Copied line ≡ w =
+            of_some (Copied line) w
+            (sym (set_here ws i (Copied line) (omega (arith, long, below))) ∙
+            ap (slice_get (set ws i (Copied line))) (sym mine) ∙ at) in
             subst (IsWayOf cells ps x) is (leads x (subst (λ k. IsRecord ps k x) mine here))
         | inr other ↦ h.each j x w (sym (set_other ws i j (Copied line) other) ∙ at) here
       ];
@@ -150,15 +160,18 @@ next_end ws (suc n) now j here (i, at, e) =
     let place : i ≡ j = cc in
     (n, omega arith, subst (Ends ws n) place e)
 
-goes_more : (cells : Cells) (ps : List Played) (ws : List Way) (at now steps j : ℕ) → RiseByLine ps → AreWays cells ps ws (length ps) → slice_get ws now ≡ Some (Given j)
+goes_more : (cells : Cells) (ps : List Played) (ws : List Way) (at now steps j : ℕ) → RiseByLine ps → AreWays cells ps ws (length ps) →
+    slice_get ws now ≡ Some (Given j)
     → Goes cells ps ws at now steps → Goes cells ps ws at j (steps + 1)
 goes_more cells ps ws at now steps j rising ways here h =
     let (y, y_here) = element_at ps now h.below in
     let (z, there, step) = ways.each now y (Given j) here y_here in
     record {
       below = place_below ps j z there;
-      back = λ x w line mine is origin. h.back x y line mine y_here (step_off cells ps y z line step (subst (λ (u : Played). HasOrigin cells ps u line) (one_at ps j w z is there) origin));
-      on = λ x w line mine is origin. subst (λ (u : Played). HasOrigin cells ps u line) (one_at ps j z w there is) (step_on cells ps y z line rising step (h.on x y line mine y_here origin));
+      back = λ x w line mine is origin. h.back x y line mine y_here
+          (step_off cells ps y z line step (subst (λ (u : Played). HasOrigin cells ps u line) (one_at ps j w z is there) origin));
+      on = λ x w line mine is origin. subst (λ (u : Played). HasOrigin cells ps u line) (one_at ps j z w there is)
+          (step_on cells ps y z line rising step (h.on x y line mine y_here origin));
       far = λ n e.
           let (m, count, f) = h.far n e in
           let (l, less, g) = next_end ws m now j here f in
@@ -166,7 +179,8 @@ goes_more cells ps ws at now steps j rising ways here h =
     }
 
 -- a way that goes on for as many steps as there are records leads to no copy
-pub goes_out : (cells : Cells) (ps : List Played) (ws : List Way) (at now steps line : ℕ) (x : Played) → RiseByLine ps → AreWays cells ps ws (length ps) → length ws ≤ steps
+pub goes_out : (cells : Cells) (ps : List Played) (ws : List Way) (at now steps line : ℕ) (x : Played) → RiseByLine ps →
+    AreWays cells ps ws (length ps) → length ws ≤ steps
     → Goes cells ps ws at now steps → IsRecord ps at x → HasOrigin cells ps x line → ⊥
 goes_out cells ps ws at now steps line x rising ways long h here origin =
     let (n, e) = ends_of cells ps ws rising ways at x line here origin in
@@ -176,24 +190,29 @@ goes_out cells ps ws at now steps line x rising ways long h here origin =
 
 -- ---- the walks, by what the table has at a place
 
-way_here : (cells : Cells) (ps : List Played) (ws : List Way) (now : ℕ) (d w : Way) → AreWays cells ps ws (length ps) → now < length ps → get_or ws now d ≡ w → slice_get ws now ≡ Some w
+way_here : (cells : Cells) (ps : List Played) (ws : List Way) (now : ℕ) (d w : Way) → AreWays cells ps ws (length ps) → now < length ps →
+    get_or ws now d ≡ w → slice_get ws now ≡ Some w
 way_here cells ps ws now d w ways below is = let long = ways.long in here_is ws now d (omega (arith, long, below)) ∙ ap Some is
 
-pub end_copied : (cells : Cells) (ps : List Played) (ws : List Way) (at now steps line : ℕ) (d : Way) → AreWays cells ps ws (length ps) → Goes cells ps ws at now steps
+pub end_copied : (cells : Cells) (ps : List Played) (ws : List Way) (at now steps line : ℕ) (d : Way) →
+    AreWays cells ps ws (length ps) → Goes cells ps ws at now steps
     → get_or ws now d ≡ Copied line → (x : Played) → IsRecord ps at x → HasOrigin cells ps x line
 end_copied cells ps ws at now steps line d ways h is x here =
     let (y, there) = element_at ps now h.below in
     h.back x y line here there (ways.each now y (Copied line) (way_here cells ps ws now d (Copied line) ways h.below is) there)
 
-pub end_unknown : (cells : Cells) (ps : List Played) (ws : List Way) (at now steps : ℕ) (d : Way) → AreWays cells ps ws (length ps) → Goes cells ps ws at now steps
+pub end_unknown : (cells : Cells) (ps : List Played) (ws : List Way) (at now steps : ℕ) (d : Way) →
+    AreWays cells ps ws (length ps) → Goes cells ps ws at now steps
     → get_or ws now d ≡ Unknown → (x : Played) (line : ℕ) → IsRecord ps at x → HasOrigin cells ps x line → ⊥
 end_unknown cells ps ws at now steps d ways h is x line here origin =
     let (y, there) = element_at ps now h.below in
     ways.each now y Unknown (way_here cells ps ws now d Unknown ways h.below is) there line (h.on x y line here there origin)
 
-pub end_given : (cells : Cells) (ps : List Played) (ws : List Way) (at now steps j : ℕ) (d : Way) → RiseByLine ps → AreWays cells ps ws (length ps) → Goes cells ps ws at now steps
+pub end_given : (cells : Cells) (ps : List Played) (ws : List Way) (at now steps j : ℕ) (d : Way) → RiseByLine ps →
+    AreWays cells ps ws (length ps) → Goes cells ps ws at now steps
     → get_or ws now d ≡ Given j → Goes cells ps ws at j (steps + 1)
-end_given cells ps ws at now steps j d rising ways h is = goes_more cells ps ws at now steps j rising ways (way_here cells ps ws now d (Given j) ways h.below is) h
+end_given cells ps ws at now steps j d rising ways h is =
+    goes_more cells ps ws at now steps j rising ways (way_here cells ps ws now d (Given j) ways h.below is) h
 
 -- what the walk that shortens a way keeps
 pub record Shortens (cells : Cells) (ps : List Played) (ws : List Way) (now line : ℕ) : Type 0 where
@@ -201,7 +220,8 @@ pub record Shortens (cells : Cells) (ps : List Played) (ws : List Way) (now line
   pub below : now < length ps
   pub leads : (x : Played) → IsRecord ps now x → HasOrigin cells ps x line
 
-pub shortens_more : (cells : Cells) (ps : List Played) (ws : List Way) (now line j : ℕ) (d : Way) → RiseByLine ps → get_or ws now d ≡ Given j → Shortens cells ps ws now line
+pub shortens_more : (cells : Cells) (ps : List Played) (ws : List Way) (now line j : ℕ) (d : Way) → RiseByLine ps →
+    get_or ws now d ≡ Given j → Shortens cells ps ws now line
     → Shortens cells ps (set ws now (Copied line)) j line
 shortens_more cells ps ws now line j d rising is h =
     let (y, there) = element_at ps now h.below in
@@ -209,5 +229,6 @@ shortens_more cells ps ws now line j d rising is h =
     record {
       ways = ways_set cells ps ws now line h.ways h.below h.leads;
       below = place_below ps j z at;
-      leads = λ x here. subst (λ (u : Played). HasOrigin cells ps u line) (one_at ps j z x at here) (step_on cells ps y z line rising step (h.leads y there));
+      leads = λ x here. subst (λ (u : Played). HasOrigin cells ps u line) (one_at ps j z x at here)
+          (step_on cells ps y z line rising step (h.leads y there));
     }

@@ -39,14 +39,16 @@ used_quarantined ms f u slots lines is =
     let (vs, h) = run_of ms u.slot slots lines in
     waits_quarantined ms u.slot vs h f u.found (h.one.found u is.used refl) (waits_of ms f u u.slot refl is)
 
-pub quarantined_used : (ms : List Mark) (u : Mark) → Slots ms → OwnLines ms → Contains ms u → IsQuarantined u.found → (f : Mark) × IsUseOf ms f u
+pub quarantined_used : (ms : List Mark) (u : Mark) → Slots ms → OwnLines ms → Contains ms u →
+    IsQuarantined u.found → (f : Mark) × IsUseOf ms f u
 quarantined_used ms u slots lines member q =
     let (vs, h) = run_of ms u.slot slots lines in
     let (f, w) = comes_of_free ms u.slot vs h u.found (h.one.found u member refl) q in
     (f, use_of ms f u member w)
 
 -- a use of what f freed that is not below another free of the slot
-none_between : (ms : List Mark) (f g u : Mark) → Slots ms → OwnLines ms → IsUseOf ms f u → Contains ms g → g.slot ≡ u.slot → g.step ≡ Some Free →
+none_between : (ms : List Mark) (f g u : Mark) → Slots ms → OwnLines ms → IsUseOf ms f u → Contains ms g →
+    g.slot ≡ u.slot → g.step ≡ Some Free →
     number_of g.found < number_of u.found → number_of f.found < number_of g.found → ⊥
 none_between ms f g u slots lines is member slot step below above =
     let (vs, h) = run_of ms g.slot slots lines in
@@ -63,7 +65,8 @@ none_between ms f g u slots lines is member slot step below above =
     let (free, refs) = used_quarantined ms f g slots lines between in
     omega arith
 
-pub last_free : (ms : List Mark) (f g u : Mark) → Slots ms → OwnLines ms → IsUseOf ms f u → Contains ms g → g.slot ≡ u.slot → g.step ≡ Some Free →
+pub last_free : (ms : List Mark) (f g u : Mark) → Slots ms → OwnLines ms → IsUseOf ms f u → Contains ms g →
+    g.slot ≡ u.slot → g.step ≡ Some Free →
     number_of g.found < number_of u.found → number_of g.found ≤ number_of f.found
 last_free ms f g u slots lines is member slot step below = elim (cases_lt (number_of f.found) (number_of g.found)) [
   | inl above ↦ absurd (none_between ms f g u slots lines is member slot step below above)
@@ -71,7 +74,8 @@ last_free ms f g u slots lines is member slot step below = elim (cases_lt (numbe
 ]
 
 -- two frees of a slot at one number are one
-pub one_free : (ms : List Mark) (f g : Mark) → Slots ms → OwnLines ms → Contains ms f → Contains ms g → f.slot ≡ g.slot → f.step ≡ Some Free → g.step ≡ Some Free →
+pub one_free : (ms : List Mark) (f g : Mark) → Slots ms → OwnLines ms → Contains ms f → Contains ms g → f.slot ≡ g.slot →
+    f.step ≡ Some Free → g.step ≡ Some Free →
     number_of f.found ≡ number_of g.found → f ≡ g
 one_free ms f g slots lines a b slot step step' same =
     let (vs, h) = run_of ms g.slot slots lines in

@@ -37,7 +37,8 @@ before ps i j x y rising at at' less = elim (cases_lt i j) [
 ]
 
 -- the last put before a record is one
-pub one_put : (cells : Cells) (ps : List Played) (x y z : Played) (reg : ℕ) → RiseByLine ps → IsLastPut cells ps x reg y → IsLastPut cells ps x reg z → y ≡ z
+pub one_put : (cells : Cells) (ps : List Played) (x y z : Played) (reg : ℕ) → RiseByLine ps → IsLastPut cells ps x reg y →
+    IsLastPut cells ps x reg z → y ≡ z
 one_put cells ps x y z reg rising a b = elim (cases_lt y.line z.line) [
   | inl less ↦ absurd (a.last z b.among b.thread less b.before b.puts)
   | inr most ↦ elim (cases_lt z.line y.line) [
@@ -47,19 +48,22 @@ one_put cells ps x y z reg rising a b = elim (cases_lt y.line z.line) [
 ]
 
 -- only one record gave what a record found
-pub one_giver : (cells : Cells) (ps : List Played) (y z w : Played) → RiseByLine ps → IsGivenBy cells ps y z → IsGivenBy cells ps y w → z ≡ w
+pub one_giver : (cells : Cells) (ps : List Played) (y z w : Played) → RiseByLine ps → IsGivenBy cells ps y z →
+    IsGivenBy cells ps y w → z ≡ w
 one_giver cells ps y z w rising a b =
     let op : ops.Swap a.cell a.reg ≡ ops.Swap b.cell b.reg = sym a.op ∙ b.op in
     let answer : Swapped (a.index + 1) ≡ Swapped (b.index + 1) = sym a.answer ∙ b.answer in
     let cell : a.cell ≡ b.cell = cc in
     let next : a.index + 1 ≡ b.index + 1 = cc in
     let index : a.index ≡ b.index = omega (arith, next) in
-    let here : IsExchange cells b.cell b.index a.entry = subst (λ k. IsExchange cells k b.index a.entry) cell (subst (λ i. IsExchange cells a.cell i a.entry) index a.exchange) in
+    let here : IsExchange cells b.cell b.index a.entry =
+    subst (λ k. IsExchange cells k b.index a.entry) cell (subst (λ i. IsExchange cells a.cell i a.entry) index a.exchange) in
     let entry = one_at (cells b.cell) b.index a.entry b.entry here b.exchange in
     one_line ps z w rising a.giver b.giver (a.line ∙ ap (λ (e : CellEntry). e.line) entry ∙ sym b.line)
 
 -- the table's entry for a register is the last put before a record
-pub put_is : (cells : Cells) (ps : List Played) (k i reg : ℕ) (x : Played) → RiseByLine ps → IsRecord ps k x → IsLastPutAt cells ps x.thread reg k (Some i)
+pub put_is : (cells : Cells) (ps : List Played) (k i reg : ℕ) (x : Played) → RiseByLine ps → IsRecord ps k x →
+    IsLastPutAt cells ps x.thread reg k (Some i)
     → (y : Played) × IsRecord ps i y × IsLastPut cells ps x reg y
 put_is cells ps k i reg x rising at (y, here, less, thread, puts, last) = (
   y,
@@ -75,7 +79,8 @@ put_is cells ps k i reg x rising at (y, here, less, thread, puts, last) = (
   },
 )
 
-pub put_none : (cells : Cells) (ps : List Played) (k reg : ℕ) (x y : Played) → RiseByLine ps → IsRecord ps k x → IsLastPutAt cells ps x.thread reg k None → IsLastPut cells ps x reg y → ⊥
+pub put_none : (cells : Cells) (ps : List Played) (k reg : ℕ) (x y : Played) → RiseByLine ps → IsRecord ps k x →
+    IsLastPutAt cells ps x.thread reg k None → IsLastPut cells ps x reg y → ⊥
 put_none cells ps k reg x y rising at none last =
     let (j, there) = in_at ps y last.among in
     none j y (before ps j k y x rising there at last.before) there last.thread last.puts
@@ -85,7 +90,8 @@ copy_not_swap y k reg (from, to, copy) swap = let e : ops.Copy from to ≡ ops.S
 
 -- ---- the way back from a record, by its last put
 
-no_origin : (cells : Cells) (ps : List Played) (x y : Played) (reg line : ℕ) → RiseByLine ps → first_register x.op ≡ Some reg → IsLastPut cells ps x reg y → (IsCopy y → ⊥) → ((z : Played)
+no_origin : (cells : Cells) (ps : List Played) (x y : Played) (reg line : ℕ) → RiseByLine ps → first_register x.op ≡ Some reg →
+    IsLastPut cells ps x reg y → (IsCopy y → ⊥) → ((z : Played)
     → IsGivenBy cells ps y z → ⊥)
     → HasOrigin cells ps x line → ⊥
 no_origin cells ps x y reg line rising first last copy given (ByCopy z other first' last' copy' is) =
@@ -97,11 +103,14 @@ no_origin cells ps x y reg line rising first last copy given (ByExchange z w oth
     let same = one_put cells ps x z y reg rising (subst (λ r. IsLastPut cells ps x r z) reg' last') last in
     given w (subst (λ u. IsGivenBy cells ps u w) same given')
 
-way_from : (cells : Cells) (ps : List Played) (x y : Played) (reg : ℕ) (w : Way) → RiseByLine ps → first_register x.op ≡ Some reg → IsLastPut cells ps x reg y → IsWayBack cells ps y w
+way_from : (cells : Cells) (ps : List Played) (x y : Played) (reg : ℕ) (w : Way) → RiseByLine ps → first_register x.op ≡ Some reg →
+    IsLastPut cells ps x reg y → IsWayBack cells ps y w
     → IsWayOf cells ps x w
-way_from cells ps x y reg Unknown rising first last (copy, given) = λ line origin. no_origin cells ps x y reg line rising first last copy given origin
+way_from cells ps x y reg Unknown rising first last (copy, given) =
+    λ line origin. no_origin cells ps x y reg line rising first last copy given origin
 way_from cells ps x y reg (Copied line) rising first last (copy, is) = ByCopy y reg first last copy is
-way_from cells ps x y reg (Given i) rising first last (z, given, at) = (z, at, record { reg = reg; put = y; first = first; last = last; given = given })
+way_from cells ps x y reg (Given i) rising first last (z, given, at) =
+    (z, at, record { reg = reg; put = y; first = first; last = last; given = given })
 
 pub place_below : {A : Type 0} (xs : List A) (i : ℕ) (x : A) → slice_get xs i ≡ Some x → i < length xs
 place_below xs i x at = elim (cases_lt i (length xs)) [
@@ -112,7 +121,8 @@ place_below xs i x at = elim (cases_lt i (length xs)) [
 got_is : {A : Type 0} (xs : List A) (i : ℕ) (x d : A) → slice_get xs i ≡ Some x → x ≡ get_or xs i d
 got_is xs i x d at = one_at xs i x (get_or xs i d) at (here_is xs i d (place_below xs i x at))
 
-pub way_some : (cells : Cells) (ps : List Played) (k i : ℕ) (x d : Played) (w : Way) (o : Option ℕ) → RiseByLine ps → IsRecord ps k x → first_register x.op ≡ o
+pub way_some : (cells : Cells) (ps : List Played) (k i : ℕ) (x d : Played) (w : Way) (o : Option ℕ) → RiseByLine ps →
+    IsRecord ps k x → first_register x.op ≡ o
     → IsPutFor cells ps x k o (Some i) → IsWayBack cells ps (get_or ps i d) w
     → IsWayOf cells ps x w
 way_some cells ps k i x d w None rising at first none way = absurd (not_some i (sym none))
@@ -120,7 +130,8 @@ way_some cells ps k i x d w (Some reg) rising at first last way =
     let (z, there, is) = put_is cells ps k i reg x rising at last in
     way_from cells ps x (get_or ps i d) reg w rising first (subst (λ u. IsLastPut cells ps x reg u) (got_is ps i z d there) is) way
 
-pub way_none : (cells : Cells) (ps : List Played) (k line : ℕ) (x : Played) (o : Option ℕ) → RiseByLine ps → IsRecord ps k x → first_register x.op ≡ o → IsPutFor cells ps x k o None
+pub way_none : (cells : Cells) (ps : List Played) (k line : ℕ) (x : Played) (o : Option ℕ) → RiseByLine ps → IsRecord ps k x →
+    first_register x.op ≡ o → IsPutFor cells ps x k o None
     → HasOrigin cells ps x line → ⊥
 way_none cells ps k line x None rising at first none (ByCopy z other first' last' copy' is) = not_some other (sym first ∙ first')
 way_none cells ps k line x None rising at first none (ByExchange z w other first' last' given' rest) = not_some other (sym first ∙ first')
@@ -132,12 +143,15 @@ way_none cells ps k line x (Some reg) rising at first none (ByExchange z w other
 -- ---- one step of the way
 
 -- the last put before a record from which a step leads back is the one of that step
-step_put : (cells : Cells) (ps : List Played) (x z y : Played) (reg : ℕ) → RiseByLine ps → (step : IsStepBack cells ps x z) → first_register x.op ≡ Some reg → IsLastPut cells ps x reg y
+step_put : (cells : Cells) (ps : List Played) (x z y : Played) (reg : ℕ) → RiseByLine ps → (step : IsStepBack cells ps x z) →
+    first_register x.op ≡ Some reg → IsLastPut cells ps x reg y
     → y ≡ step.put
 step_put cells ps x z y reg rising step first last =
-    one_put cells ps x y step.put step.reg rising (subst (λ r. IsLastPut cells ps x r y) (of_some reg step.reg (sym first ∙ step.first)) last) step.last
+    one_put cells ps x y step.put step.reg rising
+    (subst (λ r. IsLastPut cells ps x r y) (of_some reg step.reg (sym first ∙ step.first)) last) step.last
 
-pub step_on : (cells : Cells) (ps : List Played) (x z : Played) (line : ℕ) → RiseByLine ps → IsStepBack cells ps x z → HasOrigin cells ps x line → HasOrigin cells ps z line
+pub step_on : (cells : Cells) (ps : List Played) (x z : Played) (line : ℕ) → RiseByLine ps → IsStepBack cells ps x z →
+    HasOrigin cells ps x line → HasOrigin cells ps z line
 step_on cells ps x z line rising step (ByCopy y reg first last copy is) =
     let same = step_put cells ps x z y reg rising step first last in
     absurd (copy_not_swap step.put step.given.cell step.given.reg (subst IsCopy same copy) step.given.op)
@@ -146,7 +160,8 @@ step_on cells ps x z line rising step (ByExchange y w reg first last given rest)
     let one = one_giver cells ps step.put w z rising (subst (λ u. IsGivenBy cells ps u w) same given) step.given in
     subst (λ u. HasOrigin cells ps u line) one rest
 
-pub step_off : (cells : Cells) (ps : List Played) (x z : Played) (line : ℕ) → IsStepBack cells ps x z → HasOrigin cells ps z line → HasOrigin cells ps x line
+pub step_off : (cells : Cells) (ps : List Played) (x z : Played) (line : ℕ) → IsStepBack cells ps x z →
+    HasOrigin cells ps z line → HasOrigin cells ps x line
 step_off cells ps x z line step origin = ByExchange step.put z step.reg step.first step.last step.given origin
 
 -- ---- a way ends
@@ -156,7 +171,8 @@ abbrev pub Ends : List Way → ℕ → ℕ → Type 0
 Ends ws zero i = (line : ℕ) × (slice_get ws i ≡ Some (Copied line))
 Ends ws (suc n) i = (j : ℕ) × (slice_get ws i ≡ Some (Given j)) × Ends ws n j
 
-ends_from : (cells : Cells) (ps : List Played) (ws : List Way) → RiseByLine ps → AreWays cells ps ws (length ps) → (i : ℕ) (x : Played) (line : ℕ) (w : Way) → slice_get ws i ≡ Some w
+ends_from : (cells : Cells) (ps : List Played) (ws : List Way) → RiseByLine ps → AreWays cells ps ws (length ps) →
+    (i : ℕ) (x : Played) (line : ℕ) (w : Way) → slice_get ws i ≡ Some w
     → IsRecord ps i x → HasOrigin cells ps x line
     → (n : ℕ) × Ends ws n i
 ends_from cells ps ws rising ways i x line Unknown here at origin = absurd (ways.each i x Unknown here at line origin)
@@ -175,7 +191,8 @@ ends_from cells ps ws rising ways i x line (Given j) here at (ByExchange y w reg
     let (n, e) = ends_from cells ps ws rising ways j w line v next (subst (λ u. IsRecord ps j u) (sym one) there) rest in
     (suc n, (j, here, e))
 
-pub ends_of : (cells : Cells) (ps : List Played) (ws : List Way) → RiseByLine ps → AreWays cells ps ws (length ps) → (i : ℕ) (x : Played) (line : ℕ) → IsRecord ps i x
+pub ends_of : (cells : Cells) (ps : List Played) (ws : List Way) → RiseByLine ps → AreWays cells ps ws (length ps) →
+    (i : ℕ) (x : Played) (line : ℕ) → IsRecord ps i x
     → HasOrigin cells ps x line → (n : ℕ) × Ends ws n i
 ends_of cells ps ws rising ways i x line at origin =
     let long = ways.long in
@@ -185,8 +202,10 @@ ends_of cells ps ws rising ways i x line at origin =
 
 ends_one : (ws : List Way) (m n i : ℕ) → Ends ws m i → Ends ws n i → m ≡ n
 ends_one ws zero zero i a b = refl
-ends_one ws zero (suc n) i (line, at) (j, at', e) = let same : Copied line ≡ Given j = of_some (Copied line) (Given j) (sym at ∙ at') in absurd cc
-ends_one ws (suc m) zero i (j, at', e) (line, at) = let same : Copied line ≡ Given j = of_some (Copied line) (Given j) (sym at ∙ at') in absurd cc
+ends_one ws zero (suc n) i (line, at) (j, at', e) = let same : Copied line ≡ Given j =
+    of_some (Copied line) (Given j) (sym at ∙ at') in absurd cc
+ends_one ws (suc m) zero i (j, at', e) (line, at) = let same : Copied line ≡ Given j =
+    of_some (Copied line) (Given j) (sym at ∙ at') in absurd cc
 ends_one ws (suc m) (suc n) i (j, at, e) (k, at', f) =
     let same : Given j ≡ Given k = of_some (Given j) (Given k) (sym at ∙ at') in
     let place : j ≡ k = cc in
@@ -230,6 +249,7 @@ pub ends_soon : (ws : List Way) (n i : ℕ) → Ends ws n i → n < length ws
 ends_soon ws n i e =
     let ks = places ws n i e in
     let count = places_count ws n i e in
-    let is = length_is ks (length ws) (places_differ ws n i e) (λ k among. let (m, most, f) = places_end ws n i k e among in ends_below ws m k f) in
+    let is = length_is ks (length ws) (places_differ ws n i e)
+    (λ k among. let (m, most, f) = places_end ws n i k e among in ends_below ws m k f) in
     let most = passing_most (λ k. has k ks) (length ws) in
     omega (arith, count, is, most)

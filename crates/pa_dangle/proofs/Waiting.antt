@@ -22,7 +22,8 @@ pub record Run (ms : List Mark) (s : SlotName) (vs : List ℕ) : Type 0 where
   pub one : IsOneRun ms s (0 ∷ vs)
 
 -- a step at the number of a word that another mark made its step at is that mark's
-pub same_step : (ms : List Mark) (s : SlotName) (vs : List ℕ) → Run ms s vs → (u : ℕ) (m r : Mark) (p q : Step) → Contains (0 ∷ vs) u → IsFirstAt ms s u m p →
+pub same_step : (ms : List Mark) (s : SlotName) (vs : List ℕ) → Run ms s vs → (u : ℕ) (m r : Mark) (p q : Step) →
+    Contains (0 ∷ vs) u → IsFirstAt ms s u m p →
     Contains ms r → r.slot ≡ s → r.step ≡ Some q → number_of r.found ≡ number_of u → (r.found ≡ u) × (q ≡ p)
 same_step ms s vs h u m r p q among first member slot step same =
     let word = same_word ms s 0 vs r.found u h.run (h.one.found r member slot) among same in
@@ -39,7 +40,8 @@ pub record Waits (ms : List Mark) (s : SlotName) (n : ℕ) (f : Mark) : Type 0 w
   pub none : NoneReturned ms s (number_of f.found) n
 
 -- if the step at a word returns nothing, the wait goes on past it
-one_more : (ms : List Mark) (s : SlotName) (vs : List ℕ) → Run ms s vs → (u : ℕ) (m f : Mark) (p : Step) → Contains (0 ∷ vs) u → IsFirstAt ms s u m p →
+one_more : (ms : List Mark) (s : SlotName) (vs : List ℕ) → Run ms s vs → (u : ℕ) (m f : Mark) (p : Step) →
+    Contains (0 ∷ vs) u → IsFirstAt ms s u m p →
     (IsReturning p u → ⊥) → Waits ms s (number_of u) f → Waits ms s (number_of u + 1) f
 one_more ms s vs h u m f p among first keeps w = record {
   among = w.among;
@@ -55,7 +57,8 @@ one_more ms s vs h u m f p among first keeps w = record {
 }
 
 -- a quarantined slot's word comes of a free that kept the slot, if the first word of the rest of the run does
-next_waits : (ms : List Mark) (s : SlotName) (vs : List ℕ) → Run ms s vs → (u : ℕ) (m : Mark) (p : Step) → Contains (0 ∷ vs) u → IsFirstAt ms s u m p → CanStep p u →
+next_waits : (ms : List Mark) (s : SlotName) (vs : List ℕ) → Run ms s vs → (u : ℕ) (m : Mark) (p : Step) → Contains (0 ∷ vs) u →
+    IsFirstAt ms s u m p → CanStep p u →
     (IsQuarantined u → (f : Mark) × Waits ms s (number_of u) f) → IsQuarantined (stepped p u) → (f : Mark) × Waits ms s (number_of u + 1) f
 next_waits ms s vs h u m Issue among first can so (free, refs) = let (a, b, c, d) = stepped_is Issue u can in absurd (omega arith)
 next_waits ms s vs h u m Copy among first can so (free, refs) =
@@ -85,8 +88,10 @@ next_waits ms s vs h u m Free among first can so (free, refs) =
 next_waits ms s vs h u m Write among first can so (free, refs) = let (a, b, c, d) = stepped_is Write u can in absurd (omega arith)
 
 -- each quarantined word of a slot's run has a free that waits there
-along : (ms : List Mark) (s : SlotName) (ws : List ℕ) → Run ms s ws → (u : ℕ) (vs : List ℕ) → IsRunFrom ms s u vs → ((x : ℕ) → Contains (u ∷ vs) x → Contains (0 ∷ ws) x) →
-    (IsQuarantined u → (f : Mark) × Waits ms s (number_of u) f) → (w : ℕ) → Contains (u ∷ vs) w → IsQuarantined w → (f : Mark) × Waits ms s (number_of w) f
+along : (ms : List Mark) (s : SlotName) (ws : List ℕ) → Run ms s ws → (u : ℕ) (vs : List ℕ) → IsRunFrom ms s u vs →
+    ((x : ℕ) → Contains (u ∷ vs) x → Contains (0 ∷ ws) x) →
+    (IsQuarantined u → (f : Mark) × Waits ms s (number_of u) f) → (w : ℕ) → Contains (u ∷ vs) w → IsQuarantined w →
+    (f : Mark) × Waits ms s (number_of w) f
 along ms s ws h u [] run whole so w among q =
     let e = in_one u w among in
     subst (λ z. (f : Mark) × Waits ms s (number_of z) f) e (so (subst IsQuarantined (sym e) q))
@@ -95,10 +100,12 @@ along ms s ws h u (v ∷ vs) (m, p, first, can, is, rest) whole so w among q = e
   | inr after ↦
       let up : number_of u + 1 ≡ number_of v = sym (ap number_of is ∙ number_stepped p u can) in
       along ms s ws h v vs rest (λ x member. whole x (later_in u x (v ∷ vs) member))
-      (λ quarantined. subst (λ n. (f : Mark) × Waits ms s n f) up (next_waits ms s ws h u m p (whole u (first_in u (v ∷ vs))) first can so (subst IsQuarantined is quarantined))) w after q
+      (λ quarantined. subst (λ n. (f : Mark) × Waits ms s n f) up
+      (next_waits ms s ws h u m p (whole u (first_in u (v ∷ vs))) first can so (subst IsQuarantined is quarantined))) w after q
 ]
 
-pub comes_of_free : (ms : List Mark) (s : SlotName) (vs : List ℕ) → Run ms s vs → (w : ℕ) → Contains (0 ∷ vs) w → IsQuarantined w → (f : Mark) × Waits ms s (number_of w) f
+pub comes_of_free : (ms : List Mark) (s : SlotName) (vs : List ℕ) → Run ms s vs → (w : ℕ) → Contains (0 ∷ vs) w → IsQuarantined w →
+    (f : Mark) × Waits ms s (number_of w) f
 comes_of_free ms s vs h w among q =
     along ms s vs h 0 vs h.run (λ x member. member) (λ (free, refs). absurd (omega arith)) w among q
 
@@ -116,7 +123,8 @@ stays Free u can (free, refs) keeps = let (a, b, c) = stepped_is Free u can in a
 stays Write u can (free, refs) keeps = let (a, b, c, d) = stepped_is Write u can in absurd (omega arith)
 
 -- from a quarantined word on, each word up to which no step returned the slot is one
-still : (ms : List Mark) (s : SlotName) (u : ℕ) (vs : List ℕ) → IsRunFrom ms s u vs → IsQuarantined u → (w k : ℕ) → Contains (u ∷ vs) w → k < number_of u →
+still : (ms : List Mark) (s : SlotName) (u : ℕ) (vs : List ℕ) → IsRunFrom ms s u vs → IsQuarantined u → (w k : ℕ) →
+    Contains (u ∷ vs) w → k < number_of u →
     NoneReturned ms s k (number_of w) → IsQuarantined w
 still ms s u [] run q w k among low none = subst IsQuarantined (in_one u w among) q
 still ms s u (v ∷ vs) (m, p, first, can, is, rest) q w k among low none = elim (in_cases u w (v ∷ vs) among) [
@@ -125,40 +133,47 @@ still ms s u (v ∷ vs) (m, p, first, can, is, rest) q w k among low none = elim
       let up : number_of v ≡ number_of u + 1 = ap number_of is ∙ number_stepped p u can in
       let more = run_rises ms s v vs w rest after in
       let at : number_of m.found ≡ number_of u = ap number_of first.found in
-      let keeps : IsReturning p u → ⊥ = λ returns. none m p first.among first.slot first.step (subst (λ z. IsReturning p z) (sym first.found) returns) (omega arith) (omega arith) in
+      let keeps : IsReturning p u →
+      ⊥ = λ returns. none m p first.among first.slot first.step (subst (λ z. IsReturning p z) (sym first.found) returns) (omega arith)
+      (omega arith) in
       still ms s v vs rest (subst IsQuarantined (sym is) (stays p u can q keeps)) w k after (omega arith) none
 ]
 
 -- the run from a word on, with its words from that number on
-from_free : (ms : List Mark) (s : SlotName) (u : ℕ) (vs : List ℕ) → AllPairs OtherLine ms → IsRunFrom ms s u vs → (f : Mark) (w : ℕ) → Contains (u ∷ vs) f.found → IsFirstAt ms s f.found f Free →
-    CanStep Free f.found → 0 < refs_of f.found → Contains (u ∷ vs) w → number_of f.found < number_of w → NoneReturned ms s (number_of f.found) (number_of w) → IsQuarantined w
+from_free : (ms : List Mark) (s : SlotName) (u : ℕ) (vs : List ℕ) → AllPairs OtherLine ms → IsRunFrom ms s u vs → (f : Mark) (w : ℕ) →
+    Contains (u ∷ vs) f.found → IsFirstAt ms s f.found f Free →
+    CanStep Free f.found → 0 < refs_of f.found → Contains (u ∷ vs) w → number_of f.found < number_of w →
+    NoneReturned ms s (number_of f.found) (number_of w) → IsQuarantined w
 from_free ms s u [] lines run f w here first can refs among less none =
     let a : number_of u ≡ number_of f.found = ap number_of (in_one u f.found here) in
     let b : number_of u ≡ number_of w = ap number_of (in_one u w among) in
     absurd (omega arith)
-from_free ms s u (v ∷ vs) lines (m, p, at, can', is, rest) f w here first can refs among less none = elim (in_cases u f.found (v ∷ vs) here) [
-  | inl e ↦
-      let same = one_mark ms s f.found m f p Free lines (subst (λ z. IsFirstAt ms s z m p) e at) first in
-      let step : p ≡ Free = of_some p Free (sym at.step ∙ ap (λ (z : Mark). z.step) same ∙ first.step) in
-      let next : v ≡ stepped Free f.found = is ∙ ap (λ z. stepped z u) step ∙ ap (stepped Free) e in
-      let (a, b, c) = stepped_is Free f.found can in
-      let up : number_of v ≡ number_of f.found + 1 = ap number_of next ∙ number_stepped Free f.found can in
-      let q : IsQuarantined (stepped Free f.found) = (b, omega arith) in
-      elim (in_cases u w (v ∷ vs) among) [
-        | inl g ↦ let h : number_of u ≡ number_of w = ap number_of g in let i : number_of u ≡ number_of f.found = ap number_of e in absurd (omega arith)
-        | inr after ↦ still ms s v vs rest (subst IsQuarantined (sym next) q) w (number_of f.found) after (omega arith) none
+from_free ms s u (v ∷ vs) lines (m, p, at, can', is, rest) f w here first can refs among less none =
+    elim (in_cases u f.found (v ∷ vs) here) [
+      | inl e ↦
+          let same = one_mark ms s f.found m f p Free lines (subst (λ z. IsFirstAt ms s z m p) e at) first in
+          let step : p ≡ Free = of_some p Free (sym at.step ∙ ap (λ (z : Mark). z.step) same ∙ first.step) in
+          let next : v ≡ stepped Free f.found = is ∙ ap (λ z. stepped z u) step ∙ ap (stepped Free) e in
+          let (a, b, c) = stepped_is Free f.found can in
+          let up : number_of v ≡ number_of f.found + 1 = ap number_of next ∙ number_stepped Free f.found can in
+          let q : IsQuarantined (stepped Free f.found) = (b, omega arith) in
+          elim (in_cases u w (v ∷ vs) among) [
+            | inl g ↦ let h : number_of u ≡ number_of w = ap number_of g in
+                let i : number_of u ≡ number_of f.found = ap number_of e in absurd (omega arith)
+            | inr after ↦ still ms s v vs rest (subst IsQuarantined (sym next) q) w (number_of f.found) after (omega arith) none
+          ]
+      | inr behind ↦ elim (in_cases u w (v ∷ vs) among) [
+        | inl g ↦
+            let h : number_of u ≡ number_of w = ap number_of g in
+            let up : number_of v ≡ number_of u + 1 = ap number_of is ∙ number_stepped p u can' in
+            let more = run_rises ms s v vs f.found rest behind in
+            absurd (omega arith)
+        | inr after ↦ from_free ms s v vs lines rest f w behind first can refs after less none
       ]
-  | inr behind ↦ elim (in_cases u w (v ∷ vs) among) [
-    | inl g ↦
-        let h : number_of u ≡ number_of w = ap number_of g in
-        let up : number_of v ≡ number_of u + 1 = ap number_of is ∙ number_stepped p u can' in
-        let more = run_rises ms s v vs f.found rest behind in
-        absurd (omega arith)
-    | inr after ↦ from_free ms s v vs lines rest f w behind first can refs after less none
-  ]
-]
+    ]
 
-pub waits_quarantined : (ms : List Mark) (s : SlotName) (vs : List ℕ) → Run ms s vs → (f : Mark) (w : ℕ) → Contains (0 ∷ vs) w → Waits ms s (number_of w) f → IsQuarantined w
+pub waits_quarantined : (ms : List Mark) (s : SlotName) (vs : List ℕ) → Run ms s vs → (f : Mark) (w : ℕ) → Contains (0 ∷ vs) w →
+    Waits ms s (number_of w) f → IsQuarantined w
 waits_quarantined ms s vs h f w among wait =
     let (first, can) = h.one.used f Free wait.among wait.slot wait.kept.step in
     from_free ms s 0 vs h.lines h.run f w (h.one.found f wait.among wait.slot) first can wait.kept.refs among wait.later wait.none

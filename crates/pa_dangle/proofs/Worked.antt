@@ -49,10 +49,12 @@ above line (m ∷ ms) (less, rest) k among = elim (in_cases m k ms among) [
 rises_differ : (line : ℕ) (ms : List Mark) → Rise line ms → OwnLines ms
 rises_differ line [] rise = pairs_none (λ (m : Mark) (n : Mark). m.line ≢ n.line)
 rises_differ line (m ∷ ms) (less, rest) =
-    pairs_cons (λ (m : Mark) (n : Mark). m.line ≢ n.line) m ms (λ k among e. let low = above m.line ms rest k among in omega arith) (rises_differ m.line ms rest)
+    pairs_cons (λ (m : Mark) (n : Mark). m.line ≢ n.line) m ms (λ k among e. let low = above m.line ms rest k among in omega arith)
+    (rises_differ m.line ms rest)
 
 -- one mark more
-goes : (m : Mark) (o : Option Step) → m.step ≡ o → (ms : List Mark) (word : Words) → ((k : Mark) → Contains ms k → k.line < m.line) → m.found ≡ word m.slot → MayStep m.found o → HasRuns ms word →
+goes : (m : Mark) (o : Option Step) → m.step ≡ o → (ms : List Mark) (word : Words) → ((k : Mark) → Contains ms k → k.line < m.line) →
+    m.found ≡ word m.slot → MayStep m.found o → HasRuns ms word →
     HasRuns (ms ++ m ∷ []) (λ s. cond (same_slot s m.slot) (word_after m o) (word s))
 goes m None e ms word early found can h = runs_same (ms ++ m ∷ []) word (λ s. cond (same_slot s m.slot) m.found (word s))
     (λ s. elim (same_slot_cases s m.slot) [
@@ -65,7 +67,8 @@ goes m (Some p) e ms word early found can h =
     (rw (same_slot_yes m.slot m.slot refl) refl)
     (λ s not. rw (same_slot_no s m.slot not) refl) h
 
-follow : (line : ℕ) (word : Words) (before ms : List Mark) → ((k : Mark) → Contains before k → k.line < line + 1) → HasRuns before word → Follow line word ms → Slots (before ++ ms)
+follow : (line : ℕ) (word : Words) (before ms : List Mark) → ((k : Mark) → Contains before k → k.line < line + 1) → HasRuns before word →
+    Follow line word ms → Slots (before ++ ms)
 follow line word before [] early h f = subst Slots (sym (append-nil before)) (slots_of_runs before word h)
 follow line word before (m ∷ ms) early h (less, found, may, rest) =
     subst Slots (append_assoc before (m ∷ []) ms)

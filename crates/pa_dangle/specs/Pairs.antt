@@ -26,8 +26,8 @@ pub record IsLastIssue (ms : List Mark) (s : SlotName) (k : ℕ) (i : Mark) : Ty
   pub last : (j : Mark) → Contains ms j → j.slot ≡ s → j.step ≡ Some Issue → number_of j.found < k →
       number_of j.found ≤ number_of i.found
 
--- How an op uses the slot of the register that it names first. Allocations, exchanges and purges look at no slot, and count as reads
--- here.
+-- How an op uses the slot of the register that it names first. Allocations,
+-- exchanges and purges look at no slot, and count as reads here.
 abbrev pub use_by : Op → Use
 use_by (ops.Copy from to) = Copied
 use_by (ops.Reset reg) = WasReset

@@ -14,8 +14,8 @@ pub enum Use {
 }
 
 /// A free of an object to which `raw_ptr`s pointed, and a use of what it freed. `made`, `free`, `later` and `origin` are lines of
-/// the trace: of the object's allocation, of the free, of the use, and of the copy from which the `raw_ptr` came that the use went
-/// through.
+/// the trace: of the object's allocation, of the free, of the use,
+/// and of the copy from which the `raw_ptr` came that the use went through.
 #[derive(Clone, Copy, Debug, PartialEq, Eq)]
 pub struct Pair {
     pub made: u32,

@@ -23,7 +23,8 @@ pub fn pairs_dense(
 ) -> Result<Found, OutOfMemory>
     requires limits { IsWithinLimits trace.now }
     requires legal { IsLegal trace.now run.now }
-    ensures found { IfOk result (λ f. AreFound (history_at run.now.cells.items) (played (rules_of trace.now) trace.now.lines run.now.entries.items)
+    ensures found { IfOk result
+        (λ f. AreFound (history_at run.now.cells.items) (played (rules_of trace.now) trace.now.lines run.now.entries.items)
         f.pairs.items f.freed) }
     ensures left { IfOk result (λ f. f.left ≡ left) }
 {

@@ -43,6 +43,7 @@ module _ (bytes : ℕ) (roots : Journals) where
   row_fits partitions x (answers.StaleUse seen) before after fits (row, queue) = same_fits before after fits queue
   row_fits partitions x answers.Nothing before after fits (row, queue) = same_fits before after fits queue
   row_fits partitions x answers.Filled before after fits (row, queue) = same_fits before after fits queue
+  row_fits partitions x answers.Uncounted before after fits (row, queue) = same_fits before after fits queue
   row_fits partitions x answers.NotRef before after fits (row, queue) = same_fits before after fits queue
   row_fits partitions x (answers.Shared seen) before after fits (row, queue) = same_fits before after fits queue
   row_fits partitions x answers.OutOfRange before after fits (row, queue) = same_fits before after fits queue

@@ -24,11 +24,13 @@ front_goes q s rest whole many gone stays past = record {
     least [] last n e b =
         let one : s ≡ last = cc in
         let none : gone ≡ [] = cc in
-        let all : q.slots ≡ last ∷ stays = whole ∙ (ap (λ zs. s ∷ zs) (past.parts ∙ ap (λ zs. zs ++ stays) none) ∙ ap (λ z. z ∷ stays) one) in
+        let all : q.slots ≡ last ∷ stays = whole ∙
+        (ap (λ zs. s ∷ zs) (past.parts ∙ ap (λ zs. zs ++ stays) none) ∙ ap (λ z. z ∷ stays) one) in
         subst (λ k. q.limit < k) (ap freed_bytes all ∙ sym b) many
     least (x ∷ front) last n e b = let later : gone ≡ front ++ last ∷ [] = cc in past.least front last n later b
 
-pub some_goes : (q : QueueList) (r : Option Freed) (rest : List Freed) → q.slots ≡ option_to_list r ++ rest → q.limit < freed_bytes q.slots → IfSome r (GoesFirst q rest)
+pub some_goes : (q : QueueList) (r : Option Freed) (rest : List Freed) → q.slots ≡ option_to_list r ++ rest →
+    q.limit < freed_bytes q.slots → IfSome r (GoesFirst q rest)
 some_goes q None rest whole many = tt
 some_goes q (Some s) rest whole many = front_goes q s rest whole many
 

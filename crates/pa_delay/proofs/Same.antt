@@ -18,7 +18,8 @@ use Rattle.pa_delay.specs.Laws.{NoBytesNoDelay}
 use Rattle.pa_delay.proofs.Zero.{walk_zero}
 
 -- empty queues have no slots
-none_queued : (roots : Journals) (p : ℕ) (waiting : Queues) → ((t : ℕ) → waiting t ≡ []) → (threads n b : ℕ) → AllQueued roots p waiting threads n b
+none_queued : (roots : Journals) (p : ℕ) (waiting : Queues) → ((t : ℕ) → waiting t ≡ []) → (threads n b : ℕ) →
+    AllQueued roots p waiting threads n b
     → (n ≡ 0) × (b ≡ 0)
 none_queued roots p waiting empty zero n b none = none
 none_queued roots p waiting empty (suc t) n b (k, a, m, c, here, rest, sum, bytes) =

@@ -107,15 +107,21 @@ not_ended (x ∷ front) last e = absurd cc
 
 -- the first slot waits; it leaves as the second comes
 first_waits : GoesPast (HaveBytes waiting_roots) 16 (a ∷ []) [] (a ∷ [])
-first_waits = record { parts = refl; fits = (16, one_fits a a_is, omega arith); least = λ front last n e h. absurd (not_ended front last e) }
+first_waits = record {
+  parts = refl;
+  fits = (16, one_fits a a_is, omega arith);
+  least = λ front last n e h. absurd (not_ended front last e);
+}
 
 first_goes : GoesPast (HaveBytes waiting_roots) 16 (a ∷ b ∷ []) (a ∷ []) (b ∷ [])
 first_goes = record { parts = refl; fits = (16, one_fits b b_is, omega arith); least = λ front last n e h. two_past last b n h }
 
-made_first : MadeRow waiting_roots (of_first_thread 2 (ops.Alloc 0 0 8) (answers.Made (first_slot 0) 8)) (first_slot 0) (no_caches 0) lists_2
+made_first : MadeRow waiting_roots (of_first_thread 2 (ops.Alloc 0 0 8) (answers.Made (first_slot 0) 8)) (first_slot 0)
+    (no_caches 0) lists_2
 made_first = inl (0, 0, waiting_fill, after_one, (0, 8, refl, class_0), (Some 0, (refl, no_other 2)), refl, λ p c. refl)
 
-freed_first : DelayedDone 16 waiting_roots (of_first_thread 3 (ops.Free 0) (answers.Done (first_slot 16777217))) (Some steps.Free) (first_slot 16777217) (has lists_2 []) (has lists_2 (a ∷ []))
+freed_first : DelayedDone 16 waiting_roots (of_first_thread 3 (ops.Free 0) (answers.Done (first_slot 16777217))) (Some steps.Free)
+    (first_slot 16777217) (has lists_2 []) (has lists_2 (a ∷ []))
 freed_first = inl ((refl, refl), inl (0, 0, [], (λ q. []), a_is, first_waits, ((λ q. refl), λ p c. refl), none_3))
 
 made_second : MadeRow waiting_roots (of_first_thread 4 (ops.Alloc 1 0 8) (answers.Made (later_slot 0) 8)) (later_slot 0) lists_2 lists_4
@@ -129,11 +135,13 @@ leaves = (lists_5, (λ q. []), (λ q. []), (0, 0, a_is, nothing, λ p c. refl), 
     nothing zero = refl
     nothing (suc q) = rw (ne_eqb (suc q) 0 (λ e. omega arith)) refl
 
-freed_second : DelayedDone 16 waiting_roots (of_first_thread 5 (ops.Free 1) (answers.Done (later_slot 16777217))) (Some steps.Free) (later_slot 16777217)
+freed_second : DelayedDone 16 waiting_roots (of_first_thread 5 (ops.Free 1) (answers.Done (later_slot 16777217))) (Some steps.Free)
+    (later_slot 16777217)
     (has lists_4 (a ∷ [])) (has lists_5 (b ∷ []))
 freed_second = inl ((refl, refl), inl (0, 0, a ∷ [], (λ q. []), b_is, first_goes, leaves, none_5))
 
-made_third : MadeRow waiting_roots (of_first_thread 6 (ops.Alloc 2 0 8) (answers.Made (first_slot 33554432) 8)) (first_slot 33554432) lists_5 lists_6
+made_third : MadeRow waiting_roots (of_first_thread 6 (ops.Alloc 2 0 8) (answers.Made (first_slot 33554432) 8))
+    (first_slot 33554432) lists_5 lists_6
 made_third = inl (0, 0, a ∷ after_two, after_two, (2, 8, refl, class_0), (refl, none_6), refl, λ p c. refl)
 
 abbrev all_after : Caches

@@ -23,10 +23,12 @@ use Rattle.pa_delay.specs.Delayed.{Waiting, Queues, with_queue, HaveBytes, AllLe
 purge_alike : (f g : ℕ → List Numbered) → ((c : ℕ) → f c ≡ g c) → (class n : ℕ) → purge_acts f class n ≡ purge_acts g class n
 purge_alike f g same class zero = refl
 purge_alike f g same class (suc n) =
-    ap (λ xs. gives xs ++ purge_acts f (class + 1) n) (same class) ∙ ap (λ acts. gives (g class) ++ acts) (purge_alike f g same (class + 1) n)
+    ap (λ xs. gives xs ++ purge_acts f (class + 1) n) (same class) ∙
+    ap (λ acts. gives (g class) ++ acts) (purge_alike f g same (class + 1) n)
 
 -- all queues stay empty
-stay_empty : (waiting : Queues) (thread : ℕ) (queue : List Numbered) → queue ≡ [] → ((t : ℕ) → waiting t ≡ []) → (t : ℕ) → with_queue waiting thread queue t ≡ []
+stay_empty : (waiting : Queues) (thread : ℕ) (queue : List Numbered) → queue ≡ [] → ((t : ℕ) → waiting t ≡ []) → (t : ℕ) →
+    with_queue waiting thread queue t ≡ []
 stay_empty waiting thread queue none empty t = elim (cases_eq t thread) [
   | inl same ↦ rw (eq-eqb t thread same) none
   | inr other ↦ rw (ne_eqb t thread other) (empty t)
@@ -42,7 +44,14 @@ module _ (pools : List PoolEntry) (roots : Journals) (journals : (p : ℕ) → I
   one_leaves : (x : Played) (slot : Numbered) (cache after : Cache) (acts : ℕ → List RootAct) → AllLeave roots (slot ∷ []) cache acts after
       → ((q : ℕ) → acts_of roots x.line q ≡ acts q) → ReturnRow roots x slot cache after
   one_leaves x slot cache after acts (next, first, rest, (p, class, of, first_is, next_is), (none, after_is), joined) are =
-      inl (p, class, of, (here p ∙ rw (eq-eqb p p refl) refl, λ q other. here q ∙ rw (ne_eqb q p other) refl), λ q c. after_is q c ∙ next_is q c)
+      inl (
+        p,
+        class,
+        of,
+        (here p ∙ rw (eq-eqb p p refl) refl, λ q other. here q ∙ rw (ne_eqb q p other) refl),
+        λ q c. after_is q c ∙
+            next_is q c,
+      )
     where
       here : (q : ℕ) → acts_of roots x.line q ≡ cond (q == p) (gives (spilled class (slot ∷ cache p class))) []
       here q = are q ∙ (joined q ∙ (ap (λ zs. first q ++ zs) (none q) ∙ (append-nil (first q) ∙ first_is q)))
@@ -53,32 +62,38 @@ module _ (pools : List PoolEntry) (roots : Journals) (journals : (p : ℕ) → I
       let (n, have, few) = past.fits in
       let stays : after.queue ≡ [] = none_fit after.queue n have few in
       let all : slot ∷ [] ≡ gone =
-      ap (λ zs. zs ++ slot ∷ []) (sym none) ∙ (past.parts ∙ (ap (λ zs. gone ++ zs) stays ∙ append-nil gone)) in
-      (one_leaves x slot before.lists after.lists acts (subst (λ zs. AllLeave roots zs before.lists acts after.lists) (sym all) leave) are, stays)
+      ap (λ zs. zs ++ slot ∷ []) (sym none) ∙ (past.parts ∙ (ap (λ zs. gone ++ zs) stays ∙ append-nil gone)) in (
+        one_leaves x slot before.lists after.lists acts (subst (λ zs. AllLeave roots zs before.lists acts after.lists) (sym all) leave) are,
+        stays,
+      )
   return_zero x slot before after none (inr (p, asked, number, direct, only, (same, queue))) =
       (inr (p, asked, number, direct, only, same), queue ∙ none)
 
-  done_zero : (x : Played) (step : Option Step) (seen : Seen) (before after : Waiting) → before.queue ≡ [] → DelayedDone 0 roots x step seen before after
+  done_zero : (x : Played) (step : Option Step) (seen : Seen) (before after : Waiting) → before.queue ≡ [] →
+      DelayedDone 0 roots x step seen before after
       → DoneRow roots x step seen before.lists after.lists × (after.queue ≡ [])
   done_zero x None seen before after none (quiet, (same, queue)) = ((quiet, same), queue ∙ none)
   done_zero x (Some step) seen before after none (inl (returning, row)) =
       let (here, empty) = return_zero x _ before after none row in (inl (returning, here), empty)
   done_zero x (Some step) seen before after none (inr (other, quiet, (same, queue))) = (inr (other, quiet, same), queue ∙ none)
 
-  purge_zero : (partitions : ℕ) (x : Played) (slots : ℕ) (before after : Waiting) → before.queue ≡ [] → DelayedPurge partitions roots x slots before after
+  purge_zero : (partitions : ℕ) (x : Played) (slots : ℕ) (before after : Waiting) → before.queue ≡ [] →
+      DelayedPurge partitions roots x slots before after
       → PurgedRow partitions roots x slots before.lists after.lists × (after.queue ≡ [])
   purge_zero partitions x slots before after none (acts, mid, leave, are, count, lists, queue) =
       let (quiet, same) = subst (λ zs. AllLeave roots zs before.lists acts mid) none leave in
       let long : length before.queue ≡ 0 = ap length none in (
         (
-          λ p below. are p below ∙ (ap (λ zs. zs ++ purge_acts (mid p) 0 170) (quiet p) ∙ purge_alike (mid p) (before.lists p) (same p) 0 170),
+          λ p below. are p below ∙
+              (ap (λ zs. zs ++ purge_acts (mid p) 0 170) (quiet p) ∙ purge_alike (mid p) (before.lists p) (same p) 0 170),
           omega arith,
           lists,
         ),
         queue,
       )
 
-  row_zero : (partitions : ℕ) (x : Played) (a : Answer) (before after : Waiting) → before.queue ≡ [] → DelayedRow 0 partitions roots x a before after
+  row_zero : (partitions : ℕ) (x : Played) (a : Answer) (before after : Waiting) → before.queue ≡ [] →
+      DelayedRow 0 partitions roots x a before after
       → CacheRow partitions roots x a before.lists after.lists × (after.queue ≡ [])
   row_zero partitions x (answers.Done seen) before after none row = done_zero x (step_of x.op) seen before after none row
   row_zero partitions x (answers.Purged slots) before after none row = purge_zero partitions x slots before after none row
@@ -92,6 +107,7 @@ module _ (pools : List PoolEntry) (roots : Journals) (journals : (p : ℕ) → I
   row_zero partitions x (answers.StaleUse seen) before after none (row, queue) = (row, queue ∙ none)
   row_zero partitions x answers.Nothing before after none (row, queue) = (row, queue ∙ none)
   row_zero partitions x answers.Filled before after none (row, queue) = (row, queue ∙ none)
+  row_zero partitions x answers.Uncounted before after none (row, queue) = (row, queue ∙ none)
   row_zero partitions x answers.NotRef before after none (row, queue) = (row, queue ∙ none)
   row_zero partitions x (answers.Shared seen) before after none (row, queue) = (row, queue ∙ none)
   row_zero partitions x answers.OutOfRange before after none (row, queue) = (row, queue ∙ none)
@@ -99,11 +115,13 @@ module _ (pools : List PoolEntry) (roots : Journals) (journals : (p : ℕ) → I
   row_zero partitions x (answers.Swapped entry) before after none (row, queue) = (row, queue ∙ none)
 
   -- record by record
-  pub walk_zero : (partitions : ℕ) (all : Caches) (waiting : Queues) (xs : List Played) (after : Caches) (left : Queues) → ((t : ℕ) → waiting t ≡ [])
+  pub walk_zero : (partitions : ℕ) (all : Caches) (waiting : Queues) (xs : List Played) (after : Caches) (left : Queues) →
+      ((t : ℕ) → waiting t ≡ [])
       → DelayedTo 0 partitions roots all waiting xs after left → CachesTo partitions roots all xs after × ((t : ℕ) → left t ≡ [])
   walk_zero partitions all waiting [] after left empty (same, still) = (same, λ t. ap (λ (q : Queues). q t) still ∙ empty t)
   walk_zero partitions all waiting (x ∷ xs) after left empty (next, row, rest) =
-      let (here, none) = row_zero partitions x x.answer (record { lists = all x.thread; queue = waiting x.thread }) next (empty x.thread) row in
+      let (here, none) = row_zero partitions x x.answer (record { lists = all x.thread; queue = waiting x.thread }) next
+      (empty x.thread) row in
       let (later, done) =
       walk_zero partitions (with_cache all x.thread next.lists) (with_queue waiting x.thread next.queue) xs after left
       (stay_empty waiting x.thread next.queue none empty) rest in

@@ -35,8 +35,8 @@ abbrev pub HaveBytes : Journals → List Numbered → ℕ → Type 0
 HaveBytes roots [] n = n ≡ 0
 HaveBytes roots (s ∷ ss) n = (p class m : ℕ) × IsOfClass roots s.slot p class × HaveBytes roots ss m × (n ≡ slot_of class + m)
 
--- A slot leaves its queue: it becomes the front of its list, and what doesn't stay there goes back to the root. These are the
--- acts, by their partitions.
+-- A slot leaves its queue: it becomes the front of its list, and what doesn't stay there goes back to the root.
+-- These are the acts, by their partitions.
 abbrev pub Leaves : Journals → Numbered → Cache → (ℕ → List RootAct) → Cache → Type 0
 Leaves roots s cache acts after =
     (p class : ℕ) × IsOfClass roots s.slot p class
@@ -64,8 +64,8 @@ DelayedReturn bytes roots x slot before after =
     ⊎ ((p asked number : ℕ) × IsDirect roots slot.slot p × OnlyActs roots x.line p (unmap_at asked slot.slot number ∷ [])
     × StaysWaiting before after)
 
--- a step was made: if it is a returning one the slot comes to the queue or goes back, and else lists and queue stay as they
--- were
+-- a step was made: if it is a returning one the slot comes to the queue or goes back,
+-- and else lists and queue stay as they were
 abbrev pub DelayedDone : ℕ → Journals → Played → Option Step → Seen → Waiting → Waiting → Type 0
 DelayedDone bytes roots x None seen before after = NoActs roots x.line × StaysWaiting before after
 DelayedDone bytes roots x (Some step) seen before after =

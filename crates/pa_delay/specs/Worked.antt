@@ -16,8 +16,8 @@ use Rattle.pa_delay.specs.Runs.{AreDelayed, IsDelayedTally}
 abbrev pub later_slot : ℕ → Seen
 later_slot word = record { slot = record { start = 16400; born = 0 }; found = record { 0 = word } }
 
--- the five records of the delayed run, on lines 2 to 6: two slots are made and freed in turn, and then the first slot is made
--- again
+-- the five records of the delayed run, on lines 2 to 6: two slots are made and freed in turn,
+-- and then the first slot is made again
 abbrev pub waiting_records : List Played
 waiting_records =
     of_first_thread 2 (ops.Alloc 0 0 8) (answers.Made (first_slot 0) 8)

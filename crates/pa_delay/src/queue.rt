@@ -41,8 +41,8 @@ impl Model for Delay {
 }
 
 impl Delay {
-    /// An empty queue in which at most `limit` bytes of slots stay, with room for `room` slots. All the memory that it ever
-    /// needs is allocated here.
+    /// An empty queue in which at most `limit` bytes of slots stay, with room for `room` slots.
+    /// All the memory that it ever needs is allocated here.
     pub fn new(alloc: Global, limit: u32, room: u32) -> Result<Delay, OutOfMemory>
         ensures { IfOk result (λ d. d ≡ record { limit = limit; room = room; slots = [] }) }
     {

@@ -120,8 +120,8 @@ DirectMapIsFiled =
     IsFileRun direct_map_trace r
 
 -- Two threads: one gives the other a raw_ptr through a cell and frees the slot, while the other reads it. The read still
--- finds the allocator's bit, and poison already. The slot is quarantined until the raw_ptr is reset, and is then cached by
--- the thread that reset it.
+-- finds the allocator's bit, and poison already. The slot is quarantined until the raw_ptr is reset,
+-- and is then cached by the thread that reset it.
 abbrev pub two_threads_trace : Trace
 two_threads_trace =
     record {
@@ -171,8 +171,8 @@ two_threads_history =
     ∷ record { line = 7; gave = held.Nothing; found = held.Ref (record { start = 16384; born = 0 }) }
     ∷ []
 
--- what the root of the run of two threads has: 248 slots, 3968 bytes in all, 4096 bytes committed of 2097152 reserved, and one active
--- span
+-- what the root of the run of two threads has: 248 slots, 3968 bytes in all,
+-- 4096 bytes committed of 2097152 reserved, and one active span
 abbrev pub two_threads_census : Census
 two_threads_census = census_of 248 3968 4096 2097152 0 1 0 0
 

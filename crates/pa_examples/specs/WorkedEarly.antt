@@ -1,5 +1,5 @@
--- A run that was worked out by hand, in which poison is read early: before the free, by the order of threads, phases and
--- hand-overs.
+-- A run that was worked out by hand, in which poison is read early: before the free,
+-- by the order of threads, phases and hand-overs.
 use Rattle.std.specs.Prelude.{List, [], ◌∷◌, map}
 use Rattle.pa_slot.specs.Titles.{poison}
 use Rattle.pa_trace.specs.declared.script.Trace.{Trace}

@@ -62,8 +62,8 @@ held_told =
       report = [];
     }
 
--- The words of a region: the first slot's value and count word, poison and the second slot's count word, and nothing at the
--- other slots.
+-- The words of a region: the first slot's value and count word, poison and the second slot's count word,
+-- and nothing at the other slots.
 pub record HasWords (words : List ℕ) : Type 0 where
   pub value : slice_index words 2048 ≡ 5
   pub live : slice_index words 2049 ≡ 0x2000001

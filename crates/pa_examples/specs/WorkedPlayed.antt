@@ -17,7 +17,8 @@ use Rattle.pa_core_run.specs.Playing.{HasCoreRun}
 
 -- there is a run with just these lists, of one partition and no cell, whose vectors are of any heap, and it has a run of the core
 abbrev pub IsPlayedRun : Trace → List Played → List RootEntry → List PoolEntry → List ReportLine → Type 0
-IsPlayedRun t ps journal pools lines = (heap : Global) → (r : Run) × IsRunOf r (map entry_of ps) (journal ∷ []) pools [] lines × HasCoreRun t r
+IsPlayedRun t ps journal pools lines = (heap : Global) →
+    (r : Run) × IsRunOf r (map entry_of ps) (journal ∷ []) pools [] lines × HasCoreRun t r
 
 -- Three runs of one thread: direct maps that come and go, writes and reads, and a purge.
 pub record WorkedRunsArePlayed : Type 0 where

@@ -127,8 +127,8 @@ pub fn direct_map_has_lists()
     ensures { DirectMapHasLists }
 {}
 
-/// The read of the two threads may give the content, or find the slot freed: what is required of logs and of what was seen is met
-/// by both.
+/// The read of the two threads may give the content, or find the slot freed:
+/// what is required of logs and of what was seen is met by both.
 pub fn other_reads_fit()
     ensures { OtherReadsFit }
 {}
@@ -161,8 +161,8 @@ pub fn direct_map_closes()
     ensures { DirectMapIsClosed }
 {}
 
-/// Version 2 left version 1 as it was: which class a request has, how many slots of a class a thread keeps, and what sums and purges
-/// over all classes come to.
+/// Version 2 left version 1 as it was: which class a request has, how many slots of a class a thread keeps,
+/// and what sums and purges over all classes come to.
 pub fn first_version_is_kept()
     ensures { FirstVersionIsKept }
 {}

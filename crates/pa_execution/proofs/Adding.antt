@@ -44,7 +44,8 @@ sum_past f m (suc n) low none = elim (cases_lt n m) [
 ]
 
 -- one number has this much more
-sum_more : (f g : ℕ → ℕ) (more m n : ℕ) → m < n → f m ≡ more + g m → ((k : ℕ) → (k ≡ m → ⊥) → f k ≡ g k) → sum_over f n ≡ more + sum_over g n
+sum_more : (f g : ℕ → ℕ) (more m n : ℕ) → m < n → f m ≡ more + g m → ((k : ℕ) → (k ≡ m → ⊥) → f k ≡ g k) →
+    sum_over f n ≡ more + sum_over g n
 sum_more f g more m zero low here same = absurd (omega arith)
 sum_more f g more m (suc n) low here same = elim (cases_eq m n) [
   | inl e ↦
@@ -88,12 +89,14 @@ pub logged_by_log : (v : View) (weight : Entry → ℕ) → ((k : ℕ) → stake
 logged_by_log v weight once small = by_log weight v.stakes 16 once small
 
 -- seats with the same stakes and logs say the same of a totals word
-pub added_same : (v w : View) → IsAware v → ((k : ℕ) → stake_of w k ≡ stake_of v k) → ((k : ℕ) → log_of k w ≡ log_of k v) → (k : ℕ) → added_in w k ≡ added_in v k
+pub added_same : (v w : View) → IsAware v → ((k : ℕ) → stake_of w k ≡ stake_of v k) → ((k : ℕ) → log_of k w ≡ log_of k v) → (k : ℕ) →
+    added_in w k ≡ added_in v k
 added_same v w aware stakes logs k =
     let a = logged_by_log v (added_to k) aware.stake_once aware.stake_small in
     let b = logged_by_log w (added_to k) (λ r. let s = stakes r in let o = aware.stake_once r in omega arith)
     (λ r has. aware.stake_small r (let s = stakes r in omega arith)) in
-    let c = sum_same (λ r. sum_by (added_to k) (log_of r v)) (λ r. sum_by (added_to k) (log_of r w)) 16 (λ r low. ap (sum_by (added_to k)) (logs r)) in
+    let c = sum_same (λ r. sum_by (added_to k) (log_of r v)) (λ r. sum_by (added_to k) (log_of r w)) 16
+    (λ r low. ap (sum_by (added_to k)) (logs r)) in
     b ∙ (c ∙ sym a)
 
 -- if no thread past the first ones has a log, a totals word is what their logs add up to

@@ -31,7 +31,8 @@ made_first k m ms mine none =
     not_none m (made_with k ms) (sym here ∙ none)
 
 -- a view that has seen some of a list has seen its first
-seen_first : (k : ℕ) (m : Made) (rest seen : List Made) → m.stake ≡ k → (n : Made) → Contains seen n → IsBeginning seen (m ∷ rest) → made_with k seen ≡ [] → ⊥
+seen_first : (k : ℕ) (m : Made) (rest seen : List Made) → m.stake ≡ k → (n : Made) → Contains seen n → IsBeginning seen (m ∷ rest) →
+    made_with k seen ≡ [] → ⊥
 seen_first k m rest [] mine n among begins none = not_in_none n among
 seen_first k m rest (h ∷ hs) mine n among (more, is) none =
     let same : h ≡ m = cc in
@@ -43,7 +44,8 @@ module _ (t : Trace) (c : Course) (v : View) (limits : IsWithinLimits t) (course
 
   module _ (m : Made) (rest : List Made) (first : list_of p v ≡ m ∷ rest) where
     -- one op makes none if none was made before
-    op_none : (w next : WorkerValue) (x : ToldRecord) → PlaysOne w next x → w.stock.partitions ≡ t.partitions → w.stock.thread ≡ m.stake → HasSeenAll w.stock.view v →
+    op_none : (w next : WorkerValue) (x : ToldRecord) → PlaysOne w next x → w.stock.partitions ≡ t.partitions → w.stock.thread ≡ m.stake →
+        HasSeenAll w.stock.view v →
         entered_in p (log_of m.stake w.stock.view) ≡ [] → entered_in p (log_of m.stake next.stock.view) ≡ []
     op_none w next x one many mine sees none = elim (one.does.homes p (omega arith) low) [
       | inl nothing ↦
@@ -58,7 +60,8 @@ module _ (t : Trace) (c : Course) (v : View) (limits : IsWithinLimits t) (course
           )
     ]
 
-    plays_none : (w last : WorkerValue) (xs : List ToldRecord) → PlaysAll w xs last → w.stock.partitions ≡ t.partitions → w.stock.thread ≡ m.stake →
+    plays_none : (w last : WorkerValue) (xs : List ToldRecord) → PlaysAll w xs last → w.stock.partitions ≡ t.partitions →
+        w.stock.thread ≡ m.stake →
         HasSeenAll last.stock.view v → entered_in p (log_of m.stake w.stock.view) ≡ [] → entered_in p (log_of m.stake last.stock.view) ≡ []
     plays_none w last [] same many mine sees none = ap (λ (z : WorkerValue). entered_in p (log_of m.stake z.stock.view)) same ∙ none
     plays_none w last (x ∷ xs) (next, one, more) many mine sees none =
@@ -66,16 +69,19 @@ module _ (t : Trace) (c : Course) (v : View) (limits : IsWithinLimits t) (course
         plays_none next last xs more (one.does.same.1 ∙ many) (one.does.same.0 ∙ mine) sees (op_none w next x one many mine before none)
 
     -- nor do all of them
-    phase_none : (n : ℕ) → suc n ≤ phases_in t.lines → m.stake < t.threads → entered_in p (log_of m.stake (c.starts (suc n) m.stake).stock.view) ≡ [] →
+    phase_none : (n : ℕ) → suc n ≤ phases_in t.lines → m.stake < t.threads →
+        entered_in p (log_of m.stake (c.starts (suc n) m.stake).stock.view) ≡ [] →
         entered_in p (log_of m.stake (c.ends (suc n) m.stake).stock.view) ≡ []
     phase_none n high few none =
         let k = m.stake in
         let is = starts_of t c limits course k n high few in
         let sees = sees_then (c.ends (suc n) k).stock.view (c.seats (suc n)) v ((course.tells (suc n) (omega arith) high).sees k few)
         (sees_last t c limits course v closes (suc n) (omega arith) high) in
-        plays_none (c.starts (suc n) k) (c.ends (suc n) k) (c.plays (suc n) k) (course.plays (suc n) k (omega arith) high few) is.many is.thread sees none
+        plays_none (c.starts (suc n) k) (c.ends (suc n) k) (c.plays (suc n) k)
+        (course.plays (suc n) k (omega arith) high few) is.many is.thread sees none
 
-    ends_none : (n : ℕ) → suc n ≤ phases_in t.lines → m.stake < t.threads → entered_in p (log_of m.stake (c.ends (suc n) m.stake).stock.view) ≡ []
+    ends_none : (n : ℕ) → suc n ≤ phases_in t.lines → m.stake < t.threads →
+        entered_in p (log_of m.stake (c.ends (suc n) m.stake).stock.view) ≡ []
     ends_none zero high few =
         let begins = course.begins m.stake few in
         phase_none 0 high few (ap (entered_in p) (ap (log_of m.stake) begins.new.stock.view ∙ begins.log))
@@ -100,7 +106,8 @@ module _ (t : Trace) (c : Course) (v : View) (limits : IsWithinLimits t) (course
     no_first =
         let small = (subst (λ l. Each (λ (n : Made). n.stake < 16) l) first (closes.aware.makers p)).0 in
         made_first m.stake m rest refl
-        (ap (made_with m.stake) (sym first) ∙ (stakes_made v m.stake p closes.aware (closes.every m.stake small) ∙ log_none (phases_in t.lines - 1) (omega arith)))
+        (ap (made_with m.stake) (sym first) ∙
+        (stakes_made v m.stake p closes.aware (closes.every m.stake small) ∙ log_none (phases_in t.lines - 1) (omega arith)))
 
   list_none : list_of p v ≡ []
   list_none = go (list_of p v) refl

@@ -59,15 +59,20 @@ own_log (z ∷ zs) s among few =
     ]
 
 -- each stake of a seat has the log that the seat's logs say
-each_log : (v : View) (ts : List ToldRecord) → IsAware v → ((k : ℕ) → log_of k v ≡ told_log k ts) → Each (λ (s : Stake). s.log ≡ told_log s.number ts) v.stakes
-each_log v ts aware logs = each_from (λ (s : Stake). s.log ≡ told_log s.number ts) v.stakes (λ s among. sym (own_log v.stakes s among (aware.stake_once s.number)) ∙ logs s.number)
+each_log : (v : View) (ts : List ToldRecord) → IsAware v → ((k : ℕ) → log_of k v ≡ told_log k ts) →
+    Each (λ (s : Stake). s.log ≡ told_log s.number ts) v.stakes
+each_log v ts aware logs =
+    each_from (λ (s : Stake). s.log ≡ told_log s.number ts) v.stakes
+    (λ s among. sym (own_log v.stakes s among (aware.stake_once s.number)) ∙ logs s.number)
 
 module _ (t : Trace) (c : Course) (limits : IsWithinLimits t) (course : IsCourse t (phases_in t.lines) c) where
   -- how a record was played in its phase
-  pub was_played : (x : ToldRecord) → Contains (told_in t c) x → HasPlayed (c.starts x.played.phase x.played.thread) (c.ends x.played.phase x.played.thread) x
+  pub was_played : (x : ToldRecord) → Contains (told_in t c) x →
+      HasPlayed (c.starts x.played.phase x.played.thread) (c.ends x.played.phase x.played.thread) x
   was_played x among =
       let is = within t c limits course x among in
-      has_played (c.starts x.played.phase x.played.thread) (c.ends x.played.phase x.played.thread) (c.plays x.played.phase x.played.thread) x
+      has_played (c.starts x.played.phase x.played.thread) (c.ends x.played.phase x.played.thread)
+      (c.plays x.played.phase x.played.thread) x
       (course.plays x.played.phase x.played.thread is.low is.high is.thread) (in_group t c limits course x among)
 
   -- ---- the worker of a thread
@@ -99,26 +104,31 @@ module _ (t : Trace) (c : Course) (limits : IsWithinLimits t) (course : IsCourse
       }
 
   -- the log of a thread at the end of a phase is that of its records so far
-  pub log_after : (k n : ℕ) → suc n ≤ phases_in t.lines → k < t.threads → log_of k (c.ends (suc n) k).stock.view ≡ stretches (so_far c.plays k (suc n))
+  pub log_after : (k n : ℕ) → suc n ≤ phases_in t.lines → k < t.threads →
+      log_of k (c.ends (suc n) k).stock.view ≡ stretches (so_far c.plays k (suc n))
   log_after k zero high few =
       let begins = course.begins k few in
-      let more = logged (c.starts 1 k) (c.ends 1 k) (c.plays 1 k) k (course.plays 1 k (omega arith) high few) (starts_of k 0 high few).thread in
+      let more = logged (c.starts 1 k) (c.ends 1 k) (c.plays 1 k) k (course.plays 1 k (omega arith) high few)
+      (starts_of k 0 high few).thread in
       let none : log_of k (c.starts 1 k).stock.view ≡ [] = ap (log_of k) begins.new.stock.view ∙ begins.log in
       more ∙ ap (λ es. es ++ stretches (c.plays 1 k)) none
   log_after k (suc n) high few =
       let again = log_after k n (omega arith) few in
       let heard = heard_next (suc n) k (omega arith) (omega arith) few in
-      let more = logged (c.starts (suc (suc n)) k) (c.ends (suc (suc n)) k) (c.plays (suc (suc n)) k) k (course.plays (suc (suc n)) k (omega arith) high few) (starts_of k (suc n) high few).thread in
+      let more = logged (c.starts (suc (suc n)) k) (c.ends (suc (suc n)) k) (c.plays (suc (suc n)) k) k
+      (course.plays (suc (suc n)) k (omega arith) high few) (starts_of k (suc n) high few).thread in
       let same : log_of k (c.starts (suc (suc n)) k).stock.view ≡ stretches (so_far c.plays k (suc n)) =
       ap (λ (w : WorkerValue). log_of k w.stock.view) heard.same ∙ (heard.log ∙ again) in
-      more ∙ (ap (λ es. es ++ stretches (c.plays (suc (suc n)) k)) same ∙ sym (flat_map-append (λ (x : ToldRecord). x.stretch) (so_far c.plays k (suc n)) (c.plays (suc (suc n)) k)))
+      more ∙ (ap (λ es. es ++ stretches (c.plays (suc (suc n)) k)) same ∙
+      sym (flat_map-append (λ (x : ToldRecord). x.stretch) (so_far c.plays k (suc n)) (c.plays (suc (suc n)) k)))
 
   -- ---- the main seat
 
   -- the logs of the main seat at the end of a phase are those of the records so far
   seat_logs : (n k : ℕ) → suc n ≤ phases_in t.lines → log_of k (c.seats (suc n)) ≡ told_log k (told_until (suc n) (told_in t c))
   seat_logs n k high = elim (cases_lt k t.threads) [
-    | inl few ↦ (course.tells (suc n) (omega arith) high).logs k few ∙ (log_after k n high few ∙ sym (ap stretches (thread_until t c limits course (suc n) k high few)))
+    | inl few ↦ (course.tells (suc n) (omega arith) high).logs k few ∙
+        (log_after k n high few ∙ sym (ap stretches (thread_until t c limits course (suc n) k high few)))
     | inr past ↦ (course.tells (suc n) (omega arith) high).idle k past ∙ sym (ap stretches (no_thread t c limits course (suc n) k past))
   ]
 
@@ -137,14 +147,19 @@ module _ (t : Trace) (c : Course) (limits : IsWithinLimits t) (course : IsCourse
 
   module _ (v : View) (closes : Closes (c.seats (phases_in t.lines)) v) where
     pub sees_last : (n : ℕ) → 1 ≤ n → n ≤ phases_in t.lines → HasSeenAll (c.seats n) v
-    sees_last n low high = sees_then (c.seats n) (c.seats (phases_in t.lines)) v (sees_until n (phases_in t.lines) low high (omega arith)) closes.sees
+    sees_last n low high = sees_then (c.seats n) (c.seats (phases_in t.lines)) v
+        (sees_until n (phases_in t.lines) low high (omega arith)) closes.sees
 
     pub ends_phase : (n : ℕ) → 1 ≤ n → n ≤ phases_in t.lines → EndsPhase n (c.seats n) v (told_in t c)
     ends_phase zero low high = absurd (omega arith)
     ends_phase (suc n) low high =
         let told = course.tells (suc n) low high in
         record {
-          has = record { aware = told.aware; every = told.every; logs = each_log (c.seats (suc n)) (told_until (suc n) (told_in t c)) told.aware (λ k. seat_logs n k high) };
+          has = record {
+            aware = told.aware;
+            every = told.every;
+            logs = each_log (c.seats (suc n)) (told_until (suc n) (told_in t c)) told.aware (λ k. seat_logs n k high);
+          };
           begins = λ q few. (sees_last (suc n) low high).lists q;
         }
 
@@ -156,4 +171,8 @@ module _ (t : Trace) (c : Course) (limits : IsWithinLimits t) (course : IsCourse
     pub has_last : HasLogs v (told_in t c)
     has_last =
         let some : phases_in t.lines ≡ suc (phases_in t.lines - 1) = omega arith in
-        record { aware = closes.aware; every = closes.every; logs = each_log v (told_in t c) closes.aware (λ k. last_logs k (phases_in t.lines - 1) some) }
+        record {
+          aware = closes.aware;
+          every = closes.every;
+          logs = each_log v (told_in t c) closes.aware (λ k. last_logs k (phases_in t.lines - 1) some);
+        }

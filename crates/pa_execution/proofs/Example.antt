@@ -41,7 +41,8 @@ no_act o n fits q = elim (cases_lt q 4) [
   | inl low ↦ fits.acts q [] low refl
   | inr past ↦
       let few = fits.run.few in
-      ap (λ (es : List RootEntry). map (λ (e : RootEntry). e.act) (filter (λ (e : RootEntry). eqb e.line (small_line n)) es)) (fits.run.past q (omega arith))
+      ap (λ (es : List RootEntry). map (λ (e : RootEntry). e.act) (filter (λ (e : RootEntry). eqb e.line (small_line n)) es))
+      (fits.run.past q (omega arith))
 ]
 
 does : (n : ℕ) → Does small_stock small_stock (small_record n)
@@ -66,7 +67,10 @@ does n = record {
   enters = record {
     lines = λ q m among. absurd (not_in_none m among);
     fills = λ p m e low among. absurd (not_in_none m among);
-    asked = (record { roots = λ p. []; pools = []; roots_are = λ p low. refl; pools_are = refl }, inl (record { pools = refl; roots = λ p. refl }));
+    asked = (
+      record { roots = λ p. []; pools = []; roots_are = λ p low. refl; pools_are = refl },
+      inl (record { pools = refl; roots = λ p. refl }),
+    );
     refused = λ j reg p size full op. absurd cc;
     uncuts = λ u among. absurd (not_in_none _ among);
     cells = refl;
@@ -95,7 +99,8 @@ no_counts o n = record {
   left = λ p low. refl;
 }
 
-no_bytes : (o : Outcome) (n : ℕ) → BooksBy o.homes o.sizes ((small_record n).played ∷ []) (small_worker (small_before n)) (small_worker (small_until n))
+no_bytes : (o : Outcome) (n : ℕ) →
+    BooksBy o.homes o.sizes ((small_record n).played ∷ []) (small_worker (small_before n)) (small_worker (small_until n))
 no_bytes o n p q low kind = omega arith
 
 -- ---- the seats
@@ -139,9 +144,15 @@ begins = record {
 }
 
 plays : (n : ℕ) → 1 ≤ n → n ≤ 2 → PlaysAll (small_worker (small_before n)) (small_record n ∷ []) (small_worker (small_until n))
-plays = two_phases (λ n. PlaysAll (small_worker (small_before n)) (small_record n ∷ []) (small_worker (small_until n)))
-    (small_worker (small_until 1), record { records = refl; does = does 1; counts = λ o fits. no_counts o 1; bytes = λ o fits. no_bytes o 1 }, refl)
-    (small_worker (small_until 2), record { records = refl; does = does 2; counts = λ o fits. no_counts o 2; bytes = λ o fits. no_bytes o 2 }, refl)
+plays = two_phases (λ n. PlaysAll (small_worker (small_before n)) (small_record n ∷ []) (small_worker (small_until n))) (
+  small_worker (small_until 1),
+  record { records = refl; does = does 1; counts = λ o fits. no_counts o 1; bytes = λ o fits. no_bytes o 1 },
+  refl,
+) (
+  small_worker (small_until 2),
+  record { records = refl; does = does 2; counts = λ o fits. no_counts o 2; bytes = λ o fits. no_bytes o 2 },
+  refl,
+)
 
 lines : (n k : ℕ) → 1 ≤ n → n ≤ 2 → k < 1 → record {
   line = small_line n;
@@ -152,7 +163,13 @@ lines : (n k : ℕ) → 1 ≤ n → n ≤ 2 → k < 1 → record {
 } ∷ [] ≡ lines_in (rules_of small_trace) small_trace.lines n k
 lines n k low high few =
     let first : 0 ≡ k = omega arith in
-    subst (λ j. record { line = small_line n; thread = 0; phase = n; rules = first_rules 1; op = (small_record n).played.op } ∷ [] ≡ lines_in (rules_of small_trace) small_trace.lines n j) first
+    subst (λ j. record {
+      line = small_line n;
+      thread = 0;
+      phase = n;
+      rules = first_rules 1;
+      op = (small_record n).played.op;
+    } ∷ [] ≡ lines_in (rules_of small_trace) small_trace.lines n j) first
     (two_phases (λ m. record { line = small_line m; thread = 0; phase = m; rules = first_rules 1; op = (small_record m).played.op } ∷ [] ≡
     lines_in (rules_of small_trace) small_trace.lines m 0) refl refl n low high)
 
@@ -224,13 +241,31 @@ by_worker = two_phases Counted
       live = record { slots = refl; bytes = refl };
       quarantined = record { slots = refl; bytes = refl };
       cached = record { slots = refl; bytes = refl };
-      root = record { journal = []; journal_is = refl; seen = []; begins = ([], refl); pool = []; pool_is = refl; replays = record { replays = tt; rise = tt }; taken = refl };
+      root = record {
+        journal = [];
+        journal_is = refl;
+        seen = [];
+        begins = ([], refl);
+        pool = [];
+        pool_is = refl;
+        replays = record { replays = tt; rise = tt };
+        taken = refl;
+      };
     })
     (record {
       live = record { slots = refl; bytes = refl };
       quarantined = record { slots = refl; bytes = refl };
       cached = record { slots = refl; bytes = refl };
-      root = record { journal = []; journal_is = refl; seen = []; begins = ([], refl); pool = []; pool_is = refl; replays = record { replays = tt; rise = tt }; taken = refl };
+      root = record {
+        journal = [];
+        journal_is = refl;
+        seen = [];
+        begins = ([], refl);
+        pool = [];
+        pool_is = refl;
+        replays = record { replays = tt; rise = tt };
+        taken = refl;
+      };
     })
 
 counted : (l : ReportLine) → Contains small_told.report l → IsLineBy small_trace small_course small_seat l
@@ -243,7 +278,8 @@ counted l among = elim (in_cases (small_report 1) l (small_report 2 ∷ []) amon
 ]
 
 lines_said : (l : ReportLine) → Contains small_told.report l →
-    IsLineSaid small_trace small_told small_seat (told_in small_trace small_course) (lists_at small_trace small_course l.phase) (small_course.seats l.phase) l
+    IsLineSaid small_trace small_told small_seat (told_in small_trace small_course) (lists_at small_trace small_course l.phase)
+    (small_course.seats l.phase) l
 lines_said l among = courses_tell_lines small_trace small_told small_course small_seat [] run l among (counted l among)
 
 says : LayersSay small_trace small_told small_seat (told_in small_trace small_course)

@@ -45,10 +45,13 @@ use Rattle.pa_execution.proofs.Playing.{HasPlayed, sees_then}
 use Rattle.pa_lists.proofs.Indexed.{slice_get_at}
 
 -- an entry at its place of a list, as what the list is in numbers has it
-numbered_at : {A : Type 0} (numbers : A → List ℕ) (list older rest : List Made) (es : List A) (m : Made) (e : A) → ((a b : A) → numbers a ≡ numbers b → a ≡ b) →
-    map (λ (n : Made). n.numbers) list ≡ map numbers es → list ≡ older ++ m ∷ rest → m.numbers ≡ numbers e → slice_get es (length older) ≡ Some e
+numbered_at : {A : Type 0} (numbers : A → List ℕ) (list older rest : List Made) (es : List A) (m : Made) (e : A) →
+    ((a b : A) → numbers a ≡ numbers b → a ≡ b) →
+    map (λ (n : Made). n.numbers) list ≡ map numbers es → list ≡ older ++ m ∷ rest → m.numbers ≡ numbers e →
+    slice_get es (length older) ≡ Some e
 numbered_at numbers list older rest es m e one same at says =
-    let (f, there, is) = entry_there numbers list es (length older) m same (ap (λ l. slice_get l (length older)) at ∙ slice_get_at older rest m) in
+    let (f, there, is) = entry_there numbers list es (length older) m same
+    (ap (λ l. slice_get l (length older)) at ∙ slice_get_at older rest m) in
     there ∙ ap Some (one f e (sym is ∙ says))
 
 -- entries that are none in numbers are none
@@ -57,7 +60,8 @@ none_numbered [] none = refl
 none_numbered (e ∷ es) none = absurd cc
 
 -- an entry that a list in numbers has is one of its entries
-from_numbers : (list : List Made) (es : List RootEntry) (e : RootEntry) → map (λ (n : Made). n.numbers) list ≡ map root_numbers es → Contains es e →
+from_numbers : (list : List Made) (es : List RootEntry) (e : RootEntry) → map (λ (n : Made). n.numbers) list ≡ map root_numbers es →
+    Contains es e →
     (m : Made) × Contains list m × (m.numbers ≡ root_numbers e)
 from_numbers list [] e same among = absurd (not_in_none e among)
 from_numbers [] (f ∷ es) e same among = absurd cc
@@ -86,18 +90,21 @@ module _ (t : Trace) (r : Told) (c : Course) (v : View) (xs : List Exchange) (ru
   ts = told_in t c
 
   -- how a record was played in its phase, and what the closing seat has seen of it
-  pub played : (x : ToldRecord) → Contains ts x → HasPlayed (c.starts x.played.phase x.played.thread) (c.ends x.played.phase x.played.thread) x
+  pub played : (x : ToldRecord) → Contains ts x →
+      HasPlayed (c.starts x.played.phase x.played.thread) (c.ends x.played.phase x.played.thread) x
   played = was_played t c run.left.limits run.course
 
   pub end_sees : (n k : ℕ) → 1 ≤ n → n ≤ phases → k < t.threads → HasSeenAll (c.ends n k).stock.view v
   end_sees n k low high few =
-      sees_then (c.ends n k).stock.view (c.seats n) v ((run.course.tells n low high).sees k few) (sees_last t c run.left.limits run.course v run.closes n low high)
+      sees_then (c.ends n k).stock.view (c.seats n) v ((run.course.tells n low high).sees k few)
+      (sees_last t c run.left.limits run.course v run.closes n low high)
 
   pub then_sees : (x : ToldRecord) (among : Contains ts x) → HasSeenAll (played x among).after.stock.view v
   then_sees x among =
       let is = within t c run.left.limits run.course x among in
       let p = played x among in
-      sees_then p.after.stock.view (c.ends x.played.phase x.played.thread).stock.view v p.last (end_sees x.played.phase x.played.thread is.low is.high is.thread)
+      sees_then p.after.stock.view (c.ends x.played.phase x.played.thread).stock.view v p.last
+      (end_sees x.played.phase x.played.thread is.low is.high is.thread)
 
   -- ---- the lists
 
@@ -154,7 +161,8 @@ module _ (t : Trace) (r : Told) (c : Course) (v : View) (xs : List Exchange) (ru
             asked = once.asked;
             others = once.others;
             names = once.names;
-            stands = stands_longer (list_of 4 p.after.stock.view) (list_of 4 v) once.made once.index ((then_sees x among).lists 4) once.stands;
+            stands = stands_longer (list_of 4 p.after.stock.view) (list_of 4 v) once.made once.index
+                ((then_sees x among).lists 4) once.stands;
           })
         ],
       )
@@ -167,7 +175,8 @@ module _ (t : Trace) (r : Told) (c : Course) (v : View) (xs : List Exchange) (ru
   -- all records are played by the trace's rules
   pub by_rules : (x : ToldRecord) → Contains ts x → x.played.rules ≡ rules_of t
   by_rules x among =
-      record_rules (rules_of t) t.lines (played_in ts) x.played (are_lines t c run.left.limits run.course) (map_in (λ (z : ToldRecord). z.played) ts x among)
+      record_rules (rules_of t) t.lines (played_in ts) x.played (are_lines t c run.left.limits run.course)
+      (map_in (λ (z : ToldRecord). z.played) ts x among)
 
   -- journals fill from the classes of the trace's version alone, since each fill is of a record
   fills : (p : ℕ) (e : RootEntry) → Contains (r.roots p) e → FillsFrom t.version e.act
@@ -175,7 +184,8 @@ module _ (t : Trace) (r : Told) (c : Course) (v : View) (xs : List Exchange) (ru
     | inl low ↦
         let (m, there, says) = from_numbers (list_of p v) (r.roots p) e (run.left.lists p low) among in
         let (x, member, of, entered) = lines_have_theirs.each p (list_of p v) ts m (list_is p) there in
-        subst (λ (k : Rules). FillsFrom k.version e.act) (by_rules x member) ((played x member).one.does.enters.fills p m e low entered says)
+        subst (λ (k : Rules). FillsFrom k.version e.act) (by_rules x member)
+        ((played x member).one.does.enters.fills p m e low entered says)
     | inr far ↦ absurd (not_in_none e (subst (λ (es : List RootEntry). Contains es e) (run.left.past p far) among))
   ]
 
@@ -190,14 +200,16 @@ module _ (t : Trace) (r : Told) (c : Course) (v : View) (xs : List Exchange) (ru
 
   pub seen_of_it : IsSeenOf (outcome_of t r) v
   seen_of_it = record {
-    roots = λ p older rest m e low at says. numbered_at root_numbers (list_of p v) older rest (r.roots p) m e one_root (run.left.lists p low) at says;
+    roots = λ p older rest m e low at says. numbered_at root_numbers (list_of p v) older rest (r.roots p) m e one_root
+        (run.left.lists p low) at says;
     pools = λ older rest m e at says. numbered_at pool_numbers (list_of 4 v) older rest r.pools m e one_pool run.left.pool at says;
     exchanges = λ older rest m e at says.
         ap (λ es. slice_get es (length (made_with_cell e.cell older))) (run.left.cells e.cell)
         ∙ stands_at one_cell older rest m e xs (ap (λ l. map (λ (n : Made). n.numbers) l) (sym at) ∙ run.left.exchanges) says;
   }
 
-  pub fits : (n k : ℕ) → 1 ≤ n → n ≤ phases → k < t.threads → FitsAll (outcome_of t r) (c.starts n k).stock.partitions (c.ends n k).stock.view (c.plays n k)
+  pub fits : (n k : ℕ) → 1 ≤ n → n ≤ phases → k < t.threads →
+      FitsAll (outcome_of t r) (c.starts n k).stock.partitions (c.ends n k).stock.view (c.plays n k)
   fits n k low high few = record {
     many = sym (starts_many n k low high few);
     rules = λ x among. by_rules x (from_group t c run.left.limits run.course n k x low high few among);
@@ -213,8 +225,10 @@ module _ (t : Trace) (r : Told) (c : Course) (v : View) (xs : List Exchange) (ru
       starts_many (suc n) k low high few = (starts_of t c run.left.limits run.course k n high few).many
 
   -- each record is what the run requires of it, by its thread's state before it and after it
-  pub answer : (x : ToldRecord) (among : Contains ts x) → AnswersIn (outcome_of t r) (played x among).before.stock (played x among).after.stock x
+  pub answer : (x : ToldRecord) (among : Contains ts x) →
+      AnswersIn (outcome_of t r) (played x among).before.stock (played x among).after.stock x
   answer x among =
       let is = within t c run.left.limits run.course x among in
-      answer_of (outcome_of t r) (c.starts x.played.phase x.played.thread) (c.ends x.played.phase x.played.thread) (c.plays x.played.phase x.played.thread) x (played x among)
+      answer_of (outcome_of t r) (c.starts x.played.phase x.played.thread) (c.ends x.played.phase x.played.thread)
+      (c.plays x.played.phase x.played.thread) x (played x among)
       (fits x.played.phase x.played.thread is.low is.high is.thread) (in_group t c run.left.limits run.course x among)

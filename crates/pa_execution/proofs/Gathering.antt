@@ -124,7 +124,8 @@ tell_next threads k ends first seat heard few own has aware =
       grows = sees_then first seat u heard.grows (sees_before k seat v aware);
     }
 
-tell_all : (threads : ℕ) (ends : ℕ → WorkerValue) (first seat : View) → HasHeardSome threads threads ends first seat → IsAware seat → HasHeardAll threads ends seat
+tell_all : (threads : ℕ) (ends : ℕ → WorkerValue) (first seat : View) → HasHeardSome threads threads ends first seat → IsAware seat →
+    HasHeardAll threads ends seat
 tell_all threads ends first seat heard aware = record {
   aware = aware;
   every = λ k small. elim (cases_lt k threads) [ inl few ↦ heard.told k few | inr past ↦ heard.main.own k past small ];
@@ -158,18 +159,22 @@ module _ (threads k : ℕ) (whole seat : View) (answered : HasAnswered threads k
       let parts = hand_parts (stake_parcel k) seat can_hand in
       record {
         main = record {
-          own = λ j past small. let h = answered.main.own j past small in let p = parts.stakes j in let b = given_beside k j seat (λ e. absurd (omega arith)) in omega arith;
+          own = λ j past small. let h = answered.main.own j past small in let p = parts.stakes j in
+              let b = given_beside k j seat (λ e. absurd (omega arith)) in omega arith;
           idle = λ j past. log_left j (λ e. absurd (omega arith)) ∙ answered.main.idle j past;
           clean = answered.main.clean;
         };
-        stakes = λ j high. let s = answered.stakes j (omega arith) in let p = parts.stakes j in let b = given_beside k j seat (λ e. absurd (omega arith)) in omega arith;
+        stakes = λ j high. let s = answered.stakes j (omega arith) in let p = parts.stakes j in
+            let b = given_beside k j seat (λ e. absurd (omega arith)) in omega arith;
         logs = λ j high. log_left j (λ e. absurd (omega arith)) ∙ answered.logs j (omega arith);
         seen = answered.seen;
         lists = answered.lists;
       }
 
-answer_none : (threads : ℕ) (ends : ℕ → WorkerValue) (first whole : View) → HasHeardSome threads threads ends first whole → HasAnswered threads 0 whole whole
-answer_none threads ends first whole heard = record { main = heard.main; stakes = λ k low. refl; logs = λ k low. refl; seen = refl; lists = refl }
+answer_none : (threads : ℕ) (ends : ℕ → WorkerValue) (first whole : View) → HasHeardSome threads threads ends first whole →
+    HasAnswered threads 0 whole whole
+answer_none threads ends first whole heard =
+    record { main = heard.main; stakes = λ k low. refl; logs = λ k low. refl; seen = refl; lists = refl }
 
 hears : (threads k : ℕ) (ends : ℕ → WorkerValue) (whole seat : View) (after : WorkerValue) → HasHeardAll threads ends whole →
     HasAnswered threads k whole seat → k < threads → stake_of (left_after (stake_parcel k) (ends k).stock.view) k ≡ 0 →

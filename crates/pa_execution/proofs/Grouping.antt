@@ -40,11 +40,13 @@ so_far plays k zero = []
 so_far plays k (suc n) = so_far plays k n ++ plays (suc n) k
 
 -- records up to a phase are those up to the one before, and then its own
-until_split : (n : ℕ) (xs : List ToldRecord) → AreRising xs → ((x y : ToldRecord) → Contains xs x → Contains xs y → x.played.phase < y.played.phase → x.played.line < y.played.line) →
+until_split : (n : ℕ) (xs : List ToldRecord) → AreRising xs →
+    ((x y : ToldRecord) → Contains xs x → Contains xs y → x.played.phase < y.played.phase → x.played.line < y.played.line) →
     told_until (suc n) xs ≡ told_until n xs ++ filter (is_of_phase (suc n)) xs
 until_split n [] rising phases = refl
 until_split n (x ∷ xs) rising phases =
-    let again = until_split n xs (pairs_tail (λ (a b : ToldRecord). a.played.line < b.played.line) x xs rising) (λ a b first second. phases a b (later_in x a xs first) (later_in x b xs second)) in
+    let again = until_split n xs (pairs_tail (λ (a b : ToldRecord). a.played.line < b.played.line) x xs rising)
+    (λ a b first second. phases a b (later_in x a xs first) (later_in x b xs second)) in
     elim (cases_lt n x.played.phase) [
       | inr low ↦
           let before = le-leb x.played.phase n (omega arith) in
@@ -82,41 +84,55 @@ module _ (t : Trace) (c : Course) (limits : IsWithinLimits t) (course : IsCourse
       (is.low, is.high, is.thread)
 
   pub are_lines : AreLines (rules_of t) t.lines (played_in (told_in t c))
-  are_lines = merged_lines IsThere c.plays (op_lines (rules_of t) 2 1 t.lines) lines_there (λ n k there. course.lines n k there.0 there.1 there.2)
+  are_lines = merged_lines IsThere c.plays (op_lines (rules_of t) 2 1 t.lines) lines_there
+      (λ n k there. course.lines n k there.0 there.1 there.2)
 
   pub group : (n k : ℕ) → 1 ≤ n → n ≤ phases_in t.lines → k < t.threads → filter (is_told_in n k) (told_in t c) ≡ c.plays n k
-  group n k low high few = merged_groups IsThere c.plays (op_lines (rules_of t) 2 1 t.lines) lines_there (λ m j there. course.lines m j there.0 there.1 there.2) n k (low, high, few)
+  group n k low high few =
+      merged_groups IsThere c.plays (op_lines (rules_of t) 2 1 t.lines) lines_there
+      (λ m j there. course.lines m j there.0 there.1 there.2) n k (low, high, few)
 
   pub rising : AreRising (told_in t c)
   rising = told_rise t (told_in t c) are_lines
 
   pub within : (x : ToldRecord) → Contains (told_in t c) x → IsWithin t x.played
-  within x among = records_due t (played_in (told_in t c)) x.played limits are_lines (map_in (λ (z : ToldRecord). z.played) (told_in t c) x among)
+  within x among = records_due t (played_in (told_in t c)) x.played limits are_lines
+      (map_in (λ (z : ToldRecord). z.played) (told_in t c) x among)
 
   -- a record is among those of its thread in its phase, and those are among all
   pub in_group : (x : ToldRecord) → Contains (told_in t c) x → Contains (c.plays x.played.phase x.played.thread) x
   in_group x among =
       let is = within x among in
-      let own : is_told_in x.played.phase x.played.thread x ≡ true = rw (eq-eqb x.played.phase x.played.phase refl, eq-eqb x.played.thread x.played.thread refl) refl in
-      subst (λ xs. Contains xs x) (group x.played.phase x.played.thread is.low is.high is.thread) (filter_in (is_told_in x.played.phase x.played.thread) (told_in t c) x among own)
+      let own : is_told_in x.played.phase x.played.thread x ≡ true =
+      rw (eq-eqb x.played.phase x.played.phase refl, eq-eqb x.played.thread x.played.thread refl) refl in
+      subst (λ xs. Contains xs x) (group x.played.phase x.played.thread is.low is.high is.thread)
+      (filter_in (is_told_in x.played.phase x.played.thread) (told_in t c) x among own)
 
-  pub from_group : (n k : ℕ) (x : ToldRecord) → 1 ≤ n → n ≤ phases_in t.lines → k < t.threads → Contains (c.plays n k) x → Contains (told_in t c) x
-  from_group n k x low high few among = (filter_cases (is_told_in n k) (told_in t c) x (subst (λ xs. Contains xs x) (sym (group n k low high few)) among)).0
+  pub from_group : (n k : ℕ) (x : ToldRecord) → 1 ≤ n → n ≤ phases_in t.lines → k < t.threads → Contains (c.plays n k) x →
+      Contains (told_in t c) x
+  from_group n k x low high few among =
+      (filter_cases (is_told_in n k) (told_in t c) x (subst (λ xs. Contains xs x) (sym (group n k low high few)) among)).0
 
   pub group_rises : (n k : ℕ) → 1 ≤ n → n ≤ phases_in t.lines → k < t.threads → AreRising (c.plays n k)
-  group_rises n k low high few = subst AreRising (group n k low high few) (pairs_filter (λ (x y : ToldRecord). x.played.line < y.played.line) (is_told_in n k) (told_in t c) rising)
+  group_rises n k low high few =
+      subst AreRising (group n k low high few)
+      (pairs_filter (λ (x y : ToldRecord). x.played.line < y.played.line) (is_told_in n k) (told_in t c) rising)
 
   -- a record of an earlier phase is of an earlier line
-  pub earlier : (x y : ToldRecord) → Contains (told_in t c) x → Contains (told_in t c) y → x.played.phase < y.played.phase → x.played.line < y.played.line
+  pub earlier : (x y : ToldRecord) → Contains (told_in t c) x → Contains (told_in t c) y → x.played.phase < y.played.phase →
+      x.played.line < y.played.line
   earlier x y first second late =
-      phases_rise (rules_of t) t.lines (played_in (told_in t c)) are_lines x.played y.played (map_in (λ (z : ToldRecord). z.played) (told_in t c) x first)
+      phases_rise (rules_of t) t.lines (played_in (told_in t c)) are_lines x.played y.played
+      (map_in (λ (z : ToldRecord). z.played) (told_in t c) x first)
       (map_in (λ (z : ToldRecord). z.played) (told_in t c) y second) late
 
   pub all_until : told_until (phases_in t.lines) (told_in t c) ≡ told_in t c
-  all_until = filter_all (is_until (phases_in t.lines)) (told_in t c) (λ x among. le-leb x.played.phase (phases_in t.lines) (within x among).high)
+  all_until = filter_all (is_until (phases_in t.lines)) (told_in t c)
+      (λ x among. le-leb x.played.phase (phases_in t.lines) (within x among).high)
 
   -- what a thread played up to a phase
-  pub thread_until : (n k : ℕ) → n ≤ phases_in t.lines → k < t.threads → filter (is_of_thread k) (told_until n (told_in t c)) ≡ so_far c.plays k n
+  pub thread_until : (n k : ℕ) → n ≤ phases_in t.lines → k < t.threads →
+      filter (is_of_thread k) (told_until n (told_in t c)) ≡ so_far c.plays k n
   thread_until zero k high few =
       ap (filter (is_of_thread k)) (filter_none (is_until 0) (told_in t c) (λ x among passes.
       let low = (within x among).low in
@@ -125,7 +141,8 @@ module _ (t : Trace) (c : Course) (limits : IsWithinLimits t) (course : IsCourse
   thread_until (suc n) k high few =
       let ts = told_in t c in
       let again = thread_until n k (omega arith) few in
-      let own : filter (is_of_thread k) (filter (is_of_phase (suc n)) ts) ≡ c.plays (suc n) k = filter_both (is_of_phase (suc n)) (is_of_thread k) ts ∙ group (suc n) k (omega arith) high few in
+      let own : filter (is_of_thread k) (filter (is_of_phase (suc n)) ts) ≡ c.plays (suc n) k =
+      filter_both (is_of_phase (suc n)) (is_of_thread k) ts ∙ group (suc n) k (omega arith) high few in
       ap (filter (is_of_thread k)) (until_split n ts rising earlier)
       ∙ (filter-append (is_of_thread k) (told_until n ts) (filter (is_of_phase (suc n)) ts)
       ∙ (ap (λ zs. zs ++ filter (is_of_thread k) (filter (is_of_phase (suc n)) ts)) again ∙ ap (λ zs. so_far c.plays k n ++ zs) own))

@@ -40,7 +40,8 @@ with_phase n starts plays ends seat c = record {
 abbrev no_phase : (ℕ → WorkerValue) → View → Course
 no_phase starts seat = record { starts = λ n k. starts k; plays = λ n k. []; ends = λ n k. starts k; seats = λ n. seat }
 
-begins : (t : Trace) (starts : ℕ → WorkerValue) → ((k : ℕ) → k < t.threads → BeginsNew k t.partitions t.version (starts k)) → (c : Course) × HasBegun t 0 c starts
+begins : (t : Trace) (starts : ℕ → WorkerValue) → ((k : ℕ) → k < t.threads → BeginsNew k t.partitions t.version (starts k)) → (c : Course) ×
+    HasBegun t 0 c starts
 begins t starts new = (
   no_phase starts (starts 0).stock.view,
   record {
@@ -58,7 +59,8 @@ begins t starts new = (
   },
 )
 
-module _ (t : Trace) (n : ℕ) (c : Course) (starts ends : ℕ → WorkerValue) (seat : View) (plays : ℕ → List ToldRecord) (begun : HasBegun t n c starts) where
+module _ (t : Trace) (n : ℕ) (c : Course) (starts ends : ℕ → WorkerValue) (seat : View) (plays : ℕ → List ToldRecord)
+    (begun : HasBegun t n c starts) where
   abbrev d : Course
   d = with_phase (suc n) starts plays ends seat c
 
@@ -86,7 +88,8 @@ module _ (t : Trace) (n : ℕ) (c : Course) (starts ends : ℕ → WorkerValue) 
   first_new : (k : ℕ) → k < t.threads → BeginsNew k t.partitions t.version (d.starts 1 k)
   first_new k few = elim (cases_eq n 0) [
     | inl e ↦ subst (λ w. BeginsNew k t.partitions t.version w) (sym (last_starts 1 k (omega arith))) (begun.new e k few)
-    | inr ne ↦ subst (λ w. BeginsNew k t.partitions t.version w) (sym (agree.starts 1 k (omega arith) (omega arith))) (begun.course.begins k few)
+    | inr ne ↦ subst (λ w. BeginsNew k t.partitions t.version w) (sym (agree.starts 1 k (omega arith) (omega arith)))
+        (begun.course.begins k few)
   ]
 
   heard : (m k : ℕ) → 1 ≤ m → m < suc n → k < t.threads → Hears k (d.seats m) (d.ends m k) (d.starts (m + 1) k)
@@ -109,10 +112,12 @@ module _ (t : Trace) (n : ℕ) (c : Course) (starts ends : ℕ → WorkerValue) 
         | inl e ↦
             subst (λ v. HasSeenAll (c.seats m) v) (sym (last_seats (m + 1) (omega arith)))
             (subst (λ j. HasSeenAll (c.seats j) seat) (sym e) (more (omega arith)))
-        | inr ne ↦ subst (λ v. HasSeenAll (c.seats m) v) (sym (agree.seats (m + 1) (omega arith) (omega arith))) (begun.course.keeps m low (omega arith))
+        | inr ne ↦ subst (λ v. HasSeenAll (c.seats m) v) (sym (agree.seats (m + 1) (omega arith) (omega arith)))
+            (begun.course.keeps m low (omega arith))
       ])
 
-  module _ (played : (k : ℕ) → k < t.threads → PlaysAll (starts k) (plays k) (ends k) × (map op_line_of (played_in (plays k)) ≡ lines_in (rules_of t) t.lines (suc n) k))
+  module _ (played : (k : ℕ) → k < t.threads → PlaysAll (starts k) (plays k) (ends k) ×
+      (map op_line_of (played_in (plays k)) ≡ lines_in (rules_of t) t.lines (suc n) k))
       (settles : (k : ℕ) → k < t.threads → (ends k).owed ≡ none_owed) (tells : HasHeardAll t.threads ends seat) where
     all_played : (m k : ℕ) → 1 ≤ m → m ≤ suc n → k < t.threads → PlaysAll (d.starts m k) (d.plays m k) (d.ends m k)
     all_played m k low high few = elim (cases_eq m (suc n)) [
@@ -122,7 +127,8 @@ module _ (t : Trace) (n : ℕ) (c : Course) (starts ends : ℕ → WorkerValue) 
 
     all_lines : (m k : ℕ) → 1 ≤ m → m ≤ suc n → k < t.threads → map op_line_of (played_in (d.plays m k)) ≡ lines_in (rules_of t) t.lines m k
     all_lines m k low high few = elim (cases_eq m (suc n)) [
-      | inl e ↦ ap (λ xs. map op_line_of (played_in xs)) (last_plays m k e) ∙ ((played k few).1 ∙ ap (λ j. lines_in (rules_of t) t.lines j k) (sym e))
+      | inl e ↦ ap (λ xs. map op_line_of (played_in xs)) (last_plays m k e) ∙
+          ((played k few).1 ∙ ap (λ j. lines_in (rules_of t) t.lines j k) (sym e))
       | inr ne ↦ ap (λ xs. map op_line_of (played_in xs)) (agree.plays m k low (omega arith)) ∙ begun.course.lines m k low (omega arith) few
     ]
 
@@ -134,15 +140,25 @@ module _ (t : Trace) (n : ℕ) (c : Course) (starts ends : ℕ → WorkerValue) 
 
     all_told : (m : ℕ) → 1 ≤ m → m ≤ suc n → HasHeardAll t.threads (d.ends m) (d.seats m)
     all_told m low high = elim (cases_eq m (suc n)) [
-      | inl e ↦ subst (λ b. HasHeardAll t.threads (λ k. if b then ends k else c.ends m k) (if b then seat else c.seats m)) (sym (eq-eqb m (suc n) e)) tells
+      | inl e ↦ subst (λ b. HasHeardAll t.threads (λ k. if b then ends k else c.ends m k) (if b then seat else c.seats m))
+          (sym (eq-eqb m (suc n) e)) tells
       | inr ne ↦
-          subst (λ b. HasHeardAll t.threads (λ k. if b then ends k else c.ends m k) (if b then seat else c.seats m)) (sym (ne_eqb m (suc n) ne))
+          subst (λ b. HasHeardAll t.threads (λ k. if b then ends k else c.ends m k) (if b then seat else c.seats m))
+          (sym (ne_eqb m (suc n) ne))
           (begun.course.tells m low (omega arith))
     ]
 
     ended : (1 ≤ n → HasSeenAll (c.seats n) seat) → HasEnded t (suc n) d ends seat
     ended more = record {
-      course = record { begins = first_new; plays = all_played; lines = all_lines; settled = all_settled; tells = all_told; hears = heard; keeps = kept more };
+      course = record {
+        begins = first_new;
+        plays = all_played;
+        lines = all_lines;
+        settled = all_settled;
+        tells = all_told;
+        hears = heard;
+        keeps = kept more;
+      };
       ends = λ k few. last_ends (suc n) k refl;
       seat = last_seats (suc n) refl;
     }
@@ -151,10 +167,14 @@ phase_ends : (t : Trace) (n : ℕ) (c : Course) (starts ends : ℕ → WorkerVal
     ((k : ℕ) → k < t.threads → PlaysPhase t (suc n) k (starts k) (ends k)) → HasHeardAll t.threads ends seat →
     (1 ≤ n → HasSeenAll (c.seats n) seat) → (d : Course) × Agree n c d × HasEnded t (suc n) d ends seat
 phase_ends t n c starts ends seat begun each tells more =
-    let chosen = choose (λ k xs. PlaysAll (starts k) xs (ends k) × (map op_line_of (played_in xs) ≡ lines_in (rules_of t) t.lines (suc n) k)) t.threads
+    let chosen = choose (λ k xs. PlaysAll (starts k) xs (ends k) ×
+    (map op_line_of (played_in xs) ≡ lines_in (rules_of t) t.lines (suc n) k)) t.threads
     (λ k few. let (xs, all, lines, settled) = each k few in (xs, (all, lines))) in
-    let settles : (k : ℕ) → k < t.threads → (ends k).owed ≡ none_owed = λ k few. let (xs, all, lines, settled) = each k few in settled in
-    (d t n c starts ends seat chosen.0 begun, agree t n c starts ends seat chosen.0 begun, ended t n c starts ends seat chosen.0 begun chosen.1 settles tells more)
+    let settles : (k : ℕ) → k < t.threads → (ends k).owed ≡ none_owed = λ k few. let (xs, all, lines, settled) = each k few in settled in (
+      d t n c starts ends seat chosen.0 begun,
+      agree t n c starts ends seat chosen.0 begun,
+      ended t n c starts ends seat chosen.0 begun chosen.1 settles tells more,
+    )
 
 goes_on : (t : Trace) (n : ℕ) (c : Course) (ends starts : ℕ → WorkerValue) (seat : View) → 1 ≤ n → HasEnded t n c ends seat →
     ((k : ℕ) → k < t.threads → Hears k seat (ends k) (starts k)) → HasBegun t n c starts
@@ -162,7 +182,8 @@ goes_on t n c ends starts seat some done hears = record {
   course = done.course;
   new = λ none. absurd (omega arith);
   heard = λ low k few.
-      subst (λ v. Hears k v (c.ends n k) (starts k)) (sym done.seat) (subst (λ w. Hears k seat w (starts k)) (sym (done.ends k few)) (hears k few));
+      subst (λ v. Hears k v (c.ends n k) (starts k)) (sym done.seat)
+      (subst (λ w. Hears k seat w (starts k)) (sym (done.ends k few)) (hears k few));
 }
 
 pub courses_grow : CoursesGrow
@@ -170,7 +191,8 @@ courses_grow = record {
   begins = begins;
   ends = λ t n c starts finals seat begun each tells more.
       let next : suc n ≡ n + 1 = omega arith in
-      subst (λ m. ((k : ℕ) → k < t.threads → PlaysPhase t m k (starts k) (finals k)) → (d : Course) × Agree n c d × HasEnded t m d finals seat) next
+      subst (λ m. ((k : ℕ) → k < t.threads → PlaysPhase t m k (starts k) (finals k)) → (d : Course) × Agree n c d ×
+      HasEnded t m d finals seat) next
       (λ each'. phase_ends t n c starts finals seat begun each' tells more) each;
   goes_on = goes_on;
 }

@@ -37,7 +37,8 @@ use Rattle.pa_execution.proofs.Leading.{RowsLead, rows_append, rows_told, lists_
 use Rattle.pa_execution.proofs.Playing.{in_order}
 
 -- records that pass are the annotated records that do
-played_filter : (test : Played → Bool) (xs : List ToldRecord) → filter test (played_in xs) ≡ played_in (filter (λ (x : ToldRecord). test x.played) xs)
+played_filter : (test : Played → Bool) (xs : List ToldRecord) →
+    filter test (played_in xs) ≡ played_in (filter (λ (x : ToldRecord). test x.played) xs)
 played_filter test [] = refl
 played_filter test (x ∷ xs) = elim (cases_Bool (test x.played)) [
   | inl y ↦ rw y (ap (λ ps. x.played ∷ ps) (played_filter test xs))
@@ -48,8 +49,10 @@ pub played_append : (xs ys : List ToldRecord) → played_in (xs ++ ys) ≡ playe
 played_append [] ys = refl
 played_append (x ∷ xs) ys = ap (λ ps. x.played ∷ ps) (played_append xs ys)
 
-pub thread_records : (k n : ℕ) (xs : List ToldRecord) → records_by k (until n (played_in xs)) ≡ played_in (filter (is_of_thread k) (told_until n xs))
-thread_records k n xs = ap (records_by k) (played_filter (λ (p : Played). leb p.phase n) xs) ∙ played_filter (is_by_thread k) (told_until n xs)
+pub thread_records : (k n : ℕ) (xs : List ToldRecord) →
+    records_by k (until n (played_in xs)) ≡ played_in (filter (is_of_thread k) (told_until n xs))
+thread_records k n xs = ap (records_by k) (played_filter (λ (p : Played). leb p.phase n) xs) ∙
+    played_filter (is_by_thread k) (told_until n xs)
 
 module _ (t : Trace) (r : Told) (c : Course) (v : View) (xs : List Exchange) (run : IsWholeRun t r c v xs) where
   abbrev all_told : List ToldRecord
@@ -58,7 +61,8 @@ module _ (t : Trace) (r : Told) (c : Course) (v : View) (xs : List Exchange) (ru
   -- ---- rows of registers and of lists
 
   -- the ops of workers have their rows by the trace's version
-  rows_of_trace : (w u : WorkerValue) (ys : List ToldRecord) → PlaysAll w ys u → FitsAll (outcome_of t r) w.stock.partitions u.stock.view ys →
+  rows_of_trace : (w u : WorkerValue) (ys : List ToldRecord) → PlaysAll w ys u →
+      FitsAll (outcome_of t r) w.stock.partitions u.stock.view ys →
       RowsLead (sizes_in t r) (facts_in t r) (regs_of w.stock.registers) ys (regs_of u.stock.registers)
   rows_of_trace w u ys plays fit = rows_lead (outcome_of t r) w u ys plays fit
 
@@ -68,55 +72,69 @@ module _ (t : Trace) (r : Told) (c : Course) (v : View) (xs : List Exchange) (ru
       let new = (run.course.begins k few).new in
       let none : regs_of (c.starts 1 k).stock.registers ≡ no_regs k = fun_ext (λ i. ap as_reg (new.stock.registers i)) in
       subst (λ regs. RowsLead (sizes_in t r) (facts_in t r) regs (c.plays 1 k) (regs_of (c.ends 1 k).stock.registers)) none
-      (rows_of_trace (c.starts 1 k) (c.ends 1 k) (c.plays 1 k) (run.course.plays 1 k (omega arith) high few) (fits t r c v xs run 1 k (omega arith) high few))
+      (rows_of_trace (c.starts 1 k) (c.ends 1 k) (c.plays 1 k) (run.course.plays 1 k (omega arith) high few)
+      (fits t r c v xs run 1 k (omega arith) high few))
   rows_until k (suc n) high few =
       let m = suc (suc n) in
       let again = rows_until k n (omega arith) few in
       let heard = heard_next t c run.left.limits run.course (suc n) k (omega arith) (omega arith) few in
-      let same : regs_of (c.starts m k).stock.registers ≡ regs_of (c.ends (suc n) k).stock.registers = ap (λ (w : WorkerValue). regs_of w.stock.registers) heard.same in
-      let next = rows_of_trace (c.starts m k) (c.ends m k) (c.plays m k) (run.course.plays m k (omega arith) high few) (fits t r c v xs run m k (omega arith) high few) in
-      rows_append (sizes_in t r) (facts_in t r) (no_regs k) (regs_of (c.ends (suc n) k).stock.registers) (regs_of (c.ends m k).stock.registers) (so_far c.plays k (suc n)) (c.plays m k) again
+      let same : regs_of (c.starts m k).stock.registers ≡ regs_of (c.ends (suc n) k).stock.registers =
+      ap (λ (w : WorkerValue). regs_of w.stock.registers) heard.same in
+      let next = rows_of_trace (c.starts m k) (c.ends m k) (c.plays m k) (run.course.plays m k (omega arith) high few)
+      (fits t r c v xs run m k (omega arith) high few) in
+      rows_append (sizes_in t r) (facts_in t r) (no_regs k) (regs_of (c.ends (suc n) k).stock.registers)
+      (regs_of (c.ends m k).stock.registers) (so_far c.plays k (suc n)) (c.plays m k) again
       (subst (λ regs. RowsLead (sizes_in t r) (facts_in t r) regs (c.plays m k) (regs_of (c.ends m k).stock.registers)) same next)
 
   lists_until : (k n : ℕ) → suc n ≤ phases t r c v xs run → k < t.threads →
       CacheLeadsTo t.partitions r.roots (no_caches k) (played_in (so_far c.plays k (suc n))) (listed_in (c.ends (suc n) k).stock)
   lists_until k zero high few =
       let new = (run.course.begins k few).new in
-      let none : listed_in (c.starts 1 k).stock ≡ no_caches k = fun_ext (λ p. fun_ext (λ class. ap (numbered_by (c.starts 1 k).stock.view) (new.stock.lists p class))) in
+      let none : listed_in (c.starts 1 k).stock ≡ no_caches k =
+      fun_ext (λ p. fun_ext (λ class. ap (numbered_by (c.starts 1 k).stock.view) (new.stock.lists p class))) in
       subst (λ cache. CacheLeadsTo t.partitions r.roots cache (played_in (c.plays 1 k)) (listed_in (c.ends 1 k).stock)) none
-      (lists (outcome_of t r) (c.starts 1 k) (c.ends 1 k) (c.plays 1 k) (run.course.plays 1 k (omega arith) high few) (fits t r c v xs run 1 k (omega arith) high few))
+      (lists (outcome_of t r) (c.starts 1 k) (c.ends 1 k) (c.plays 1 k) (run.course.plays 1 k (omega arith) high few)
+      (fits t r c v xs run 1 k (omega arith) high few))
   lists_until k (suc n) high few =
       let m = suc (suc n) in
       let again = lists_until k n (omega arith) few in
       let heard = heard_next t c run.left.limits run.course (suc n) k (omega arith) (omega arith) few in
-      let same : listed_in (c.starts m k).stock ≡ listed_in (c.ends (suc n) k).stock = fun_ext (λ p. fun_ext (λ class. heard.lists p class)) in
-      let next = lists (outcome_of t r) (c.starts m k) (c.ends m k) (c.plays m k) (run.course.plays m k (omega arith) high few) (fits t r c v xs run m k (omega arith) high few) in
-      subst (λ ps. CacheLeadsTo t.partitions r.roots (no_caches k) ps (listed_in (c.ends m k).stock)) (sym (played_append (so_far c.plays k (suc n)) (c.plays m k)))
-      (lists_append t.partitions r.roots (no_caches k) (listed_in (c.ends (suc n) k).stock) (listed_in (c.ends m k).stock) (played_in (so_far c.plays k (suc n))) (played_in (c.plays m k)) again
+      let same : listed_in (c.starts m k).stock ≡ listed_in (c.ends (suc n) k).stock =
+      fun_ext (λ p. fun_ext (λ class. heard.lists p class)) in
+      let next = lists (outcome_of t r) (c.starts m k) (c.ends m k) (c.plays m k) (run.course.plays m k (omega arith) high few)
+      (fits t r c v xs run m k (omega arith) high few) in
+      subst (λ ps. CacheLeadsTo t.partitions r.roots (no_caches k) ps (listed_in (c.ends m k).stock))
+      (sym (played_append (so_far c.plays k (suc n)) (c.plays m k)))
+      (lists_append t.partitions r.roots (no_caches k) (listed_in (c.ends (suc n) k).stock) (listed_in (c.ends m k).stock)
+      (played_in (so_far c.plays k (suc n))) (played_in (c.plays m k)) again
       (subst (λ cache. CacheLeadsTo t.partitions r.roots cache (played_in (c.plays m k)) (listed_in (c.ends m k).stock)) same next))
 
   rows : (k : ℕ) → HasToldRows (sizes_in t r) (facts_in t r) (no_regs k) (filter (is_of_thread k) all_told)
   rows k =
       let n = phases t r c v xs run in
       let last : n ≡ suc (n - 1) = omega arith in
-      let whole : filter (is_of_thread k) all_told ≡ filter (is_of_thread k) (told_until n all_told) = ap (filter (is_of_thread k)) (sym (all_until t c run.left.limits run.course)) in
+      let whole : filter (is_of_thread k) all_told ≡ filter (is_of_thread k) (told_until n all_told) =
+      ap (filter (is_of_thread k)) (sym (all_until t c run.left.limits run.course)) in
       elim (cases_lt k t.threads) [
         | inl few ↦
             let own : filter (is_of_thread k) all_told ≡ so_far c.plays k (suc (n - 1)) =
             whole ∙ (thread_until t c run.left.limits run.course n k (omega arith) few ∙ ap (so_far c.plays k) last) in
             subst (HasToldRows (sizes_in t r) (facts_in t r) (no_regs k)) (sym own)
-            (rows_told (sizes_in t r) (facts_in t r) (no_regs k) (regs_of (c.ends (suc (n - 1)) k).stock.registers) (so_far c.plays k (suc (n - 1))) (rows_until k (n - 1) (omega arith) few))
+            (rows_told (sizes_in t r) (facts_in t r) (no_regs k) (regs_of (c.ends (suc (n - 1)) k).stock.registers)
+            (so_far c.plays k (suc (n - 1))) (rows_until k (n - 1) (omega arith) few))
         | inr past ↦
             let none : filter (is_of_thread k) all_told ≡ [] = whole ∙ no_thread t c run.left.limits run.course n k past in
             subst (HasToldRows (sizes_in t r) (facts_in t r) (no_regs k)) (sym none) tt
       ]
 
-  caches : (n k : ℕ) → 1 ≤ n → n ≤ phases t r c v xs run → CacheLeadsTo t.partitions r.roots (no_caches k) (records_by k (until n (played_in all_told))) (lists_at t c n k)
+  caches : (n k : ℕ) → 1 ≤ n → n ≤ phases t r c v xs run →
+      CacheLeadsTo t.partitions r.roots (no_caches k) (records_by k (until n (played_in all_told))) (lists_at t c n k)
   caches zero k low high = absurd (omega arith)
   caches (suc n) k low high = elim (cases_lt k t.threads) [
     | inl few ↦
         let own = thread_records k (suc n) all_told ∙ ap played_in (thread_until t c run.left.limits run.course (suc n) k high few) in
-        let led = subst (λ ps. CacheLeadsTo t.partitions r.roots (no_caches k) ps (listed_in (c.ends (suc n) k).stock)) (sym own) (lists_until k n high few) in
+        let led = subst (λ ps. CacheLeadsTo t.partitions r.roots (no_caches k) ps (listed_in (c.ends (suc n) k).stock)) (sym own)
+        (lists_until k n high few) in
         rw (lt-ltb k t.threads few) led
     | inr past ↦
         let none = thread_records k (suc n) all_told ∙ ap played_in (no_thread t c run.left.limits run.course (suc n) k past) in
@@ -135,7 +153,8 @@ module _ (t : Trace) (r : Told) (c : Course) (v : View) (xs : List Exchange) (ru
       omega arith
 
   -- what a record of an earlier phase hands on was known before the next one
-  before_phase : (x y : ToldRecord) (u : Title) → Contains all_told x → Contains all_told y → x.played.phase < y.played.phase → x.gives u ≤ y.saw u
+  before_phase : (x y : ToldRecord) (u : Title) → Contains all_told x → Contains all_told y → x.played.phase < y.played.phase →
+      x.gives u ≤ y.saw u
   before_phase x y u first second late =
       let a = within t c run.left.limits run.course x first in
       let b = within t c run.left.limits run.course y second in
@@ -151,14 +170,16 @@ module _ (t : Trace) (r : Told) (c : Course) (v : View) (xs : List Exchange) (ru
       let kept = (sees_until t c run.left.limits run.course x.played.phase m low (omega arith) (omega arith)).seen u in
       let hears = heard_next t c run.left.limits run.course m y.played.thread (omega arith) (omega arith) b.thread in
       let heard_it = hears.seen u in
-      let starts : seen_of (c.starts (suc m) y.played.thread).stock.view u ≡ seen_of hears.view u = ap (λ (w : WorkerValue). seen_of w.stock.view u) hears.same in
+      let starts : seen_of (c.starts (suc m) y.played.thread).stock.view u ≡ seen_of hears.view u =
+      ap (λ (w : WorkerValue). seen_of w.stock.view u) hears.same in
       let here : seen_of (c.starts (suc m) y.played.thread).stock.view u ≡ seen_of (c.starts y.played.phase y.played.thread).stock.view u =
       ap (λ n. seen_of (c.starts n y.played.thread).stock.view u) next in
       let grown = q.first.seen u in
       let saw = q.one.does.seen.saw u in
       omega arith
 
-  before_line : (x y : ToldRecord) (u : Title) → Contains all_told x → Contains all_told y → x.played.thread ≡ y.played.thread → x.played.line < y.played.line → x.gives u ≤ y.saw u
+  before_line : (x y : ToldRecord) (u : Title) → Contains all_told x → Contains all_told y → x.played.thread ≡ y.played.thread →
+      x.played.line < y.played.line → x.gives u ≤ y.saw u
   before_line x y u first second thread less = elim (cases_lt x.played.phase y.played.phase) [
     | inl late ↦ before_phase x y u first second late
     | inr not_later ↦ elim (cases_lt y.played.phase x.played.phase) [
@@ -170,7 +191,8 @@ module _ (t : Trace) (r : Told) (c : Course) (v : View) (xs : List Exchange) (ru
           let k = y.played.thread in
           let here : Contains (c.plays n k) x = subst (λ m. Contains (c.plays m k) x) phase
           (subst (λ j. Contains (c.plays x.played.phase j) x) thread (in_group t c run.left.limits run.course x first)) in
-          in_order (c.starts n k) (c.ends n k) (c.plays n k) x y u (run.course.plays n k is.low is.high is.thread) (group_rises t c run.left.limits run.course n k is.low is.high is.thread) here
+          in_order (c.starts n k) (c.ends n k) (c.plays n k) x y u (run.course.plays n k is.low is.high is.thread)
+          (group_rises t c run.left.limits run.course n k is.low is.high is.thread) here
           (in_group t c run.left.limits run.course y second) less
     ]
   ]
@@ -199,8 +221,10 @@ module _ (t : Trace) (r : Told) (c : Course) (v : View) (xs : List Exchange) (ru
       let are = are_lines t c run.left.limits run.course in
       record {
         limits = run.left.limits;
-        due = subst (AreDue (rules_of t) t.lines) (sym run.left.entries) (records_are_lines.due (rules_of t) t.lines (played_in all_told) are);
-        records = sym (ap (played (rules_of t) t.lines) run.left.entries ∙ records_are_lines.same (rules_of t) t.lines (played_in all_told) are);
+        due = subst (AreDue (rules_of t) t.lines) (sym run.left.entries)
+            (records_are_lines.due (rules_of t) t.lines (played_in all_told) are);
+        records = sym (ap (played (rules_of t) t.lines) run.left.entries ∙
+            records_are_lines.same (rules_of t) t.lines (played_in all_told) are);
         has = has_last t c run.left.limits run.course v run.closes;
         ends = ends_phase t c run.left.limits run.course v run.closes;
         heard = heard;

@@ -42,7 +42,8 @@ swaps_list (m ∷ ms) (x ∷ xs) same =
     let rest : AreNumbers ms xs = cc in
     ap (λ l. m ∷ l) (swaps_list ms xs rest)
 
-swaps_numbers : (list : List Made) (xs : List Exchange) (s : SwapMade) → AreNumbers list xs → Contains (swaps_of list xs) s → s.made.numbers ≡ exchange_numbers (exchange_of s)
+swaps_numbers : (list : List Made) (xs : List Exchange) (s : SwapMade) → AreNumbers list xs → Contains (swaps_of list xs) s →
+    s.made.numbers ≡ exchange_numbers (exchange_of s)
 swaps_numbers [] xs s same among = absurd (not_in_none s among)
 swaps_numbers (m ∷ ms) [] s same among = absurd (not_in_none s among)
 swaps_numbers (m ∷ ms) (x ∷ xs) s same among =
@@ -53,7 +54,8 @@ swaps_numbers (m ∷ ms) (x ∷ xs) s same among =
       | inr later ↦ swaps_numbers ms xs s rest later
     ]
 
-swaps_entries : (k : ℕ) (list : List Made) (xs : List Exchange) → AreNumbers list xs → entries_with k xs ≡ map (λ (s : SwapMade). s.entry) (filter (is_of_cell k) (swaps_of list xs))
+swaps_entries : (k : ℕ) (list : List Made) (xs : List Exchange) → AreNumbers list xs →
+    entries_with k xs ≡ map (λ (s : SwapMade). s.entry) (filter (is_of_cell k) (swaps_of list xs))
 swaps_entries k [] [] same = refl
 swaps_entries k [] (x ∷ xs) same = absurd cc
 swaps_entries k (m ∷ ms) [] same = absurd cc
@@ -84,7 +86,8 @@ one_more k n x older before says same =
       | inr m ↦ let z = names ∙ m in rw (m, z) same
     ]
 
-swap_stands : (k : ℕ) (older rest : List Made) (m : Made) (xs : List Exchange) → AreNumbers (older ++ m ∷ rest) xs → SwapStands (swaps_of (older ++ m ∷ rest) xs) k older m
+swap_stands : (k : ℕ) (older rest : List Made) (m : Made) (xs : List Exchange) → AreNumbers (older ++ m ∷ rest) xs →
+    SwapStands (swaps_of (older ++ m ∷ rest) xs) k older m
 swap_stands k [] rest m [] same = absurd cc
 swap_stands k [] rest m (x ∷ xs) same = record {
   before = [];
@@ -126,7 +129,8 @@ few_entered ops.Purge list x none = let l : length (entered_in 5 x.stretch) ≡ 
 none_of : (x : ToldRecord) (m : Made) → entered_in 5 x.stretch ≡ [] → Contains (entered_in 5 x.stretch) m → ⊥
 none_of x m none among = not_in_none m (subst (λ ms. Contains ms m) none among)
 
-is_exchanged : (op : Op) (list : List Made) (x : ToldRecord) (m : Made) → EntersCells op list x → Contains (entered_in 5 x.stretch) m → (cell reg : ℕ) × (op ≡ ops.Swap cell reg)
+is_exchanged : (op : Op) (list : List Made) (x : ToldRecord) (m : Made) → EntersCells op list x → Contains (entered_in 5 x.stretch) m →
+    (cell reg : ℕ) × (op ≡ ops.Swap cell reg)
 is_exchanged (ops.Alloc reg partition size) list x m none among = absurd (none_of x m none among)
 is_exchanged (ops.Copy from to) list x m none among = absurd (none_of x m none among)
 is_exchanged (ops.Reset reg) list x m none among = absurd (none_of x m none among)
@@ -151,11 +155,13 @@ module _ (t : Trace) (r : Told) (c : Course) (v : View) (xs : List Exchange) (ru
   stands : (x : ToldRecord) (k reg : ℕ) → Contains (told_in t c) x → x.played.op ≡ ops.Swap k reg → IsSwapAt swaps x k
   stands x k reg among op =
       let p = played_so t r c v xs run x among in
-      let it : EntersExchange (list_of 5 p.after.stock.view) x k = subst (λ o. EntersCells o (list_of 5 p.after.stock.view) x) op p.one.does.enters.cells in
+      let it : EntersExchange (list_of 5 p.after.stock.view) x k =
+      subst (λ o. EntersCells o (list_of 5 p.after.stock.view) x) op p.one.does.enters.cells in
       let (more, longer) = (then_sees t r c v xs run x among).lists 5 in
       let rest = it.rest ++ more in
       let whole : list_of 5 v ≡ it.older ++ it.made ∷ rest =
-      longer ∙ (ap (λ l. l ++ more) it.begins ∙ (append_assoc (it.older ++ it.made ∷ []) it.rest more ∙ append_assoc it.older (it.made ∷ []) rest)) in
+      longer ∙ (ap (λ l. l ++ more) it.begins ∙
+      (append_assoc (it.older ++ it.made ∷ []) it.rest more ∙ append_assoc it.older (it.made ∷ []) rest)) in
       let at = swap_stands k it.older rest it.made xs (ap (λ l. map (λ (n : Made). n.numbers) l) (sym whole) ∙ run.left.exchanges) in
       record {
         older = at.before;
@@ -171,7 +177,8 @@ module _ (t : Trace) (r : Told) (c : Course) (v : View) (xs : List Exchange) (ru
   cells_tell = record {
     swaps_are = swaps_are;
     chain = run.left.chain;
-    one_each = λ x among. let p = played_so t r c v xs run x among in few_entered x.played.op (list_of 5 p.after.stock.view) x p.one.does.enters.cells;
+    one_each = λ x among. let p = played_so t r c v xs run x among in
+        few_entered x.played.op (list_of 5 p.after.stock.view) x p.one.does.enters.cells;
     only = λ x m among entered.
         let p = played_so t r c v xs run x among in
         is_exchanged x.played.op (list_of 5 p.after.stock.view) x m p.one.does.enters.cells entered;
@@ -194,7 +201,8 @@ module _ (t : Trace) (r : Told) (c : Course) (v : View) (xs : List Exchange) (ru
         record {
           made = at.made;
           entry = at.entry;
-          stands = stands_longer (list_of p q.after.stock.view) (list_of p v) at.made j ((then_sees t r c v xs run x among).lists p) at.stands;
+          stands = stands_longer (list_of p q.after.stock.view) (list_of p v) at.made j
+              ((then_sees t r c v xs run x among).lists p) at.stands;
           says = at.says;
           line = at.line;
           full = at.full;

@@ -23,23 +23,28 @@ RowsLead sizes facts regs [] after = after ≡ regs
 RowsLead sizes facts regs (x ∷ xs) after =
     (next : Regs) × Row facts x.played.op regs x.played.answer next × ReadsIts sizes regs x.played.op x × RowsLead sizes facts next xs after
 
-pub rows_append : (sizes : SlotName → ℕ) (facts : Facts) (a b c : Regs) (xs ys : List ToldRecord) → RowsLead sizes facts a xs b → RowsLead sizes facts b ys c →
+pub rows_append : (sizes : SlotName → ℕ) (facts : Facts) (a b c : Regs) (xs ys : List ToldRecord) → RowsLead sizes facts a xs b →
+    RowsLead sizes facts b ys c →
     RowsLead sizes facts a (xs ++ ys) c
 rows_append sizes facts a b c [] ys same rest = subst (λ z. RowsLead sizes facts z ys c) same rest
-rows_append sizes facts a b c (x ∷ xs) ys (next, row, reads, more) rest = (next, row, reads, rows_append sizes facts next b c xs ys more rest)
+rows_append sizes facts a b c (x ∷ xs) ys (next, row, reads, more) rest =
+    (next, row, reads, rows_append sizes facts next b c xs ys more rest)
 
-pub rows_told : (sizes : SlotName → ℕ) (facts : Facts) (a b : Regs) (xs : List ToldRecord) → RowsLead sizes facts a xs b → HasToldRows sizes facts a xs
+pub rows_told : (sizes : SlotName → ℕ) (facts : Facts) (a b : Regs) (xs : List ToldRecord) → RowsLead sizes facts a xs b →
+    HasToldRows sizes facts a xs
 rows_told sizes facts a b [] same = tt
 rows_told sizes facts a b (x ∷ xs) (next, row, reads, more) = (next, row, reads, rows_told sizes facts next b xs more)
 
-pub lists_append : (partitions : ℕ) (roots : Journals) (a b c : Cache) (xs ys : List Played) → CacheLeadsTo partitions roots a xs b → CacheLeadsTo partitions roots b ys c →
+pub lists_append : (partitions : ℕ) (roots : Journals) (a b c : Cache) (xs ys : List Played) → CacheLeadsTo partitions roots a xs b →
+    CacheLeadsTo partitions roots b ys c →
     CacheLeadsTo partitions roots a (xs ++ ys) c
 lists_append partitions roots a b c [] ys same rest = subst (λ z. CacheLeadsTo partitions roots z ys c) same rest
 lists_append partitions roots a b c (x ∷ xs) ys (next, row, more) rest = (next, row, lists_append partitions roots next b c xs ys more rest)
 
 -- ---- what a record is in the run
 
-pub answer_of : (o : Outcome) (w v : WorkerValue) (xs : List ToldRecord) (x : ToldRecord) (p : HasPlayed w v x) → FitsAll o w.stock.partitions v.stock.view xs → Contains xs x →
+pub answer_of : (o : Outcome) (w v : WorkerValue) (xs : List ToldRecord) (x : ToldRecord) (p : HasPlayed w v x) →
+    FitsAll o w.stock.partitions v.stock.view xs → Contains xs x →
     AnswersIn o p.before.stock p.after.stock x
 answer_of o w v xs x p fits among = p.one.does.answers o (record {
   many = fits.many ∙ sym p.many;

@@ -30,7 +30,8 @@ use Rattle.pa_logs.proofs.Sizing.{made_listed, listed_made, length_is}
 use Rattle.pa_logs.proofs.Homing.{home_is}
 
 -- the entry of the pool that a direct map names is that of its slot
-map_asked : (pools : List PoolEntry) (es : List RootEntry) (r : Root) (e : RootEntry) (asked len : ℕ) (slot : SlotName) → RootReplays pools es r → Contains es e →
+map_asked : (pools : List PoolEntry) (es : List RootEntry) (r : Root) (e : RootEntry) (asked len : ℕ) (slot : SlotName) →
+    RootReplays pools es r → Contains es e →
     e.act ≡ Map asked slot len → slot.born ≡ asked
 map_asked pools [] r e asked len slot fits among act = absurd (not_in_none e among)
 map_asked pools (f ∷ es) r e asked len slot fits among act = elim (in_cases f e es among) [
@@ -45,12 +46,14 @@ map_asked pools (f ∷ es) r e asked len slot fits among act = elim (in_cases f 
 map_len : (asked len asked' len' : ℕ) (slot slot' : SlotName) → Map asked slot len ≡ Map asked' slot' len' → len ≡ len'
 map_len asked len asked' len' slot slot' e = cc
 
-module _ (partitions : ℕ) (pools : List PoolEntry) (roots : Journals) (journals : (p : ℕ) → IsJournal pools (roots p)) (none_past : (p : ℕ) → partitions ≤ p → roots p ≡ [])
+module _ (partitions : ℕ) (pools : List PoolEntry) (roots : Journals) (journals : (p : ℕ) → IsJournal pools (roots p))
+    (none_past : (p : ℕ) → partitions ≤ p → roots p ≡ [])
     (once : (j p q i k : ℕ) (e : PoolEntry) → slice_get pools j ≡ Some e → Names roots p i j → Names roots q k j → (p ≡ q) × (i ≡ k)) where
   all_listed : (n p : ℕ) (t : Title) → p < n → IsMadeBy pools (roots p) t → Contains (titles_of pools roots n) t
   all_listed zero p t below made = absurd (omega arith)
   all_listed (suc n) p t below made = elim (cases_eq p n) [
-    | inl same ↦ Contains-append_left (titles_by pools (roots n)) (titles_of pools roots n) t (subst (λ q. Contains (titles_by pools (roots q)) t) same (made_listed pools (roots p) t made))
+    | inl same ↦ Contains-append_left (titles_by pools (roots n)) (titles_of pools roots n) t
+        (subst (λ q. Contains (titles_by pools (roots q)) t) same (made_listed pools (roots p) t made))
     | inr other ↦ Contains-append_right (titles_by pools (roots n)) (titles_of pools roots n) t (all_listed n p t (omega arith) made)
   ]
 
@@ -81,7 +84,8 @@ module _ (partitions : ℕ) (pools : List PoolEntry) (roots : Journals) (journal
       (once t.born p q i k x there (e, at, named) (f, at', named' ∙ ap Some (sym same))).0
 
   -- two slots that were cut at one place
-  both_cut : (p : ℕ) (t u : Title) → IsMade (root_replayed pools (roots p) new_root) t → IsMade (root_replayed pools (roots p) new_root) u → t.start ≡ u.start → t.born ≡ u.born → u.len ≡ t.len
+  both_cut : (p : ℕ) (t u : Title) → IsMade (root_replayed pools (roots p) new_root) t → IsMade (root_replayed pools (roots p) new_root) u →
+      t.start ≡ u.start → t.born ≡ u.born → u.len ≡ t.len
   both_cut p t u made made' start born =
       let left = journal_replayed pools (roots p) (journals p).replays (journals p).rise in
       let some = long p t made in
@@ -100,7 +104,8 @@ module _ (partitions : ℕ) (pools : List PoolEntry) (roots : Journals) (journal
           omega arith
 
   -- a slot that was cut, and a direct map
-  cut_or_map : (p : ℕ) (t u : Title) → IsMade (root_replayed pools (roots p) new_root) t → IsMapBy (roots p) u → t.start ≡ u.start → t.born ≡ u.born → u.len ≡ t.len
+  cut_or_map : (p : ℕ) (t u : Title) → IsMade (root_replayed pools (roots p) new_root) t → IsMapBy (roots p) u → t.start ≡ u.start →
+      t.born ≡ u.born → u.len ≡ t.len
   cut_or_map p t u made mapped start born =
       let left = journal_replayed pools (roots p) (journals p).replays (journals p).rise in
       elim (left.known.each u (map_taken pools (roots p) new_root u mapped)) [
@@ -143,13 +148,18 @@ module _ (partitions : ℕ) (pools : List PoolEntry) (roots : Journals) (journal
       (λ u among same. let (q, by') = listed_all partitions u among in one_length p q t u by by' same)
 
   -- a slot that an entry hands out has the length that the journals say
-  pub handed_out : (p : ℕ) (e : RootEntry) (class : Option ℕ) (t : Title) → Contains (roots p) e → HandsOut class t e.act → lengths_by partitions pools roots (name_of t) ≡ t.len
+  pub handed_out : (p : ℕ) (e : RootEntry) (class : Option ℕ) (t : Title) → Contains (roots p) e → HandsOut class t e.act →
+      lengths_by partitions pools roots (name_of t) ≡ t.len
   handed_out p e (Some class) t among (asked, slots, act, member, size, small) =
-      let (u, by, name, len) = title_of pools (roots p) e (name_of t) (journals p) among (subst (λ a. Contains (leaves_by a) (name_of t)) (sym act) member) in
+      let (u, by, name, len) =
+      title_of pools (roots p) e (name_of t) (journals p) among
+      (subst (λ a. Contains (leaves_by a) (name_of t)) (sym act) member) in
       let (real, long) = subst (λ a. HasLen a u) act len in
       ap (λ n. lengths_by partitions pools roots n) (sym name) ∙ (made p u by ∙ (long ∙ sym size))
   handed_out p e None t among (asked, act) =
-      let (u, by, name, len) = title_of pools (roots p) e (name_of t) (journals p) among (subst (λ a. Contains (leaves_by a) (name_of t)) (sym act) (first_in (name_of t) [])) in
+      let (u, by, name, len) =
+      title_of pools (roots p) e (name_of t) (journals p) among
+      (subst (λ a. Contains (leaves_by a) (name_of t)) (sym act) (first_in (name_of t) [])) in
       let long : u.len ≡ t.len = subst (λ a. HasLen a u) act len in
       ap (λ n. lengths_by partitions pools roots n) (sym name) ∙ (made p u by ∙ long)
 
@@ -160,10 +170,15 @@ module _ (partitions : ℕ) (pools : List PoolEntry) (roots : Journals) (journal
       (λ q u by' named. owned q p u t by' by (ap (λ (s : SlotName). s.born) named))
 
   -- a slot that an entry hands out has the partition that the journals say
-  pub handed_home : (p : ℕ) (e : RootEntry) (class : Option ℕ) (t : Title) → Contains (roots p) e → HandsOut class t e.act → homes_by partitions pools roots (name_of t) ≡ p
+  pub handed_home : (p : ℕ) (e : RootEntry) (class : Option ℕ) (t : Title) → Contains (roots p) e → HandsOut class t e.act →
+      homes_by partitions pools roots (name_of t) ≡ p
   handed_home p e (Some class) t among (asked, slots, act, member, size, small) =
-      let (u, by, name, len) = title_of pools (roots p) e (name_of t) (journals p) among (subst (λ a. Contains (leaves_by a) (name_of t)) (sym act) member) in
+      let (u, by, name, len) =
+      title_of pools (roots p) e (name_of t) (journals p) among
+      (subst (λ a. Contains (leaves_by a) (name_of t)) (sym act) member) in
       ap (λ n. homes_by partitions pools roots n) (sym name) ∙ home_made p u by
   handed_home p e None t among (asked, act) =
-      let (u, by, name, len) = title_of pools (roots p) e (name_of t) (journals p) among (subst (λ a. Contains (leaves_by a) (name_of t)) (sym act) (first_in (name_of t) [])) in
+      let (u, by, name, len) =
+      title_of pools (roots p) e (name_of t) (journals p) among
+      (subst (λ a. Contains (leaves_by a) (name_of t)) (sym act) (first_in (name_of t) [])) in
       ap (λ n. homes_by partitions pools roots n) (sym name) ∙ home_made p u by

@@ -47,7 +47,8 @@ use Rattle.pa_execution.proofs.Heaping.{played_append, thread_records}
 -- ---- sums over threads
 
 -- what threads count is the sum of what each counts
-counted_over : (test : Step → ℕ → Bool) (weight : SlotName → ℕ) (xs : List Played) (f : ℕ → ℕ) (n : ℕ) → ((k : ℕ) → k < n → f k ≡ weight_of test weight (marks_of (records_by k xs))) →
+counted_over : (test : Step → ℕ → Bool) (weight : SlotName → ℕ) (xs : List Played) (f : ℕ → ℕ) (n : ℕ) →
+    ((k : ℕ) → k < n → f k ≡ weight_of test weight (marks_of (records_by k xs))) →
     counted_by test weight xs n ≡ sum_over f n
 counted_over test weight xs f zero each = refl
 counted_over test weight xs f (suc n) each =
@@ -65,14 +66,17 @@ module _ (t : Trace) (c : Course) (n p : ℕ) where
   slots_over : (m : ℕ) → m ≤ t.threads → cached_slots (lists_at t c n) p m ≡ sum_over (λ k. listed_slots (lists_of k p) 0 170) m
   slots_over zero few = refl
   slots_over (suc m) few =
-      let here : listed_slots (lists_at t c n m p) 0 170 ≡ listed_slots (lists_of m p) 0 170 = ap (λ (z : Cache). listed_slots (z p) 0 170) (has_lists m (omega arith)) in
+      let here : listed_slots (lists_at t c n m p) 0 170 ≡ listed_slots (lists_of m p) 0 170 =
+      ap (λ (z : Cache). listed_slots (z p) 0 170) (has_lists m (omega arith)) in
       let rest = slots_over m (omega arith) in
       omega arith
 
-  bytes_over : (m : ℕ) → m ≤ t.threads → cached_bytes (lists_at t c n) p m ≡ sum_over (λ k. listed_bytes (λ class. length (lists_of k p class)) 0 170) m
+  bytes_over : (m : ℕ) → m ≤ t.threads →
+      cached_bytes (lists_at t c n) p m ≡ sum_over (λ k. listed_bytes (λ class. length (lists_of k p class)) 0 170) m
   bytes_over zero few = refl
   bytes_over (suc m) few =
-      let here : listed_bytes (λ class. length (lists_at t c n m p class)) 0 170 ≡ listed_bytes (λ class. length (lists_of m p class)) 0 170 =
+      let here : listed_bytes (λ class. length (lists_at t c n m p class)) 0 170 ≡ listed_bytes
+      (λ class. length (lists_of m p class)) 0 170 =
       ap (λ (z : Cache). listed_bytes (λ class. length (z p class)) 0 170) (has_lists m (omega arith)) in
       let rest = bytes_over m (omega arith) in
       omega arith
@@ -80,7 +84,8 @@ module _ (t : Trace) (c : Course) (n p : ℕ) where
 -- ---- what a worker counted, and the bytes that it booked
 
 -- counts that begin with the same grew from there
-counts_from : (home : SlotName → ℕ) (xs : List Played) (a b d : List Count) → ((p : ℕ) → counted_in a p ≡ counted_in b p) → CountsBy home xs a d → CountsBy home xs b d
+counts_from : (home : SlotName → ℕ) (xs : List Played) (a b d : List Count) → ((p : ℕ) → counted_in a p ≡ counted_in b p) →
+    CountsBy home xs a d → CountsBy home xs b d
 counts_from home xs a b d same is = record {
   issued = λ p low. subst (λ (z : Count). GrewBy issues home p xs z.issued (counted_in d p).issued) (same p) (is.issued p low);
   freed = λ p low. subst (λ (z : Count). GrewBy frees home p xs z.freed (counted_in d p).freed) (same p) (is.freed p low);
@@ -120,21 +125,26 @@ module _ (t : Trace) (r : Told) (c : Course) (v : View) (xs : List Exchange) (ru
   abbrev size : SlotName → ℕ
   size = sizes_in t r
 
-  counted_until : (k n : ℕ) → suc n ≤ phases t r c v xs run → k < t.threads → CountsBy home (played_in (so_far c.plays k (suc n))) [] (c.ends (suc n) k).counts
+  counted_until : (k n : ℕ) → suc n ≤ phases t r c v xs run → k < t.threads →
+      CountsBy home (played_in (so_far c.plays k (suc n))) [] (c.ends (suc n) k).counts
   counted_until k zero high few =
       counts_from home (played_in (c.plays 1 k)) (c.starts 1 k).counts [] (c.ends 1 k).counts (run.course.begins k few).new.counts
-      (counts (outcome_of t r) (c.starts 1 k) (c.ends 1 k) (c.plays 1 k) (run.course.plays 1 k (omega arith) high few) (fits t r c v xs run 1 k (omega arith) high few))
+      (counts (outcome_of t r) (c.starts 1 k) (c.ends 1 k) (c.plays 1 k) (run.course.plays 1 k (omega arith) high few)
+      (fits t r c v xs run 1 k (omega arith) high few))
   counted_until k (suc n) high few =
       let m = suc (suc n) in
       let heard = heard_next t c run.left.limits run.course (suc n) k (omega arith) (omega arith) few in
       let same : (c.starts m k).counts ≡ (c.ends (suc n) k).counts = ap (λ (w : WorkerValue). w.counts) heard.same in
-      let next = counts (outcome_of t r) (c.starts m k) (c.ends m k) (c.plays m k) (run.course.plays m k (omega arith) high few) (fits t r c v xs run m k (omega arith) high few) in
+      let next = counts (outcome_of t r) (c.starts m k) (c.ends m k) (c.plays m k) (run.course.plays m k (omega arith) high few)
+      (fits t r c v xs run m k (omega arith) high few) in
       subst (λ ps. CountsBy home ps [] (c.ends m k).counts) (sym (played_append (so_far c.plays k (suc n)) (c.plays m k)))
-      (counts_append home (played_in (so_far c.plays k (suc n))) (played_in (c.plays m k)) [] (c.ends (suc n) k).counts (c.ends m k).counts (counted_until k n (omega arith) few)
+      (counts_append home (played_in (so_far c.plays k (suc n))) (played_in (c.plays m k)) [] (c.ends (suc n) k).counts (c.ends m k).counts
+      (counted_until k n (omega arith) few)
       (subst (λ cs. CountsBy home (played_in (c.plays m k)) cs (c.ends m k).counts) same next))
 
   -- of all records up to the end of a phase
-  counted_at : (n k : ℕ) → 1 ≤ n → n ≤ phases t r c v xs run → k < t.threads → CountsBy home (records_by k (until n (played_in (told_in t c)))) [] (c.ends n k).counts
+  counted_at : (n k : ℕ) → 1 ≤ n → n ≤ phases t r c v xs run → k < t.threads →
+      CountsBy home (records_by k (until n (played_in (told_in t c)))) [] (c.ends n k).counts
   counted_at zero k low high few = absurd (omega arith)
   counted_at (suc n) k low high few =
       let own = thread_records k (suc n) (told_in t c) ∙ ap played_in (thread_until t c run.left.limits run.course (suc n) k high few) in
@@ -154,7 +164,8 @@ module _ (t : Trace) (r : Told) (c : Course) (v : View) (xs : List Exchange) (ru
         let before = starts_of t c run.left.limits run.course k n high few in
         let after = is_after t c run.left.limits run.course k m (omega arith) high few before in
         let played = run.course.plays m k (omega arith) high few in
-        let more = bytes (outcome_of t r) (c.starts m k) (c.ends m k) (c.plays m k) played (fits t r c v xs run m k (omega arith) high few) p q low kind in
+        let more = bytes (outcome_of t r) (c.starts m k) (c.ends m k) (c.plays m k) played
+        (fits t r c v xs run m k (omega arith) high few) p q low kind in
         let a = by_thread k (c.starts m k) p q before.thread in
         let b = by_thread k (c.ends m k) p q after.thread in
         omega arith
@@ -164,7 +175,8 @@ module _ (t : Trace) (r : Told) (c : Course) (v : View) (xs : List Exchange) (ru
     booked_until k zero high few =
         let begins = run.course.begins k few in
         let more = booked_then zero k high few in
-        let owed : owed_to q (owed_at (c.starts 1 k).owed p) ≡ 0 = ap (λ os. owed_to q (owed_at os p)) begins.new.owed ∙ owed_none p q low kind in
+        let owed : owed_to q (owed_at (c.starts 1 k).owed p) ≡ 0 = ap (λ os. owed_to q (owed_at os p)) begins.new.owed ∙
+        owed_none p q low kind in
         let log : log_of k (c.starts 1 k).stock.view ≡ [] = ap (log_of k) begins.new.stock.view ∙ begins.log in
         let added = ap (sum_by (added_to (4 * p + q))) log in
         omega arith
@@ -198,22 +210,31 @@ module _ (t : Trace) (r : Told) (c : Course) (v : View) (xs : List Exchange) (ru
     added_by n first high =
         let told = run.course.tells n first high in
         added_by_threads (c.seats n) t.threads (4 * p + q) told.aware run.left.limits.head.2.1 told.idle
-        ∙ sym (counted_over (is_of_kind q) (bytes_of home size p) (until n (played_in (told_in t c))) (λ k. sum_by (added_to (4 * p + q)) (log_of k (c.seats n))) t.threads
+        ∙ sym (counted_over (is_of_kind q) (bytes_of home size p) (until n (played_in (told_in t c)))
+        (λ k. sum_by (added_to (4 * p + q)) (log_of k (c.seats n))) t.threads
         (λ k few. added_at n k first high few))
 
   -- ---- a tally
 
   -- one part of the counts of all threads, and two of the totals words
-  left_by : (into out : Step → ℕ → Bool) (in_part out_part : Count → ℕ) (i j n p : ℕ) (tally : Tally) → in_part no_count ≡ 0 → out_part no_count ≡ 0 →
-      ((k : ℕ) → k < t.threads → GrewBy into home p (records_by k (until n (played_in (told_in t c)))) (in_part no_count) (in_part (counted_in (c.ends n k).counts p))) →
-      ((k : ℕ) → k < t.threads → GrewBy out home p (records_by k (until n (played_in (told_in t c)))) (out_part no_count) (out_part (counted_in (c.ends n k).counts p))) →
+  left_by : (into out : Step → ℕ → Bool) (in_part out_part : Count → ℕ) (i j n p : ℕ) (tally : Tally) → in_part no_count ≡ 0 →
+      out_part no_count ≡ 0 →
+      ((k : ℕ) → k < t.threads →
+      GrewBy into home p (records_by k (until n (played_in (told_in t c)))) (in_part no_count)
+      (in_part (counted_in (c.ends n k).counts p))) →
+      ((k : ℕ) → k < t.threads →
+      GrewBy out home p (records_by k (until n (played_in (told_in t c)))) (out_part no_count)
+      (out_part (counted_in (c.ends n k).counts p))) →
       added_in (c.seats n) (4 * p + i) ≡ counted_by into (bytes_of home size p) (until n (played_in (told_in t c))) t.threads →
       added_in (c.seats n) (4 * p + j) ≡ counted_by out (bytes_of home size p) (until n (played_in (told_in t c))) t.threads →
-      IsLeftOf in_part out_part i j p t.threads (c.ends n) (c.seats n) tally → IsLeftBy into out home size p t.threads (until n (played_in (told_in t c))) tally
+      IsLeftOf in_part out_part i j p t.threads (c.ends n) (c.seats n) tally →
+      IsLeftBy into out home size p t.threads (until n (played_in (told_in t c))) tally
   left_by into out in_part out_part i j n p tally no_in no_out in_each out_each bytes_in bytes_out is =
       let ps = until n (played_in (told_in t c)) in
-      let a = counted_over into (one_of home p) ps (λ k. in_part (counted_in (c.ends n k).counts p)) t.threads (λ k few. let e = in_each k few in omega arith) in
-      let b = counted_over out (one_of home p) ps (λ k. out_part (counted_in (c.ends n k).counts p)) t.threads (λ k few. let e = out_each k few in omega arith) in
+      let a = counted_over into (one_of home p) ps (λ k. in_part (counted_in (c.ends n k).counts p)) t.threads
+      (λ k few. let e = in_each k few in omega arith) in
+      let b = counted_over out (one_of home p) ps (λ k. out_part (counted_in (c.ends n k).counts p)) t.threads
+      (λ k few. let e = out_each k few in omega arith) in
       let slots = is.slots in
       let bytes = is.bytes in
       record { slots = omega arith; bytes = omega arith }
@@ -233,11 +254,15 @@ courses_tell_lines t r c v xs run l among is =
     let inside : n ≤ phases t r c v xs run = omega arith in
     record {
       live = left_by t r c v xs run issues frees (λ (x : Count). x.issued) (λ (x : Count). x.freed) 0 1 n p l.live refl refl
-          (λ k few. (counted_at t r c v xs run n k low inside few).issued p small) (λ k few. (counted_at t r c v xs run n k low inside few).freed p small)
-          (added_by t r c v xs run p 0 small (omega arith) n low inside) (added_by t r c v xs run p 1 small (omega arith) n low inside) is.live;
+          (λ k few. (counted_at t r c v xs run n k low inside few).issued p small)
+          (λ k few. (counted_at t r c v xs run n k low inside few).freed p small)
+          (added_by t r c v xs run p 0 small (omega arith) n low inside)
+          (added_by t r c v xs run p 1 small (omega arith) n low inside) is.live;
       quarantined = left_by t r c v xs run enters leaves (λ (x : Count). x.entered) (λ (x : Count). x.left) 2 3 n p l.quarantined refl refl
-          (λ k few. (counted_at t r c v xs run n k low inside few).entered p small) (λ k few. (counted_at t r c v xs run n k low inside few).left p small)
-          (added_by t r c v xs run p 2 small (omega arith) n low inside) (added_by t r c v xs run p 3 small (omega arith) n low inside) is.quarantined;
+          (λ k few. (counted_at t r c v xs run n k low inside few).entered p small)
+          (λ k few. (counted_at t r c v xs run n k low inside few).left p small)
+          (added_by t r c v xs run p 2 small (omega arith) n low inside)
+          (added_by t r c v xs run p 3 small (omega arith) n low inside) is.quarantined;
       cached = (
         is.cached.slots ∙ sym (slots_over t c n p t.threads (omega arith)),
         is.cached.bytes ∙ sym (bytes_over t c n p t.threads (omega arith)),

@@ -52,7 +52,8 @@ HaveLines R plays os = (n k : ℕ) → R n k → lines_told (plays n k) ≡ filt
 abbrev AreAllowed : (ℕ → ℕ → Type 0) → List OpLine → Type 0
 AreAllowed R os = (o : OpLine) → Contains os o → R o.phase o.thread
 
-lines_without : (R : ℕ → ℕ → Type 0) (plays : ℕ → ℕ → List ToldRecord) (o : OpLine) (os : List OpLine) → HaveLines R plays (o ∷ os) → HaveLines R (without_line o plays) os
+lines_without : (R : ℕ → ℕ → Type 0) (plays : ℕ → ℕ → List ToldRecord) (o : OpLine) (os : List OpLine) → HaveLines R plays (o ∷ os) →
+    HaveLines R (without_line o plays) os
 lines_without R plays o os have n k allowed = elim (cases_Bool (is_line_of n k o)) [
   | inl y ↦
       let mine : lines_told (plays n k) ≡ o ∷ filter (is_line_of n k) os = have n k allowed ∙ rw y refl in
@@ -63,18 +64,21 @@ lines_without R plays o os have n k allowed = elim (cases_Bool (is_line_of n k o
       rw m others
 ]
 
-first_begun : (R : ℕ → ℕ → Type 0) (plays : ℕ → ℕ → List ToldRecord) (o : OpLine) (os : List OpLine) → R o.phase o.thread → HaveLines R plays (o ∷ os) →
+first_begun : (R : ℕ → ℕ → Type 0) (plays : ℕ → ℕ → List ToldRecord) (o : OpLine) (os : List OpLine) → R o.phase o.thread →
+    HaveLines R plays (o ∷ os) →
     Begun (plays o.phase o.thread) o (filter (is_line_of o.phase o.thread) os)
 first_begun R plays o os allowed have =
     let mine : filter (is_line_of o.phase o.thread) (o ∷ os) ≡ o ∷ filter (is_line_of o.phase o.thread) os = rw (own_group o) refl in
     begun (plays o.phase o.thread) o (filter (is_line_of o.phase o.thread) os) (have o.phase o.thread allowed ∙ mine)
 
-pub merged_lines : (R : ℕ → ℕ → Type 0) (plays : ℕ → ℕ → List ToldRecord) (os : List OpLine) → AreAllowed R os → HaveLines R plays os → lines_told (merged_by_lines plays os) ≡ os
+pub merged_lines : (R : ℕ → ℕ → Type 0) (plays : ℕ → ℕ → List ToldRecord) (os : List OpLine) → AreAllowed R os → HaveLines R plays os →
+    lines_told (merged_by_lines plays os) ≡ os
 merged_lines R plays [] allowed have = refl
 merged_lines R plays (o ∷ os) allowed have =
     let b = first_begun R plays o os (allowed o (first_in o os)) have in
     let again = merged_lines R (without_line o plays) os (λ a among. allowed a (later_in o a os among)) (lines_without R plays o os have) in
-    ap (λ xs. lines_told (take 1 xs ++ merged_by_lines (without_line o plays) os)) b.is ∙ (ap (λ l. l ∷ lines_told (merged_by_lines (without_line o plays) os)) b.line ∙ ap (λ ls. o ∷ ls) again)
+    ap (λ xs. lines_told (take 1 xs ++ merged_by_lines (without_line o plays) os)) b.is ∙
+    (ap (λ l. l ∷ lines_told (merged_by_lines (without_line o plays) os)) b.line ∙ ap (λ ls. o ∷ ls) again)
 
 pub merged_groups : (R : ℕ → ℕ → Type 0) (plays : ℕ → ℕ → List ToldRecord) (os : List OpLine) → AreAllowed R os → HaveLines R plays os →
     (n k : ℕ) → R n k → filter (is_told_in n k) (merged_by_lines plays os) ≡ plays n k
@@ -82,13 +86,16 @@ merged_groups R plays [] allowed have n k of = sym (no_lines (plays n k) (have n
 merged_groups R plays (o ∷ os) allowed have n k of =
     let b = first_begun R plays o os (allowed o (first_in o os)) have in
     let rest = merged_by_lines (without_line o plays) os in
-    let again = merged_groups R (without_line o plays) os (λ a among. allowed a (later_in o a os among)) (lines_without R plays o os have) n k of in
-    let here : filter (is_told_in n k) (merged_by_lines plays (o ∷ os)) ≡ filter (is_told_in n k) (b.first ∷ rest) = ap (λ xs. filter (is_told_in n k) (take 1 xs ++ rest)) b.is in
+    let again = merged_groups R (without_line o plays) os (λ a among. allowed a (later_in o a os among))
+    (lines_without R plays o os have) n k of in
+    let here : filter (is_told_in n k) (merged_by_lines plays (o ∷ os)) ≡ filter (is_told_in n k) (b.first ∷ rest) =
+    ap (λ xs. filter (is_told_in n k) (take 1 xs ++ rest)) b.is in
     elim (cases_Bool (is_line_of n k o)) [
       | inl y ↦
           let (phase, thread) = group_is n k o y in
           let first : is_told_in n k b.first ≡ true = ap (is_line_of n k) b.line ∙ y in
-          let plays_are : plays n k ≡ b.first ∷ b.rest = subst (λ p. plays p k ≡ b.first ∷ b.rest) phase (subst (λ q. plays o.phase q ≡ b.first ∷ b.rest) thread b.is) in
+          let plays_are : plays n k ≡ b.first ∷ b.rest =
+          subst (λ p. plays p k ≡ b.first ∷ b.rest) phase (subst (λ q. plays o.phase q ≡ b.first ∷ b.rest) thread b.is) in
           let left : without_line o plays n k ≡ b.rest = rw y (ap (λ xs. drop 1 xs) plays_are) in
           let taken : filter (is_told_in n k) (b.first ∷ rest) ≡ b.first ∷ filter (is_told_in n k) rest = rw first refl in
           here ∙ (taken ∙ (ap (λ xs. b.first ∷ xs) (again ∙ left) ∙ sym plays_are))

@@ -42,7 +42,8 @@ sees_one w next x one = record {
 
 pub sees_all : (w v : WorkerValue) (xs : List ToldRecord) → PlaysAll w xs v → HasSeenAll w.stock.view v.stock.view
 sees_all w v [] same = subst (λ (z : WorkerValue). HasSeenAll w.stock.view z.stock.view) (sym same) (sees_itself w.stock.view)
-sees_all w v (x ∷ xs) (next, one, more) = sees_then w.stock.view next.stock.view v.stock.view (sees_one w next x one) (sees_all next v xs more)
+sees_all w v (x ∷ xs) (next, one, more) =
+    sees_then w.stock.view next.stock.view v.stock.view (sees_one w next x one) (sees_all next v xs more)
 
 -- ---- one record among those that were played
 
@@ -82,7 +83,8 @@ has_played w v (y ∷ ys) x (next, one, more) among = elim (in_cases y x ys amon
 ]
 
 -- the worker stays that of its thread, in a run of as many partitions
-pub stays : (w v : WorkerValue) (xs : List ToldRecord) → PlaysAll w xs v → (v.stock.thread ≡ w.stock.thread) × (v.stock.partitions ≡ w.stock.partitions)
+pub stays : (w v : WorkerValue) (xs : List ToldRecord) → PlaysAll w xs v → (v.stock.thread ≡ w.stock.thread) ×
+    (v.stock.partitions ≡ w.stock.partitions)
 stays w v [] same = (ap (λ (z : WorkerValue). z.stock.thread) same, ap (λ (z : WorkerValue). z.stock.partitions) same)
 stays w v (x ∷ xs) (next, one, more) =
     let (thread, many) = stays next v xs more in
@@ -99,15 +101,18 @@ keeps_rules w v (x ∷ xs) (next, one, more) =
 abbrev pub stretches : List ToldRecord → List Entry
 stretches xs = flat_map (λ (x : ToldRecord). x.stretch) xs
 
-pub logged : (w v : WorkerValue) (xs : List ToldRecord) (k : ℕ) → PlaysAll w xs v → w.stock.thread ≡ k → log_of k v.stock.view ≡ log_of k w.stock.view ++ stretches xs
+pub logged : (w v : WorkerValue) (xs : List ToldRecord) (k : ℕ) → PlaysAll w xs v → w.stock.thread ≡ k →
+    log_of k v.stock.view ≡ log_of k w.stock.view ++ stretches xs
 logged w v [] k same mine = ap (λ (z : WorkerValue). log_of k z.stock.view) same ∙ sym (append-nil _)
 logged w v (x ∷ xs) k (next, one, more) mine =
     let again = logged next v xs k more (one.does.same.0 ∙ mine) in
-    let own : log_of k next.stock.view ≡ log_of k w.stock.view ++ x.stretch = one.does.logs k ∙ rw (eq-eqb k w.stock.thread (sym mine)) refl in
+    let own : log_of k next.stock.view ≡ log_of k w.stock.view ++ x.stretch = one.does.logs k ∙
+    rw (eq-eqb k w.stock.thread (sym mine)) refl in
     again ∙ (ap (λ es. es ++ stretches xs) own ∙ append_assoc (log_of k w.stock.view) x.stretch (stretches xs))
 
 -- what a record's seat hands on those after it had seen
-pub in_order : (w v : WorkerValue) (xs : List ToldRecord) (x y : ToldRecord) (u : Title) → PlaysAll w xs v → AreRising xs → Contains xs x → Contains xs y → x.played.line < y.played.line →
+pub in_order : (w v : WorkerValue) (xs : List ToldRecord) (x y : ToldRecord) (u : Title) → PlaysAll w xs v → AreRising xs → Contains xs x →
+    Contains xs y → x.played.line < y.played.line →
     x.gives u ≤ y.saw u
 in_order w v [] x y u same rising first second less = absurd (not_in_none x first)
 in_order w v (z ∷ zs) x y u (next, one, more) rising first second less =

@@ -31,15 +31,18 @@ recorded w v (x ∷ xs) (next, one, more) =
 module _ (t : Trace) (c : Course) (limits : IsWithinLimits t) (course : IsCourse t (phases_in t.lines) c) where
   records_after : (k n : ℕ) → suc n ≤ phases_in t.lines → k < t.threads → (c.ends (suc n) k).records ≡ entries_in (so_far c.plays k (suc n))
   records_after k zero high few =
-      recorded (c.starts 1 k) (c.ends 1 k) (c.plays 1 k) (course.plays 1 k (omega arith) high few) ∙ ap (λ es. es ++ entries_in (c.plays 1 k)) (course.begins k few).new.records
+      recorded (c.starts 1 k) (c.ends 1 k) (c.plays 1 k) (course.plays 1 k (omega arith) high few) ∙
+      ap (λ es. es ++ entries_in (c.plays 1 k)) (course.begins k few).new.records
   records_after k (suc n) high few =
       let m = suc (suc n) in
       let heard = heard_next t c limits course (suc n) k (omega arith) (omega arith) few in
       let same : (c.starts m k).records ≡ (c.ends (suc n) k).records = ap (λ (w : WorkerValue). w.records) heard.same in
       recorded (c.starts m k) (c.ends m k) (c.plays m k) (course.plays m k (omega arith) high few)
-      ∙ (ap (λ es. es ++ entries_in (c.plays m k)) (same ∙ records_after k n (omega arith) few) ∙ sym (entries_append (so_far c.plays k (suc n)) (c.plays m k)))
+      ∙ (ap (λ es. es ++ entries_in (c.plays m k)) (same ∙ records_after k n (omega arith) few) ∙
+      sym (entries_append (so_far c.plays k (suc n)) (c.plays m k)))
 
-  records : (n k : ℕ) → 1 ≤ n → n ≤ phases_in t.lines → k < t.threads → (c.ends n k).records ≡ entries_in (filter (is_of_thread k) (told_until n (told_in t c)))
+  records : (n k : ℕ) → 1 ≤ n → n ≤ phases_in t.lines → k < t.threads →
+      (c.ends n k).records ≡ entries_in (filter (is_of_thread k) (told_until n (told_in t c)))
   records zero k low high few = absurd (omega arith)
   records (suc n) k low high few = records_after k n high few ∙ ap entries_in (sym (thread_until t c limits course (suc n) k high few))
 

@@ -1,5 +1,5 @@
--- A line of the report, from what the workers counted and have cached at the end of its phase, from the totals words, and from the
--- census of its root.
+-- A line of the report, from what the workers counted and have cached at the end of its phase, from the totals words,
+-- and from the census of its root.
 use Rattle.std.specs.Prelude.{◌≡◌, ℕ, zero, suc, ◌+◌, ◌-◌, ◌*◌, List, length, Contains}
 use Rattle.pa_buckets.specs.Limits.{class_count}
 use Rattle.pa_trace.specs.declared.script.Trace.{Trace}

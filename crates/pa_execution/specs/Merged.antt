@@ -49,7 +49,8 @@ swaps_of [] xs = []
 swaps_of (m ∷ ms) [] = []
 swaps_of (m ∷ ms) (x ∷ xs) = record { made = m; cell = x.cell; entry = x.entry } ∷ swaps_of ms xs
 
--- What the run became, as the ops of workers see it, by the trace's rules: each slot has the length and the partition that the journals say.
+-- What the run became, as the ops of workers see it, by the trace's rules:
+-- each slot has the length and the partition that the journals say.
 abbrev pub outcome_of : Trace → Told → Outcome
 outcome_of t r =
     record {

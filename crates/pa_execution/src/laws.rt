@@ -43,8 +43,8 @@ pub fn courses_tell_timeline()
     ensures { CoursesTellTimeline }
 {}
 
-/// A line of the report is right if it is what the workers counted and have cached, what was added to the totals words, and a root's
-/// census.
+/// A line of the report is right if it is what the workers counted and have cached,
+/// what was added to the totals words, and a root's census.
 pub fn courses_tell_lines()
     ensures { CoursesTellLines }
 {}

@@ -67,7 +67,8 @@ root_numbered p journal v left s =
     subst (λ (xs : List RootEntry). IsNumbered (Some 0) (moves_of xs s)) left.journal_is (left.kept.numbers.numbered s)
 
 -- what was made and isn't out is free in its seat
-pub root_has : (p : ℕ) (journal : List RootEntry) (es : List PoolEntry) (v : View) (u : Title) → JournalsFitPool → IsPoolList (list_of 4 v) es →
+pub root_has : (p : ℕ) (journal : List RootEntry) (es : List PoolEntry) (v : View) (u : Title) →
+    JournalsFitPool → IsPoolList (list_of 4 v) es →
     LeavesRoot p journal v → IsMade (root_replayed es journal new_root) u →
     (IsNameOut (root_replayed es journal new_root) (name_of u) → ⊥) → 0 < free_of v u
 root_has p journal es v u law list left made stays =
@@ -75,19 +76,23 @@ root_has p journal es v u law list left made stays =
     let more = left.within.frees u in
     elim (left.kept.titles.has u (subst (λ (r : Root). IsMade r u) (sym same) made)) [
       | inl free ↦ omega arith
-      | inr out ↦ absurd (stays (out_is_out.titled (root_replayed es journal new_root) (name_of u) (subst (λ (r : Root). IsOut r (name_of u)) same out)))
+      | inr out ↦ absurd
+          (stays (out_is_out.titled (root_replayed es journal new_root) (name_of u) (subst (λ (r : Root). IsOut r (name_of u)) same out)))
     ]
 
 -- the cells' list is all exchanges, and each history is a chain
-pub cells_list : (histories : List (List CellEntry)) (v : View) → LeavesCells histories v → (xs : List Exchange) × AreExchanges (list_of 5 v) histories xs
+pub cells_list : (histories : List (List CellEntry)) (v : View) → LeavesCells histories v →
+    (xs : List Exchange) × AreExchanges (list_of 5 v) histories xs
 cells_list histories v left =
     let of_old = left.kept.exchanged in (
       of_old.0,
       subst (λ (hs : List (List CellEntry)). AreExchanges (list_of 5 v) hs of_old.0) left.histories_are
-          (subst (λ (l : List Made). AreExchanges l left.cells.histories of_old.0) (sym (left.within.own_lists 5 left.kept.host.1)) of_old.1),
+          (subst (λ (l : List Made). AreExchanges l left.cells.histories of_old.0)
+          (sym (left.within.own_lists 5 left.kept.host.1)) of_old.1),
     )
 
-pub cells_chain : (histories : List (List CellEntry)) (v : View) (k : ℕ) → LeavesCells histories v → IsChain Nothing (cell_history histories k)
+pub cells_chain : (histories : List (List CellEntry)) (v : View) (k : ℕ) → LeavesCells histories v →
+    IsChain Nothing (cell_history histories k)
 cells_chain histories v k left =
     subst (λ (hs : List (List CellEntry)). IsChain Nothing (cell_history hs k)) left.histories_are (left.kept.chain k)
 
@@ -117,7 +122,8 @@ lists_left words l v law pool roots cells =
       lists = λ p below. root_list p (journal_left l p) v (root_of l v p roots below);
       journals = λ p. elim (cases_lt p 4) [
         | inl below ↦ (root_fits p (journal_left l p) l.pool.items v law entries (root_of l v p roots below)).0
-        | inr past ↦ subst (λ (es : List RootEntry). IsJournal l.pool.items es) (sym (roots.no_more p past)) (record { replays = tt; rise = tt })
+        | inr past ↦
+            subst (λ (es : List RootEntry). IsJournal l.pool.items es) (sym (roots.no_more p past)) (record { replays = tt; rise = tt })
       ];
       numbers = λ p s. elim (cases_lt p 4) [
         | inl below ↦ root_numbered p (journal_left l p) v (root_of l v p roots below) s
@@ -129,10 +135,12 @@ lists_left words l v law pool roots cells =
     }
 
 -- a slot that was made and is with its root is free in the closing seat
-pub slots_left : (words : ℕ) (l : Left) (v : View) (p : ℕ) (u : Title) → JournalsFitPool → LeavesPool words l.pool.items v → LeavesRoots l v →
+pub slots_left : (words : ℕ) (l : Left) (v : View) (p : ℕ) (u : Title) → JournalsFitPool →
+    LeavesPool words l.pool.items v → LeavesRoots l v →
     IsMade (root_left l p) u → (IsNameOut (root_left l p) (name_of u) → ⊥) → 0 < free_of v u
 slots_left words l v p u law pool roots made stays = elim (cases_lt p 4) [
-  | inl below ↦ root_has p (journal_left l p) l.pool.items v u law (pool_list words l.pool.items v pool) (root_of l v p roots below) made stays
+  | inl below ↦
+      root_has p (journal_left l p) l.pool.items v u law (pool_list words l.pool.items v pool) (root_of l v p roots below) made stays
   | inr past ↦ no_slot (subst (λ (es : List RootEntry). IsMade (root_replayed l.pool.items es new_root) u) (roots.no_more p past) made)
 ]
   where
@@ -140,37 +148,44 @@ slots_left words l v p u law pool roots made stays = elim (cases_lt p 4) [
     no_slot made = let below : made.1.0 < 0 = made.1.1 in absurd (omega arith)
 
 -- the words of the region have each root, as its journal replays
-pub spans_left : (words : ℕ) (l : Left) (v : View) → JournalsFitPool → LeavesPool words l.pool.items v → LeavesRoots l v → IsEnd l.region v →
+pub spans_left : (words : ℕ) (l : Left) (v : View) → JournalsFitPool → LeavesPool words l.pool.items v →
+    LeavesRoots l v → IsEnd l.region v →
     AreSpansIn l.pool.items (journal_left l) l.region
 spans_left words l v law pool roots ends p below =
     let left = root_of l v p roots below in
-    subst (λ (r : Root). HasSpans l.region r) (root_fits p (journal_left l p) l.pool.items v law (pool_list words l.pool.items v pool) left).1
+    subst (λ (r : Root). HasSpans l.region r)
+    (root_fits p (journal_left l p) l.pool.items v law (pool_list words l.pool.items v pool) left).1
     (spans_stay left.root.view.words l.region left.root.root (keeps_spans p left.root left.kept v l.region left.within ends) left.spans)
 
 -- a seat that has every stake still has it after it takes in more
 pub every_on : (v w : View) → TakesOthersIn v w → HasEveryStake v → HasEveryStake w
 every_on v w takes every k below = let has = every k below in let same = takes.stakes k in omega arith
 
-pub taken_all : (seat a b c d e f last : View) → TakesOthersIn seat a → TakesOthersIn a b → TakesOthersIn b c → TakesOthersIn c d → TakesOthersIn d e → TakesOthersIn e f →
+pub taken_all : (seat a b c d e f last : View) → TakesOthersIn seat a → TakesOthersIn a b → TakesOthersIn b c → TakesOthersIn c d →
+    TakesOthersIn d e → TakesOthersIn e f →
     TakesOthersIn f last → TakesOthersIn seat last
 taken_all seat a b c d e f last to_a to_b to_c to_d to_e to_f to_last =
     takes_on seat a last to_a
     (takes_on a b last to_b (takes_on b c last to_c (takes_on c d last to_d (takes_on d e last to_e (takes_on e f last to_f to_last)))))
 
 -- The heap was closed by a seat that took all others in, one after the other.
-pub closed_by : (words : ℕ) (told : List WorkerValue) (seat a b c d e f last : View) (l : Left) (first second third fourth : List RootEntry) →
+pub closed_by : (words : ℕ) (told : List WorkerValue) (seat a b c d e f last : View) (l : Left)
+    (first second third fourth : List RootEntry) →
     l.roots ≡ first ∷ second ∷ third ∷ fourth ∷ [] → JournalsFitPool → HasEveryStake seat → unclean_of seat ≡ 0 → IsAware last →
-    IsEnd l.region last → length l.region ≡ words → TakesOthersIn seat a → All (LeavesWorker a) told → TakesOthersIn a b → LeavesPool words l.pool.items b →
+    IsEnd l.region last → length l.region ≡ words → TakesOthersIn seat a → All (LeavesWorker a) told → TakesOthersIn a b →
+    LeavesPool words l.pool.items b →
     TakesOthersIn b c → LeavesRoot 0 first c → TakesOthersIn c d → LeavesRoot 1 second d → TakesOthersIn d e → LeavesRoot 2 third e →
     TakesOthersIn e f → LeavesRoot 3 fourth f → TakesOthersIn f last → LeavesCells l.cells.items last → IsClosedBy words told seat l
-closed_by words told seat a b c d e f last l first second third fourth are law every clean aware ends long to_a workers to_b pool to_c one to_d two to_e three to_f four to_last cells =
+closed_by words told seat a b c d e f last l first second third fourth are law every clean aware ends long to_a workers to_b pool to_c one
+    to_d two to_e three to_f four to_last cells =
     let from_e = takes_on e f last to_f to_last in
     let from_d = takes_on d e last to_e from_e in
     let from_c = takes_on c d last to_d from_d in
     let from_b = takes_on b c last to_c from_c in
     let from_a = takes_on a b last to_b from_b in
     let all = taken_all seat a b c d e f last to_a to_b to_c to_d to_e to_f to_last in
-    let at : (p : ℕ) → journal_left l p ≡ slice_index_or (first ∷ second ∷ third ∷ fourth ∷ []) p [] = λ p. ap (λ (js : List (List RootEntry)). slice_index_or js p []) are in
+    let at : (p : ℕ) → journal_left l p ≡ slice_index_or (first ∷ second ∷ third ∷ fourth ∷ []) p [] =
+    λ p. ap (λ (js : List (List RootEntry)). slice_index_or js p []) are in
     let pool_there = pool_on words b last pool from_b.within in
     let roots : LeavesRoots l last = record {
       first = subst (λ (es : List RootEntry). LeavesRoot 0 es last) (sym (at 0)) (root_on 0 c last one from_c.within);

@@ -46,7 +46,8 @@ copy_to_row Empty h word regs to after bare becomes = (record { slot = name_of h
 copy_to_row (Own g) h word regs to after bare becomes = absurd bare
 copy_to_row (Ref g) h word regs to after bare becomes = absurd bare
 copy_to_row Freed h word regs to after bare becomes = (record { slot = name_of h.title; found = record { 0 = word } }, refl, refl, becomes)
-copy_to_row Cleared h word regs to after bare becomes = (record { slot = name_of h.title; found = record { 0 = word } }, refl, refl, becomes)
+copy_to_row Cleared h word regs to after bare becomes =
+    (record { slot = name_of h.title; found = record { 0 = word } }, refl, refl, becomes)
 
 -- the bytes of a register's slot are those of its handle
 handle_bytes : (r : StockRegister) (h : Handle) → HasHandleTo h r → bytes_in r ≡ h.title.len
@@ -54,7 +55,8 @@ handle_bytes r h (inl own) = ap bytes_in own
 handle_bytes r h (inr ref) = ap bytes_in ref
 
 -- the op does what it should
-pub copied_does : CountLeaves → (s : StockValue) (from to word : ℕ) (h : Handle) → IsStock s → IsAware s.view → HasItsStake s → 0 < s.view.budget →
+pub copied_does : CountLeaves → (s : StockValue) (from to word : ℕ) (h : Handle) → IsStock s → IsAware s.view →
+    HasItsStake s → 0 < s.view.budget →
     from < 64 → to < 64 → HasHandleTo h (register_in s.registers from) → HasNoHandle (register_in s.registers to) →
     IsFound h.title word s.view → (line : ℕ) →
     DoesOp line (ops.Copy from to) (answers.Done (record { slot = name_of h.title; found = record { 0 = word } })) s (copied s h to word)
@@ -66,9 +68,11 @@ copied_does counts s from to word h is aware stake budget below within has bare 
     let inside : to < length s.registers = let n = is.handles.count in omega arith in
     let seen : Seen = record { slot = name_of t; found = record { 0 = word } } in
     quiet_does s w (slice_set s.registers to (Ref h)) (ops.Copy from to) (answers.Done seen) (Counted t steps.Copy word 0 ∷ []) is.lists
-    (touched_count counts s.thread steps.Copy t word s.view refl can found (least_is s.thread s.view is.stake stake).0 (user_not_free s.view t aware knows.0))
+    (touched_count counts s.thread steps.Copy t word s.view refl can found (least_is s.thread s.view is.stake stake).0
+    (user_not_free s.view t aware knows.0))
     (record { room = λ j e. cc; no_swap = λ j e. cc; cells = λ list x none. none })
-    (owes_done s.registers (ops.Copy from to) seen t.len (Counted t steps.Copy word 0 ∷ []) ([], tt, refl) (handle_bytes (register_in s.registers from) h has)) (λ refused. absurd refused)
+    (owes_done s.registers (ops.Copy from to) seen t.len (Counted t steps.Copy word 0 ∷ []) ([], tt, refl)
+    (handle_bytes (register_in s.registers from) h has)) (λ refused. absurd refused)
     (λ line phase o run sees none same.
     let slot = slot_in_run o w h run sees (made_kept h s.view w refl knows.1) in
     record {
@@ -82,13 +86,17 @@ copied_does counts s from to word h is aware stake budget below within has bare 
       home = λ m e. (h.partition, home_of o h.partition (mark_at line seen (Some steps.Copy)) m e slot.size);
     })
 
-pub point_does : CountLeaves → (s after : StockValue) (from to : ℕ) (h : Handle) (seen : Seen) → IsStock s → IsAware s.view → HasItsStake s → 0 < s.view.budget →
-    from < 64 → to < 64 → HasHandleTo h (register_in s.registers from) → HasNoHandle (register_in s.registers to) → PointsTo h to seen s after → (line : ℕ) →
+pub point_does : CountLeaves → (s after : StockValue) (from to : ℕ) (h : Handle) (seen : Seen) → IsStock s → IsAware s.view →
+    HasItsStake s → 0 < s.view.budget →
+    from < 64 → to < 64 → HasHandleTo h (register_in s.registers from) → HasNoHandle (register_in s.registers to) →
+    PointsTo h to seen s after → (line : ℕ) →
     DoesOp line (ops.Copy from to) (answers.Done seen) s after
 point_does counts s after from to h seen is aware stake budget below within has bare points line =
-    let e : seen ≡ record { slot = name_of h.title; found = record { 0 = seen.found.0 } } = ap (λ n. record seen { slot = n }) points.slot in
+    let e : seen ≡ record { slot = name_of h.title; found = record { 0 = seen.found.0 } } =
+    ap (λ n. record seen { slot = n }) points.slot in
     subst (λ x. DoesOp line (ops.Copy from to) (answers.Done x) s after) (sym e)
-    (subst (DoesOp line (ops.Copy from to) (answers.Done (record { slot = name_of h.title; found = record { 0 = seen.found.0 } })) s) (sym points.after_is)
+    (subst (DoesOp line (ops.Copy from to) (answers.Done (record { slot = name_of h.title; found = record { 0 = seen.found.0 } })) s)
+    (sym points.after_is)
     (copied_does counts s from to seen.found.0 h is aware stake budget below within has bare points.found line))
 
 -- a copy to a register that has a handle answers `filled` and leaves the thread state as it is

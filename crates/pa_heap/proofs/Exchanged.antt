@@ -48,7 +48,9 @@ use Rattle.pa_root.proofs.Seeing.{free_kept}
 pub given_is : (p : ParkedHandle) → held_as (Some p) ≡ handle_of (as_reg (register_of p))
 given_is p = go p.own
   where
-    go : (b : Bool) → (if b then held.Own (name_of p.handle.title) else held.Ref (name_of p.handle.title)) ≡ handle_of (as_reg (handle_register b p.handle))
+    go : (b : Bool) →
+        (if b then held.Own (name_of p.handle.title) else held.Ref (name_of p.handle.title)) ≡
+        handle_of (as_reg (handle_register b p.handle))
     go true = refl
     go false = refl
 
@@ -64,7 +66,8 @@ pub found_is : (found : Option ParkedHandle) → as_reg (found_register found) �
 found_is None = refl
 found_is (Some p) = go p.own
   where
-    go : (b : Bool) → as_reg (handle_register b p.handle) ≡ reg_of (if b then held.Own (name_of p.handle.title) else held.Ref (name_of p.handle.title))
+    go : (b : Bool) →
+        as_reg (handle_register b p.handle) ≡ reg_of (if b then held.Own (name_of p.handle.title) else held.Ref (name_of p.handle.title))
     go true = refl
     go false = refl
 
@@ -117,7 +120,8 @@ not_done : (i : ℕ) (seen : Seen) → answers.Swapped i ≡ answers.Done seen �
 not_done i seen e = cc
 
 -- no act is of its line
-no_act : (o : Outcome) (x : ToldRecord) → IsOutcome o → ActsAreOf o x → ((q : ℕ) → (q ≡ 5 → ⊥) → entered_in q x.stretch ≡ []) → NoActs o.roots x.played.line
+no_act : (o : Outcome) (x : ToldRecord) → IsOutcome o → ActsAreOf o x →
+    ((q : ℕ) → (q ≡ 5 → ⊥) → entered_in q x.stretch ≡ []) → NoActs o.roots x.played.line
 no_act o x is acts none q = go (nat_lt q 4) refl
   where
     go : (b : Bool) → nat_lt q 4 ≡ b → acts_of o.roots x.played.line q ≡ []
@@ -126,10 +130,12 @@ no_act o x is acts none q = go (nat_lt q 4) refl
         acts q [] below (ap (λ (ms : List Made). map (λ m. m.numbers) ms) (none q (λ e. omega arith)))
     go false high =
         let past : o.partitions ≤ q = let few = is.few in let far : 4 ≤ q = grind (arith, nat_tests) in omega arith in
-        ap (λ (es : List RootEntry). map (λ (e : RootEntry). e.act) (filter (λ (e : RootEntry). e.line == x.played.line) es)) (is.past q past)
+        ap (λ (es : List RootEntry). map (λ (e : RootEntry). e.act) (filter (λ (e : RootEntry). e.line == x.played.line) es))
+        (is.past q past)
 
 -- The op does what it should.
-pub swap_does : (line cell reg index : ℕ) (given found : Option ParkedHandle) (s a b d : StockValue) → Swapping line cell reg index given found s a b d →
+pub swap_does : (line cell reg index : ℕ) (given found : Option ParkedHandle) (s a b d : StockValue) →
+    Swapping line cell reg index given found s a b d →
     DoesOp line (ops.Swap cell reg) (answers.Swapped index) s d
 swap_does line cell reg index given found s a b d is phase = (
   x,
@@ -143,22 +149,26 @@ swap_does line cell reg index given found s a b d is phase = (
         ∙ (ap (λ (log : List Entry). log ++ (if k == a.thread then Entered 5 m ∷ [] else [])) (is.first.logs k)
         ∙ ap (λ (n : ℕ). log_of k s.view ++ (if k == n then Entered 5 m ∷ [] else [])) is.threads.0));
     lists = λ k. begins_on (list_of k s.view) (list_of k b.view) (list_of k d.view)
-        (begins_on (list_of k s.view) (list_of k a.view) (list_of k b.view) (is.first.lists k) (swap.lends.keeps.lists k)) (is.last.lists k);
+        (begins_on (list_of k s.view) (list_of k a.view) (list_of k b.view) (is.first.lists k) (swap.lends.keeps.lists k))
+        (is.last.lists k);
     seen = record {
       saw = λ t. refl;
       knows = λ t. let e = swap.known t in let f = is.last.grows t in omega arith;
       carries = λ n t among. ap (λ (y : Made). seen_among t y.seen) (sym (entered_is 5 m n among));
       steps = λ t step found value among. elim (in_cases (Entered 5 m) (Counted t step found value) [] among)
           [ inl same ↦ absurd (no_step m t step found value same) | inr none ↦ absurd (not_in_none _ none) ];
-      looks = λ t found among. elim (in_cases (Entered 5 m) (Looked t found) [] among) [ inl same ↦ absurd (no_look m t found same) | inr none ↦ absurd (not_in_none _ none) ];
+      looks = λ t found among. elim (in_cases (Entered 5 m) (Looked t found) [] among)
+          [ inl same ↦ absurd (no_look m t found same) | inr none ↦ absurd (not_in_none _ none) ];
       grows = λ t. let e = is.first.grows t in let f = swap.carries t in omega arith;
     };
     enters = record {
       lines = λ q n among. ap line_of (entered_is q m n among) ∙ ap first_of swap.says;
-      fills = λ p n f low among says. absurd (not_in_none n (subst (λ (ms : List Made). Contains ms n) (other_list p m (λ e. omega arith)) among));
+      fills = λ p n f low among says. absurd
+          (not_in_none n (subst (λ (ms : List Made). Contains ms n) (other_list p m (λ e. omega arith)) among));
       asked = (it, inl (record { pools = refl; roots = λ p. refl }));
       refused = λ j r p size full asks. absurd (not_full index j full);
-      uncuts = λ t among. elim (in_cases (Entered 5 m) (Uncut t) [] among) [ inl same ↦ absurd (no_uncut m t same) | inr none ↦ absurd (not_in_none _ none) ];
+      uncuts = λ t among. elim (in_cases (Entered 5 m) (Uncut t) [] among)
+          [ inl same ↦ absurd (no_uncut m t same) | inr none ↦ absurd (not_in_none _ none) ];
       cells = record {
         older = swap.older;
         rest = (is.last.lists 5).0;
@@ -190,12 +200,14 @@ swap_does line cell reg index given found s a b d is phase = (
           lists = (none, λ p c. lists_same p c);
           reader = tt;
           unmaps = λ seen p asked slot f done among on act. absurd (not_done index seen done);
-          makes = λ p n f low among says. absurd (not_in_none n (subst (λ (ms : List Made). Contains ms n) (other_list p m (λ e. omega arith)) among));
+          makes = λ p n f low among says. absurd
+              (not_in_none n (subst (λ (ms : List Made). Contains ms n) (other_list p m (λ e. omega arith)) among));
           home = λ n f. absurd (not_some n f);
           signs = shapes_have_signs.swapped o.partitions index o.roots x is.swap.made refl refl;
         };
   },
-  λ word bytes among. elim (in_cases (Entered 5 m) (Added word bytes) [] among) [ inl same ↦ absurd (no_addition m word bytes same) | inr none ↦ absurd (not_in_none _ none) ],
+  λ word bytes among. elim (in_cases (Entered 5 m) (Added word bytes) [] among)
+      [ inl same ↦ absurd (no_addition m word bytes same) | inr none ↦ absurd (not_in_none _ none) ],
 )
   where
     swap : SwapsHandles line cell given found index a b
@@ -209,19 +221,34 @@ swap_does line cell reg index given found s a b d is phase = (
 
     x : ToldRecord
     x = record {
-      played = record { line = line; thread = s.thread; phase = phase; rules = rules_at s; op = ops.Swap cell reg; answer = answers.Swapped index };
+      played = record {
+        line = line;
+        thread = s.thread;
+        phase = phase;
+        rules = rules_at s;
+        op = ops.Swap cell reg;
+        answer = answers.Swapped index;
+      };
       stretch = Entered 5 is.swap.made ∷ [];
       saw = λ t. seen_of s.view t;
       gives = λ t. seen_among t is.swap.made.seen;
     }
 
     it : Enters x
-    it = record { roots = λ p. []; pools = []; roots_are = λ p low. ap (λ (ms : List Made). map (λ n. n.numbers) ms) (other_list p m (λ e. omega arith)); pools_are = refl }
+    it = record {
+      roots = λ p. [];
+      pools = [];
+      roots_are = λ p low. ap (λ (ms : List Made). map (λ n. n.numbers) ms) (other_list p m (λ e. omega arith));
+      pools_are = refl;
+    }
 
     stands : list_of 5 d.view ≡ is.swap.older ++ is.swap.made ∷ (is.last.lists 5).0
-    stands = (is.last.lists 5).1 ∙ (ap (λ (l : List Made). l ++ (is.last.lists 5).0) is.swap.list ∙ append_assoc is.swap.older (is.swap.made ∷ []) (is.last.lists 5).0)
+    stands = (is.last.lists 5).1 ∙
+        (ap (λ (l : List Made). l ++ (is.last.lists 5).0) is.swap.list ∙ append_assoc is.swap.older (is.swap.made ∷ []) (is.last.lists 5).0)
 
-    becomes : (k : ℕ) (c : Bool) → as_reg (if c then found_register found else register_in s.registers k) ≡ (if c then reg_of (held_as found) else regs_of s.registers k)
+    becomes : (k : ℕ) (c : Bool) →
+        as_reg (if c then found_register found else register_in s.registers k) ≡
+        (if c then reg_of (held_as found) else regs_of s.registers k)
     becomes k true = found_is found
     becomes k false = refl
 
@@ -240,20 +267,24 @@ swap_does line cell reg index given found s a b d is phase = (
 
 -- ---- from the three parts
 
-pub parks_rests : GiversLackHandles → (s a : StockValue) (reg : ℕ) (given : Option ParkedHandle) → IsStock s → reg < 64 → Parks reg given s a → Rests s.view a.view
+pub parks_rests : GiversLackHandles → (s a : StockValue) (reg : ℕ) (given : Option ParkedHandle) → IsStock s → reg < 64 →
+    Parks reg given s a → Rests s.view a.view
 parks_rests law s a reg None is below parks = subst (λ (z : StockValue). Rests s.view z.view) (sym parks.0) (rests_none s.view)
 parks_rests law s a reg (Some p) is below parks =
     subst (λ (z : StockValue). Rests s.view z.view) (sym parks.2)
     (parked_rests p.own p.handle s.view (law p.own p.handle.title 0 s.view (holds_given s reg p.own p.handle is below parks.0)))
 
-pub takes_rests : BeginningsJoin → SeenJoins → FreeNumbersStay → (b d : StockValue) (reg : ℕ) (found : Option ParkedHandle) → IsAware b.view → IsAware d.view →
+pub takes_rests : BeginningsJoin → SeenJoins → FreeNumbersStay → (b d : StockValue) (reg : ℕ) (found : Option ParkedHandle) →
+    IsAware b.view → IsAware d.view →
     TakesIn reg found b d → Rests b.view d.view
 takes_rests joins seen stay b d reg None aware both takes = subst (λ (z : StockValue). Rests b.view z.view) (sym takes) (rests_none b.view)
 takes_rests joins seen stay b d reg (Some p) aware both takes =
     subst (λ (z : StockValue). Rests b.view z.view) (sym takes.after_is)
-    (taken_rests joins seen stay b.view p.note.view aware takes.aware (subst (λ (z : StockValue). IsAware z.view) takes.after_is both) takes.long takes.parked.stakes)
+    (taken_rests joins seen stay b.view p.note.view aware takes.aware
+    (subst (λ (z : StockValue). IsAware z.view) takes.after_is both) takes.long takes.parked.stakes)
 
-gave_is : (s a : StockValue) (reg : ℕ) (given : Option ParkedHandle) → Parks reg given s a → held_as given ≡ handle_of (regs_of s.registers reg)
+gave_is : (s a : StockValue) (reg : ℕ) (given : Option ParkedHandle) → Parks reg given s a →
+    held_as given ≡ handle_of (regs_of s.registers reg)
 gave_is s a reg None parks = none_given (register_in s.registers reg) parks.1
 gave_is s a reg (Some p) parks = given_is p ∙ ap (λ (r : StockRegister). handle_of (as_reg r)) (sym parks.0)
 
@@ -265,7 +296,8 @@ record Frames (reg : ℕ) (s a : StockValue) : Type 0 where
   count : length a.registers ≡ length s.registers
   others : (k : ℕ) → (k == reg) ≡ false → register_in a.registers k ≡ register_in s.registers k
 
-frame_set : (s : StockValue) (v : View) (reg : ℕ) (r : StockRegister) → reg < length s.registers → Frames reg s (record s { view = v; registers = slice_set s.registers reg r })
+frame_set : (s : StockValue) (v : View) (reg : ℕ) (r : StockRegister) → reg < length s.registers →
+    Frames reg s (record s { view = v; registers = slice_set s.registers reg r })
 frame_set s v reg r within = record {
   thread = refl;
   partitions = refl;
@@ -280,28 +312,33 @@ frame_set s v reg r within = record {
 
 parks_frame : (s a : StockValue) (reg : ℕ) (given : Option ParkedHandle) → reg < length s.registers → Parks reg given s a → Frames reg s a
 parks_frame s a reg None within parks =
-    subst (λ (z : StockValue). Frames reg s z) (sym parks.0) (record { thread = refl; partitions = refl; caches = refl; count = refl; others = λ k other. refl })
+    subst (λ (z : StockValue). Frames reg s z) (sym parks.0)
+    (record { thread = refl; partitions = refl; caches = refl; count = refl; others = λ k other. refl })
 parks_frame s a reg (Some p) within parks =
     subst (λ (z : StockValue). Frames reg s z) (sym parks.2) (frame_set s (left_after (handle_parcel p) s.view) reg Empty within)
 
-takes_is : (b d : StockValue) (reg : ℕ) (found : Option ParkedHandle) → TakesIn reg found b d → (v : View) × (d ≡ record b { view = v; registers = slice_set b.registers reg (found_register found) })
+takes_is : (b d : StockValue) (reg : ℕ) (found : Option ParkedHandle) → TakesIn reg found b d →
+    (v : View) × (d ≡ record b { view = v; registers = slice_set b.registers reg (found_register found) })
 takes_is b d reg None takes = (b.view, takes)
 takes_is b d reg (Some p) takes = (united b.view p.note.view, takes.after_is)
 
 register_taken : (b d : StockValue) (reg k : ℕ) (found : Option ParkedHandle) → reg < length b.registers → TakesIn reg found b d →
     register_in d.registers k ≡ (if k == reg then found_register found else register_in b.registers k)
 register_taken b d reg k found within takes =
-    ap (λ (z : StockValue). register_in z.registers k) (takes_is b d reg found takes).1 ∙ set_at b.registers reg k (found_register found) Empty within
+    ap (λ (z : StockValue). register_in z.registers k) (takes_is b d reg found takes).1 ∙
+    set_at b.registers reg k (found_register found) Empty within
 
 -- an exchange does what it should
-pub exchange_does : GiversLackHandles → BeginningsJoin → SeenJoins → FreeNumbersStay → (line cell reg index : ℕ) (given found : Option ParkedHandle)
+pub exchange_does : GiversLackHandles → BeginningsJoin → SeenJoins → FreeNumbersStay →
+    (line cell reg index : ℕ) (given found : Option ParkedHandle)
     (s a b d : StockValue) → IsStock s → reg < 64 → IsAware a.view → IsAware b.view → IsAware d.view → Parks reg given s a →
     SwapsHandles line cell given found index a b → TakesIn reg found b d → DoesOp line (ops.Swap cell reg) (answers.Swapped index) s d
 exchange_does law joins seen stay line cell reg index given found s a b d is below aware_a aware_b aware_d parks swap takes =
     let within : reg < length s.registers = let n = is.handles.count in omega arith in
     let frame = parks_frame s a reg given within parks in
     let same : b.registers ≡ a.registers = ap (λ (z : StockValue). z.registers) swap.same in
-    let inside : reg < length b.registers = let n = frame.count in let m : length b.registers ≡ length a.registers = ap (λ (rs : List StockRegister). length rs) same in omega arith in
+    let inside : reg < length b.registers = let n = frame.count in
+    let m : length b.registers ≡ length a.registers = ap (λ (rs : List StockRegister). length rs) same in omega arith in
     let at_end = (takes_is b d reg found takes).1 in
     swap_does line cell reg index given found s a b d
     (record {
@@ -325,14 +362,16 @@ exchange_does law joins seen stay line cell reg index given found s a b d is bel
 -- ---- what the parts need of one another
 
 -- after a handle was handed over, or there was none, the register has none
-pub parks_none : (s a : StockValue) (reg : ℕ) (given : Option ParkedHandle) → reg < length s.registers → Parks reg given s a → HasNoHandle (register_in a.registers reg)
+pub parks_none : (s a : StockValue) (reg : ℕ) (given : Option ParkedHandle) → reg < length s.registers → Parks reg given s a →
+    HasNoHandle (register_in a.registers reg)
 parks_none s a reg None within parks = subst (λ (z : StockValue). HasNoHandle (register_in z.registers reg)) (sym parks.0) parks.1
 parks_none s a reg (Some p) within parks =
     subst (λ (z : StockValue). HasNoHandle (register_in z.registers reg)) (sym parks.2)
     (subst HasNoHandle (sym (get_or-set_same s.registers reg Empty Empty within)) tt)
 
 -- a thread state that handed a handle over has its stake
-pub parks_stake : GiversLackHandles → (s a : StockValue) (reg : ℕ) (given : Option ParkedHandle) → IsStock s → reg < 64 → HasItsStake s → Parks reg given s a → HasItsStake a
+pub parks_stake : GiversLackHandles → (s a : StockValue) (reg : ℕ) (given : Option ParkedHandle) → IsStock s → reg < 64 → HasItsStake s →
+    Parks reg given s a → HasItsStake a
 parks_stake law s a reg given is below stake parks =
     let rests = parks_rests law s a reg given is below parks in
     let within : reg < length s.registers = let n = is.handles.count in omega arith in
@@ -340,14 +379,16 @@ parks_stake law s a reg given is below stake parks =
     subst (λ (n : ℕ). 0 < stake_of a.view n) (sym frame.thread) (let e = rests.stakes s.thread in omega arith)
 
 -- after the cell's exchange the register has none still
-pub exchanged_none : (line cell reg index : ℕ) (given found : Option ParkedHandle) (s a b : StockValue) → IsStock s → reg < 64 → Parks reg given s a →
+pub exchanged_none : (line cell reg index : ℕ) (given found : Option ParkedHandle) (s a b : StockValue) → IsStock s →
+    reg < 64 → Parks reg given s a →
     SwapsHandles line cell given found index a b → HasNoHandle (register_in b.registers reg)
 exchanged_none line cell reg index given found s a b is below parks swap =
     let within : reg < length s.registers = let n = is.handles.count in omega arith in
     subst (λ (z : StockValue). HasNoHandle (register_in z.registers reg)) (sym swap.same) (parks_none s a reg given within parks)
 
 -- the budget has no fewer counted steps
-pub exchanged_budget : GiversLackHandles → BeginningsJoin → SeenJoins → FreeNumbersStay → (line cell reg index : ℕ) (given found : Option ParkedHandle)
+pub exchanged_budget : GiversLackHandles → BeginningsJoin → SeenJoins → FreeNumbersStay →
+    (line cell reg index : ℕ) (given found : Option ParkedHandle)
     (s a b d : StockValue) → IsStock s → reg < 64 → IsAware b.view → IsAware d.view → Parks reg given s a →
     SwapsHandles line cell given found index a b → TakesIn reg found b d → s.view.budget ≤ d.view.budget
 exchanged_budget law joins seen stay line cell reg index given found s a b d is below aware_b aware_d parks swap takes =

@@ -33,8 +33,10 @@ use Rattle.pa_thread_state.proofs.Fetching.{fill_act, fill_asking, fill_made, fi
 use Rattle.pa_root.proofs.CallGives.{same_numbers}
 
 -- the first can be issued
-pub fill_back : (line p c : ℕ) (s : StockValue) (u n : View) (t : Title) (rest : List Title) (gives : FillGives s.thread p line c (fill_of c) s.view u n (t ∷ rest)) → IsStock s →
-    (awares : IsAware s.view × IsAware u × IsAware n × IsAware (united u n)) → length u.words ≡ length n.words → p < 4 → HasClass s.caches.version c →
+pub fill_back : (line p c : ℕ) (s : StockValue) (u n : View) (t : Title) (rest : List Title)
+    (gives : FillGives s.thread p line c (fill_of c) s.view u n (t ∷ rest)) → IsStock s →
+    (awares : IsAware s.view × IsAware u × IsAware n × IsAware (united u n)) → length u.words ≡ length n.words →
+    p < 4 → HasClass s.caches.version c →
     IsBack (listed_slot p c t) (record s { view = united u n; caches = with_listed p c rest s.caches })
 fill_back line p c s u n t rest gives is awares long low small =
     let took = fill_took line p c (fill_of c) s u n (t ∷ rest) gives is awares long low in
@@ -44,12 +46,16 @@ fill_back line p c s u n t rest gives is awares long low small =
         | inl here ↦ first_alone t rest gives.differ here.2
         | inr listed ↦ took_new s u n (t ∷ rest) is took q d t listed (first_in t rest)
       ];
-      made = fill_made line p c (fill_of c) s u n (t ∷ rest) gives is awares long low (real_in s.caches.version c small) t (first_in t rest);
+      made = fill_made line p c (fill_of c) s u n (t ∷ rest) gives is awares long low (real_in s.caches.version c small) t
+          (first_in t rest);
     }
 
-pub fill_brings : (line size p c : ℕ) (s : StockValue) (u n : View) (t : Title) (rest : List Title) (gives : FillGives s.thread p line c (fill_of c) s.view u n (t ∷ rest)) → (is : IsStock s) →
-    (awares : IsAware s.view × IsAware u × IsAware n × IsAware (united u n)) → (long : length u.words ≡ length n.words) → (low : p < 4) → HasClass s.caches.version c → titles_in s.caches p c ≡ [] →
-    IsClassIn s.caches.version (max size 1 + 8) c → IsStock (record s { view = united u n; caches = with_listed p c rest s.caches }) → (words : ℕ) → IsWellFormed words t →
+pub fill_brings : (line size p c : ℕ) (s : StockValue) (u n : View) (t : Title) (rest : List Title)
+    (gives : FillGives s.thread p line c (fill_of c) s.view u n (t ∷ rest)) → (is : IsStock s) →
+    (awares : IsAware s.view × IsAware u × IsAware n × IsAware (united u n)) → (long : length u.words ≡ length n.words) → (low : p < 4) →
+    HasClass s.caches.version c → titles_in s.caches p c ≡ [] →
+    IsClassIn s.caches.version (max size 1 + 8) c → IsStock (record s { view = united u n; caches = with_listed p c rest s.caches }) →
+    (words : ℕ) → IsWellFormed words t →
     Bringing line size (listed_slot p c t) (fill_act line p c (fill_of c) s u n (t ∷ rest) gives is awares long low ∷ [])
     (fill_asking line p c (fill_of c) s u n (t ∷ rest) gives is awares long low).es s (united u n) (with_listed p c rest s.caches)
 fill_brings line size p c s u n t rest gives is awares long low small empty class after words well =
@@ -64,7 +70,8 @@ fill_brings line size p c s u n t rest gives is awares long low small empty clas
       uncut = asking.uncut;
       asks = asking.asks;
       makes = λ pools a x r is_op first among. elim (in_cases (act.Fill c gives.asked (numbered_by n (t ∷ rest))) a [] among) [
-        | inl same ↦ subst (λ b. MakesEntry pools p b x) same (r, size, is_op, class_as x.rules.version s.caches.version (max size 1 + 8) c first class)
+        | inl same ↦ subst (λ b. MakesEntry pools p b x) same
+            (r, size, is_op, class_as x.rules.version s.caches.version (max size 1 + 8) c first class)
         | inr none ↦ absurd (not_in_none a none)
       ];
       fills = λ a among. elim (in_cases (act.Fill c gives.asked (numbered_by n (t ∷ rest))) a [] among) [
@@ -81,7 +88,8 @@ fill_brings line size p c s u n t rest gives is awares long low small empty clas
         subst (λ xs. FilledFirst roots x.line p c (numbered_by s.view xs) (numbered_by n (t ∷ rest))) (sym empty) (gives.asked, only),
         front_is n t seen (numbered_by n rest) slot (number ∙ took_number s u n (t ∷ rest) is took words t well (first_in t rest)),
         λ q d. same q d ∙ relisted s w p c rest (numbered_by n rest) is low small
-            (same_numbers w n rest (λ x among. let fine = well_of x among in took_number s u n (t ∷ rest) is took fine.0 x fine.1 (later_in t x rest among)))
+            (same_numbers w n rest (λ x among. let fine = well_of x among in
+            took_number s u n (t ∷ rest) is took fine.0 x fine.1 (later_in t x rest among)))
             (took_same s u n (t ∷ rest) is took) q d,
       );
     }
@@ -92,9 +100,13 @@ fill_brings line size p c s u n t rest gives is awares long low small empty clas
       | inr h ↦ absurd (h.0 (refl, refl))
     ]
 
-pub map_brings : (line size p len : ℕ) (s : StockValue) (u n : View) (t : Title) (gives : MapGives s.thread p line len s.view u n t) → (is : IsStock s) →
-    (awares : IsAware s.view × IsAware u × IsAware n × IsAware (united u n)) → (long : length u.words ≡ length n.words) → (low : p < 4) → IsMapSize s.caches.version size →
-    len ≡ (shape_of size).slot → Bringing line size (mapped_slot p t) (act.Map t.born (name_of t) len ∷ []) (map_asking line p len s u n t gives is awares long low).es s (united u n) s.caches
+pub map_brings : (line size p len : ℕ) (s : StockValue) (u n : View) (t : Title) (gives : MapGives s.thread p line len s.view u n t) →
+    (is : IsStock s) →
+    (awares : IsAware s.view × IsAware u × IsAware n × IsAware (united u n)) → (long : length u.words ≡ length n.words) → (low : p < 4) →
+    IsMapSize s.caches.version size →
+    len ≡ (shape_of size).slot →
+    Bringing line size (mapped_slot p t) (act.Map t.born (name_of t) len ∷ []) (map_asking line p len s u n t gives is awares long low).es s
+    (united u n) s.caches
 map_brings line size p len s u n t gives is awares long low direct shape =
     let took = map_took line p len s u n t gives is awares long low in
     let asking = map_asking line p len s u n t gives is awares long low in
@@ -105,7 +117,8 @@ map_brings line size p len s u n t gives is awares long low direct shape =
       uncut = asking.uncut;
       asks = asking.asks;
       makes = λ pools a x r is_op first among. elim (in_cases (act.Map t.born (name_of t) len) a [] among) [
-        | inl same ↦ subst (λ b. MakesEntry pools p b x) same (size, (r, is_op, map_as x.rules.version s.caches.version size first direct), shape)
+        | inl same ↦
+            subst (λ b. MakesEntry pools p b x) same (size, (r, is_op, map_as x.rules.version s.caches.version size first direct), shape)
         | inr none ↦ absurd (not_in_none a none)
       ];
       fills = λ a among. elim (in_cases (act.Map t.born (name_of t) len) a [] among) [

@@ -36,7 +36,8 @@ use Rattle.pa_op_specs.proofs.Quiet.{quiet_does}
 use Rattle.pa_thread_state.proofs.Freeing.{can_step, freed, freed_view}
 
 -- what the step leaves, of the view before the poisoning
-pub touched_free : CountLeaves → OwnsChange → StatesAreOwns → (s : StockValue) (r word : ℕ) (h : Handle) → IsStock s → HasItsStake s → 0 < s.view.budget → r < 64 →
+pub touched_free : CountLeaves → OwnsChange → StatesAreOwns → (s : StockValue) (r word : ℕ) (h : Handle) → IsStock s →
+    HasItsStake s → 0 < s.view.budget → r < 64 →
     register_in s.registers r ≡ Own h → IsFound h.title word (poisoned h.title s.view) → (0 < free_of s.view h.title → ⊥) →
     Touched s.thread (Counted h.title steps.Free word 0 ∷ []) s.view (freed_view s.view h.title word)
 touched_free counts owns states s r word h is stake budget below own found held =
@@ -49,12 +50,15 @@ touched_free counts owns states s r word h is stake budget below own found held 
     (least_is s.thread s.view is.stake stake).0 leaves.lists leaves.seen held (λ u. let x = leaves.frees u in omega arith)
     (found.not_older, now_seen t (number_of word + 1) (seen_of w t) (seen_of s.view t) (leaves.seen t))
 
-pub free_row : (q : StockRegister) (h : Handle) (seen : Seen) (regs : Regs) (r : ℕ) (after : Regs) → q ≡ Own h → seen.slot ≡ name_of h.title → Becomes after (with regs r reg.Freed) →
+pub free_row : (q : StockRegister) (h : Handle) (seen : Seen) (regs : Regs) (r : ℕ) (after : Regs) → q ≡ Own h →
+    seen.slot ≡ name_of h.title → Becomes after (with regs r reg.Freed) →
     FreeRow (as_reg q) regs r (answers.Done seen) after
-free_row q h seen regs r after own slot becomes = subst (λ x. FreeRow (as_reg x) regs r (answers.Done seen) after) (sym own) (seen, slot, refl, becomes)
+free_row q h seen regs r after own slot becomes =
+    subst (λ x. FreeRow (as_reg x) regs r (answers.Done seen) after) (sym own) (seen, slot, refl, becomes)
 
 -- The op does what it should if the step doesn't return the slot.
-pub freed_does : CountLeaves → OwnsChange → StatesAreOwns → (s : StockValue) (r word : ℕ) (h : Handle) → IsStock s → IsAware s.view → HasItsStake s → 0 < s.view.budget → r < 64 →
+pub freed_does : CountLeaves → OwnsChange → StatesAreOwns → (s : StockValue) (r word : ℕ) (h : Handle) → IsStock s → IsAware s.view →
+    HasItsStake s → 0 < s.view.budget → r < 64 →
     register_in s.registers r ≡ Own h → IsFound h.title word (poisoned h.title s.view) → (IsReturning steps.Free word → ⊥) → (line : ℕ) →
     DoesOp line (ops.Free r) (answers.Done (seen_at h word)) s (freed s h r word)
 freed_does counts owns states s r word h is aware stake budget below own found stays =
@@ -65,12 +69,14 @@ freed_does counts owns states s r word h is aware stake budget below own found s
     quiet_does s w (slice_set s.registers r Freed) (ops.Free r) (answers.Done (seen_at h word)) (Counted t steps.Free word 0 ∷ []) is.lists
     (touched_free counts owns states s r word h is stake budget below own found (user_not_free s.view t aware knows.0))
     (record { room = λ j e. cc; no_swap = λ j e. cc; cells = λ list x none. none })
-    (owes_done s.registers (ops.Free r) (seen_at h word) t.len (Counted t steps.Free word 0 ∷ []) ([], tt, refl) (ap bytes_in own)) (λ refused. absurd refused)
+    (owes_done s.registers (ops.Free r) (seen_at h word) t.len (Counted t steps.Free word 0 ∷ []) ([], tt, refl) (ap bytes_in own))
+    (λ refused. absurd refused)
     (λ line phase o run sees none same.
     let slot = slot_in_run o w h run sees (made_kept h s.view w refl knows.1) in
     record {
       told = ([], tt, ap (λ u. Counted u steps.Free word 0 ∷ []) (sym slot.title));
-      row = free_row (register_in s.registers r) h (seen_at h word) (regs_of s.registers) r (regs_of (slice_set s.registers r Freed)) own refl
+      row = free_row (register_in s.registers r) h (seen_at h word) (regs_of s.registers) r
+          (regs_of (slice_set s.registers r Freed)) own refl
           (λ k. regs_set s.registers r Freed k inside);
       lists = inr (stays, none, same);
       reader = tt;
@@ -78,8 +84,10 @@ freed_does counts owns states s r word h is aware stake budget below own found s
     })
 
 -- a call that let go of a register's Own by a free which didn't return the slot did the op, which answers `done`
-pub free_kept : CountLeaves → OwnsChange → StatesAreOwns → (s after : StockValue) (r : ℕ) (h : Handle) (seen : Seen) → IsStock s → IsAware s.view → HasItsStake s → 0 < s.view.budget → r < 64 →
-    register_in s.registers r ≡ Own h → LetsGo steps.Free h r Freed (poisoned h.title s.view) seen s after → (IsReturning steps.Free seen.found.0 → ⊥) → (line : ℕ) →
+pub free_kept : CountLeaves → OwnsChange → StatesAreOwns → (s after : StockValue) (r : ℕ) (h : Handle) (seen : Seen) → IsStock s →
+    IsAware s.view → HasItsStake s → 0 < s.view.budget → r < 64 →
+    register_in s.registers r ≡ Own h → LetsGo steps.Free h r Freed (poisoned h.title s.view) seen s after →
+    (IsReturning steps.Free seen.found.0 → ⊥) → (line : ℕ) →
     DoesOp line (ops.Free r) (answers.Done seen) s after
 free_kept counts owns states s after r h seen is aware stake budget below own gone stays line =
     let e : seen ≡ seen_at h seen.found.0 = ap (λ n. record seen { slot = n }) gone.slot in

@@ -64,7 +64,8 @@ pub too_large : (s : StockValue) (i p size : ℕ) → IsStock s → HasNoHandle 
     DoesOp line (ops.Alloc i p size) answers.TooLarge s s
 too_large s i p size is bare big =
     alloc_refuses s i p size answers.TooLarge is tt
-    (λ o. alloc_row (register_in s.registers i) (row_facts o) (regs_of s.registers) i size answers.TooLarge (regs_of s.registers) bare (inl (big, refl, λ k. refl)))
+    (λ o. alloc_row (register_in s.registers i) (row_facts o) (regs_of s.registers) i size answers.TooLarge (regs_of s.registers) bare
+    (inl (big, refl, λ k. refl)))
 
 -- ---- there was no room
 
@@ -79,7 +80,8 @@ one_partition : (r p n s q m : ℕ) → ops.Alloc r p n ≡ ops.Alloc s q m → 
 one_partition r p n s q m e = cc
 
 -- The op that found no room, for a class or a direct map, if the entry says so and the row is that.
-pub full_does : (line size r p j count : ℕ) (class : Option ℕ) (s : StockValue) (w : View) (full : IsFullFor j s.thread p line count class s.view w) → IsStock s → IsAware s.view →
+pub full_does : (line size r p j count : ℕ) (class : Option ℕ) (s : StockValue) (w : View)
+    (full : IsFullFor j s.thread p line count class s.view w) → IsStock s → IsAware s.view →
     IsAware w → p < s.partitions → HasNoHandle (register_in s.registers r) → size ≤ greatest_size →
     ((o : Outcome) (x : Played) → x.op ≡ ops.Alloc r p size → x.rules.version ≡ s.caches.version →
     slice_get o.pools full.asked ≡ Some (take_entry line p count None) →
@@ -107,7 +109,12 @@ full_does line size r p j count class s w full is aware now inner bare few makes
             subst (λ k. IsFullAt (list_of k w) x i) same (subst (λ k. IsFullAt (list_of p w) x k) index (record {
               made = two.made;
               entry = root_entry line a;
-              stands = record { older = two.is_made.earlier; rest = two.is_made.stands.0; begins = two.is_made.stands.1; index_is = two.is_made.index };
+              stands = record {
+                older = two.is_made.earlier;
+                rest = two.is_made.stands.0;
+                begins = two.is_made.stands.1;
+                index_is = two.is_made.index;
+              };
               says = two.is_made.says;
               line = refl;
               full = (class, full.asked, refl);
@@ -119,20 +126,24 @@ full_does line size r p j count class s w full is aware now inner bare few makes
       words = λ refused q known. two.lends.keeps.words q known;
       answers = λ o run many rules sees line_acts. record {
         told = refl;
-        row = alloc_row (register_in s.registers r) (row_facts o) (regs_of s.registers) r size (answers.Full j) (regs_of s.registers) bare (inr (inr (few, j, refl, λ k. refl)));
+        row = alloc_row (register_in s.registers r) (row_facts o) (regs_of s.registers) r size (answers.Full j) (regs_of s.registers) bare
+            (inr (inr (few, j, refl, λ k. refl)));
         lists = row o.roots x.played (listed_in (record s { view = w })) refl refl (only_acts o x it line p (a ∷ []) line_acts low refl)
             (λ q d. same_titles s.view w (titles_in s.caches q d) (λ t among.
-            let well = is.lists.well q d t among in kept_number s.view w well.0 t aware now two.lends.keeps well.1 (is.lists.free q d t among)));
+            let well = is.lists.well q d t among in
+            kept_number s.view w well.0 t aware now two.lends.keeps well.1 (is.lists.free q d t among)));
         reader = tt;
         unmaps = λ seen q asked n e done among on acts. absurd (not_made j seen done);
         makes = makes_each x it o.pools (λ q e small among.
             let at = act_at line p q (a ∷ []) e among in
             elim (in_cases a e.act [] at.1) [
-              | inl same ↦ subst (λ k. MakesEntry o.pools k e.act x.played) (sym at.0) (subst (λ b. MakesEntry o.pools p b x.played) same (makes o x.played refl refl (stands o sees)))
+              | inl same ↦ subst (λ k. MakesEntry o.pools k e.act x.played) (sym at.0)
+                  (subst (λ b. MakesEntry o.pools p b x.played) same (makes o x.played refl refl (stands o sees)))
               | inr none ↦ absurd (not_in_none e.act none)
             ]);
         home = λ m e. absurd (not_some m e);
-        signs = asks.signs ∙ shapes_have_signs.only o.partitions line p o.roots (a ∷ []) run.past (only_acts o x it line p (a ∷ []) line_acts low refl);
+        signs = asks.signs ∙ shapes_have_signs.only o.partitions line p o.roots (a ∷ []) run.past
+            (only_acts o x it line p (a ∷ []) line_acts low refl);
       };
     })
   where
@@ -155,18 +166,22 @@ full_does line size r p j count class s w full is aware now inner bare few makes
     es = Entered 4 full.enters.pool ∷ Entered p full.enters.made ∷ []
 
     asks : Asks line p (act.Full class full.asked ∷ []) (Entered 4 full.enters.pool ∷ Entered p full.enters.made ∷ []) w
-    asks = asks_two full.asked j s.thread p line (take_entry line p count None) (act.Full class full.asked) s.view w w full.enters low refl refl ([], sym (append-nil (list_of 4 w)))
+    asks = asks_two full.asked j s.thread p line (take_entry line p count None)
+        (act.Full class full.asked) s.view w w full.enters low refl refl ([], sym (append-nil (list_of 4 w)))
 
     -- if a seat has seen a part of a run, the pool's entry is in that run
     stands : (o : Outcome) → IsSeenOf o w → slice_get o.pools full.asked ≡ Some (take_entry line p count None)
     stands o sees =
         let at = full.enters.is_pool in
         subst (λ n. slice_get o.pools n ≡ Some (take_entry line p count None)) at.index
-        (sees.pools at.earlier at.stands.0 full.enters.pool (take_entry line p count None) (at.stands.1 ∙ append_assoc at.earlier (full.enters.pool ∷ []) at.stands.0) at.says)
+        (sees.pools at.earlier at.stands.0 full.enters.pool (take_entry line p count None)
+        (at.stands.1 ∙ append_assoc at.earlier (full.enters.pool ∷ []) at.stands.0) at.says)
 
 -- what a refusal does for a class with an empty list
-pub full_class_does : (line size r p j c : ℕ) (s after : StockValue) → FindsNone line p 1 (Some c) s after (Full j) → IsStock s → IsAware s.view → IsAware after.view →
-    p < s.partitions → HasNoHandle (register_in s.registers r) → size ≤ greatest_size → IsClassIn s.caches.version (max size 1 + 8) c → titles_in s.caches p c ≡ [] →
+pub full_class_does : (line size r p j c : ℕ) (s after : StockValue) → FindsNone line p 1 (Some c) s after (Full j) → IsStock s →
+    IsAware s.view → IsAware after.view →
+    p < s.partitions → HasNoHandle (register_in s.registers r) → size ≤ greatest_size →
+    IsClassIn s.caches.version (max size 1 + 8) c → titles_in s.caches p c ≡ [] →
     DoesOp line (ops.Alloc r p size) (answers.Full j) s after
 full_class_does line size r p j c s after (full, same) is aware now inner bare few class empty =
     subst (λ (z : StockValue). DoesOp line (ops.Alloc r p size) (answers.Full j) s z) (sym same)
@@ -183,10 +198,23 @@ full_class_does line size r p j c s after (full, same) is aware now inner bare f
     )))
 
 -- what a refusal does for a direct map
-pub full_map_does : (line size r p j : ℕ) (s after : StockValue) → FindsNone line p (shape_of size).supers None s after (Full j) → IsStock s → IsAware s.view → IsAware after.view →
-    p < s.partitions → HasNoHandle (register_in s.registers r) → IsMapSize s.caches.version size → DoesOp line (ops.Alloc r p size) (answers.Full j) s after
+pub full_map_does : (line size r p j : ℕ) (s after : StockValue) → FindsNone line p (shape_of size).supers None s after (Full j) →
+    IsStock s → IsAware s.view → IsAware after.view →
+    p < s.partitions → HasNoHandle (register_in s.registers r) → IsMapSize s.caches.version size →
+    DoesOp line (ops.Alloc r p size) (answers.Full j) s after
 full_map_does line size r p j s after (full, same) is aware now inner bare direct =
     subst (λ (z : StockValue). DoesOp line (ops.Alloc r p size) (answers.Full j) s z) (sym same)
     (full_does line size r p j (shape_of size).supers None s after.view full is aware now inner bare direct.1
-    (λ o x is_op first stands. (size, (r, is_op, map_as x.rules.version s.caches.version size first direct), ap (option_map (λ (e : PoolEntry). e.act)) stands))
-    (λ roots x later is_op first only lists. inr (p, size, full.asked, (r, is_op, map_as x.rules.version s.caches.version size first direct), only, lists)))
+    (λ o x is_op first stands. (
+      size,
+      (r, is_op, map_as x.rules.version s.caches.version size first direct),
+      ap (option_map (λ (e : PoolEntry). e.act)) stands,
+    ))
+    (λ roots x later is_op first only lists. inr (
+      p,
+      size,
+      full.asked,
+      (r, is_op, map_as x.rules.version s.caches.version size first direct),
+      only,
+      lists,
+    )))

@@ -66,8 +66,16 @@ pub record HasReturned (op : Op) (step : Step) (h : Handle) (word : ℕ) (s : St
   pub long : bytes_through s.registers op ≡ h.title.len
   pub row : (o : Outcome) → Row (row_facts o) op (regs_of s.registers) (answers.Done (seen_at h word)) (regs_of rs)
   pub lists : (partitions line phase : ℕ) (roots : Journals) (cache after : Cache) →
-      ReturnRow roots (record { line = line; thread = s.thread; phase = phase; rules = rules_at s; op = op; answer = answers.Done (seen_at h word) }) (left_at h word) cache after →
-      CacheRow partitions roots (record { line = line; thread = s.thread; phase = phase; rules = rules_at s; op = op; answer = answers.Done (seen_at h word) })
+      ReturnRow roots (record {
+        line = line;
+        thread = s.thread;
+        phase = phase;
+        rules = rules_at s;
+        op = op;
+        answer = answers.Done (seen_at h word);
+      }) (left_at h word) cache after →
+      CacheRow partitions roots
+      (record { line = line; thread = s.thread; phase = phase; rules = rules_at s; op = op; answer = answers.Done (seen_at h word) })
       (answers.Done (seen_at h word)) cache after
   pub reader : (o : Outcome) (x : ToldRecord) → ReadsIts o.sizes (regs_of s.registers) op x
   pub mark : (line : ℕ) → mark_of_answer line op (answers.Done (seen_at h word)) ≡ Some (mark_at line (seen_at h word) (Some step))
@@ -110,21 +118,25 @@ gives_name_none xs act among = let (slots, is) = in_gives xs act among in ap ask
 -- ---- slots are given
 
 -- If slots were given back, and the lists are as the row asks.
-pub gives_does : SlotsStaySeen → (op : Op) (step : Step) (h : Handle) (class word line : ℕ) (s after : StockValue) (w : View) (rs : List StockRegister)
+pub gives_does : SlotsStaySeen →
+    (op : Op) (step : Step) (h : Handle) (class word line : ℕ) (s after : StockValue) (w : View) (rs : List StockRegister)
     (ms : List Made) (gone : List Numbered) → HasReturned op step h word s w rs → h.class ≡ Some class →
     after.thread ≡ s.thread → after.partitions ≡ s.partitions → after.caches.version ≡ s.caches.version → after.registers ≡ rs →
     Entering s.thread line (map (Entered h.partition) ms) w after.view →
     map (λ (m : Made). m.numbers) ms ≡ map root_numbers (map (root_entry line) (gives gone)) →
     (HasClass s.caches.version class → (gone ≡ spilled class (left_at h word ∷ listed_in s h.partition class))
-    × SameLists (listed_in after) (with_list (listed_in s) h.partition class (kept class (left_at h word ∷ listed_in s h.partition class)))) →
+    × SameLists (listed_in after)
+    (with_list (listed_in s) h.partition class (kept class (left_at h word ∷ listed_in s h.partition class)))) →
     DoesOp line op (answers.Done (seen_at h word)) s after
 gives_does stays op step h class word line s after w rs ms gone is of thread partitions version registers came says lists =
     entered_does s after line op (answers.Done (seen_at h word)) es thread partitions version
-    (entering_both s.thread line (c ∷ []) (map (Entered p) ms) s.view w after.view (touched_enters s.thread line (c ∷ []) s.view w is.touched) came)
+    (entering_both s.thread line (c ∷ []) (map (Entered p) ms) s.view w after.view
+    (touched_enters s.thread line (c ∷ []) s.view w is.touched) came)
     (λ phase. record {
       cells = λ list none. is.cells list (x phase) none;
       it = it phase;
-      fills = λ q e lower among. let (slots, give) = give_all q (q == h.partition) e among in subst (FillsFrom s.caches.version) (sym give) tt;
+      fills = λ q e lower among. let (slots, give) = give_all q (q == h.partition) e among in
+          subst (FillsFrom s.caches.version) (sym give) tt;
       asked = inl (record { pools = refl; roots = λ q. asked_in q (q == p) });
       refused = λ j r q size full asks. absurd (not_full (seen_at h word) j full);
       uncuts = λ t among. elim (in_cases c (Uncut t) (map (Entered p) ms) among) [
@@ -154,7 +166,8 @@ gives_does stays op step h class word line s after w rs ms gone is of thread par
     es = Counted h.title step word 0 ∷ map (Entered h.partition) ms
 
     x : ℕ → ToldRecord
-    x phase = quiet_record s after.view line phase op (answers.Done (seen_at h word)) (Counted h.title step word 0 ∷ map (Entered h.partition) ms)
+    x phase = quiet_record s after.view line phase op (answers.Done (seen_at h word))
+        (Counted h.title step word 0 ∷ map (Entered h.partition) ms)
 
     acts : List RootEntry
     acts = map (root_entry line) (gives gone)
@@ -166,8 +179,10 @@ gives_does stays op step h class word line s after w rs ms gone is of thread par
         map (λ (m : Made). m.numbers) (entered_in q (map (Entered h.partition) ms)) ≡ map root_numbers (if b then acts else [])
     entered q true e =
         let same : q ≡ h.partition = grind (arith, nat_tests) in
-        ap (λ (l : List Made). map (λ (m : Made). m.numbers) l) (ap (λ k. entered_in k (map (Entered h.partition) ms)) same ∙ entered_here h.partition ms) ∙ says
-    entered q false e = ap (λ (l : List Made). map (λ (m : Made). m.numbers) l) (entered_elsewhere h.partition q ms (λ same. grind (arith, nat_tests)))
+        ap (λ (l : List Made). map (λ (m : Made). m.numbers) l)
+        (ap (λ k. entered_in k (map (Entered h.partition) ms)) same ∙ entered_here h.partition ms) ∙ says
+    entered q false e =
+        ap (λ (l : List Made). map (λ (m : Made). m.numbers) l) (entered_elsewhere h.partition q ms (λ same. grind (arith, nat_tests)))
 
     it : (phase : ℕ) → Enters (x phase)
     it phase = record {
@@ -213,7 +228,8 @@ gives_does stays op step h class word line s after w rs ms gone is of thread par
             let (slots, give) = give_all q (q == h.partition) e inside in
             no_unmap e slots asked slot give act
         go false higher =
-            not_in_none (Unmap asked slot) (subst (λ done. Contains done (Unmap asked slot)) (line_acts.past q (grind (arith, nat_tests))) among)
+            not_in_none (Unmap asked slot)
+            (subst (λ done. Contains done (Unmap asked slot)) (line_acts.past q (grind (arith, nat_tests))) among)
 
     answers_in : (phase : ℕ) (o : Outcome) → IsOutcome o → rules_at s ≡ o.rules → IsSeenOf o after.view → LineActs o (x phase) (it phase) →
         AnswersIn o s after (x phase)
@@ -226,8 +242,14 @@ gives_does stays op step h class word line s after w rs ms gone is of thread par
         let real : HasClass s.caches.version class = subst (λ (k : Rules). HasClass k.version class) (sym rules) (slot.real class of) in
         let row_is = lists real in
         record {
-          told = is.told o.sizes es ([], tt, ap (λ fs. Counted h.title step word 0 ∷ fs) (none_touches h.partition ms) ∙ ap (λ u. Counted u step word 0 ∷ []) (sym slot.title));
-          row = subst (λ r. Row (row_facts o) op (regs_of s.registers) (answers.Done (seen_at h word)) (regs_of r)) (sym registers) (is.row o);
+          told = is.told o.sizes es (
+            [],
+            tt,
+            ap (λ fs. Counted h.title step word 0 ∷ fs) (none_touches h.partition ms) ∙
+                ap (λ u. Counted u step word 0 ∷ []) (sym slot.title),
+          );
+          row = subst (λ r. Row (row_facts o) op (regs_of s.registers) (answers.Done (seen_at h word)) (regs_of r))
+              (sym registers) (is.row o);
           lists = is.lists o.partitions line phase o.roots (listed_in s) (listed_in after) (inl (
             h.partition,
             class,
@@ -236,11 +258,17 @@ gives_does stays op step h class word line s after w rs ms gone is of thread par
             row_is.1,
           ));
           reader = is.reader o (x phase);
-          unmaps = unmaps_next o.roots (x phase).played (λ q asked slot among seen done. absurd (none_unmaps phase o line_acts q asked slot among));
+          unmaps = unmaps_next o.roots (x phase).played
+              (λ q asked slot among seen done. absurd (none_unmaps phase o line_acts q asked slot among));
           makes = makes_each (x phase) (it phase) o.pools
-              (λ q e lower among. let (slots, give) = give_all q (q == h.partition) e among in subst (λ act. MakesEntry o.pools q act (x phase).played) (sym give) (inl is.freeing));
-          home = λ m e. (h.partition, home_of o h.partition (mark_at line (seen_at h word) (Some step)) m (sym (is.mark line) ∙ e) slot.size);
+              (λ q e lower among. let (slots, give) = give_all q (q == h.partition) e among in
+              subst (λ act. MakesEntry o.pools q act (x phase).played) (sym give) (inl is.freeing));
+          home = λ m e. (
+            h.partition,
+            home_of o h.partition (mark_at line (seen_at h word) (Some step)) m (sym (is.mark line) ∙ e) slot.size,
+          );
           signs = ap (λ ys. Stepped ∷ ys)
-              (shapes_have_signs.entries line h.partition ms (gives gone) low (says ∙ numbers_again line (gives gone)) (gives_name_none gone)
+              (shapes_have_signs.entries line h.partition ms (gives gone) low (says ∙ numbers_again line (gives gone))
+              (gives_name_none gone)
               ∙ shapes_have_signs.only o.partitions line h.partition o.roots (gives gone) run.past only);
         }

@@ -57,24 +57,28 @@ use Rattle.pa_thread_state.proofs.Issuing.{issued, issued_view, not_listed}
 use Rattle.pa_logs.proofs.Listing.{entered_append}
 
 -- what the step leaves of the view before the zeros
-pub issued_enters : CountLeaves → (s : StockValue) (line word : ℕ) (t : Title) → IsStock s → HasItsStake s → CanCount steps.Issue t (zeroed t s.view) → IsFound t word (zeroed t s.view) →
+pub issued_enters : CountLeaves → (s : StockValue) (line word : ℕ) (t : Title) → IsStock s → HasItsStake s →
+    CanCount steps.Issue t (zeroed t s.view) → IsFound t word (zeroed t s.view) →
     Entering s.thread line (Counted t steps.Issue word 0 ∷ []) s.view (issued_view s.view t word)
 issued_enters counts s line word t is stake can found =
     let w = issued_view s.view t word in
     let leaves = counts steps.Issue t word (zeroed t s.view) can in
     record {
-      logs = λ k. entry_logs s.thread k (Counted t steps.Issue word 0) (zeroed t s.view) w leaves.entry (least_is s.thread s.view is.stake stake).0;
+      logs = λ k. entry_logs s.thread k (Counted t steps.Issue word 0) (zeroed t s.view) w leaves.entry
+          (least_is s.thread s.view is.stake stake).0;
       stakes = leaves.entry.stakes;
       lists = λ k. ([], ap (list_among k) leaves.lists ∙ sym (append-nil (list_of k s.view)));
       grows = λ u. more_seen t u (number_of word + 1) (seen_of w u) (seen_of s.view u) (leaves.seen u);
       each = λ e among. elim (in_cases (Counted t steps.Issue word 0) e [] among) [
-        | inl same ↦ subst (λ f. TellsOf line s.view w f) same (found.not_older, now_seen t (number_of word + 1) (seen_of w t) (seen_of s.view t) (leaves.seen t))
+        | inl same ↦ subst (λ f. TellsOf line s.view w f) same
+            (found.not_older, now_seen t (number_of word + 1) (seen_of w t) (seen_of s.view t) (leaves.seen t))
         | inr none ↦ absurd (not_in_none e none)
       ];
     }
 
 -- the lists stay as they are, each title at its number
-pub issued_lists : CountLeaves → (s : StockValue) (r word : ℕ) (h : Handle) → CanCount steps.Issue h.title (zeroed h.title s.view) → IsBack h s →
+pub issued_lists : CountLeaves → (s : StockValue) (r word : ℕ) (h : Handle) →
+    CanCount steps.Issue h.title (zeroed h.title s.view) → IsBack h s →
     SameLists (listed_in (issued s h r word)) (listed_in s)
 issued_lists counts s r word h can back p c =
     let t = h.title in
@@ -85,7 +89,8 @@ issued_lists counts s r word h can back p c =
 
 -- ---- the row of the registers
 
-request_row : (facts : Facts) (regs : Regs) (r size : ℕ) (seen : Seen) (usable : ℕ) (after : Regs) → size ≤ greatest_size → usable ≡ facts.usable_of size →
+request_row : (facts : Facts) (regs : Regs) (r size : ℕ) (seen : Seen) (usable : ℕ) (after : Regs) → size ≤ greatest_size →
+    usable ≡ facts.usable_of size →
     Becomes after (with regs r (reg.Own seen.slot)) → RequestRow facts regs r size (answers.Made seen usable) after
 request_row facts regs r size seen usable after few is becomes = inr (inl (few, seen, ap (answers.Made seen) is, becomes))
 
@@ -101,18 +106,22 @@ alloc_row Cleared facts regs r size answer after bare row = row
 
 -- What came before the issue: the view and the lists of the thread's state `s` changed to `v` and `cs`, with the entries `es`, which did
 -- these acts in the journal of the handle's partition.
-pub record Bringing (line size : ℕ) (h : Handle) (acts : List RootAct) (es : List Entry) (s : StockValue) (v : View) (cs : WorkerLists) : Type 0 where
+pub record Bringing (line size : ℕ) (h : Handle) (acts : List RootAct) (es : List Entry) (s : StockValue) (v : View)
+    (cs : WorkerLists) : Type 0 where
   pub entering : Entering s.thread line es s.view v
   pub version : cs.version ≡ s.caches.version
   pub quiet : touches es ≡ []
   pub uncut : (t : Title) → Contains es (Uncut t) → ⊥
   pub asks : Asks line h.partition acts es v
-  pub makes : (pools : List PoolEntry) (a : RootAct) (x : Played) (r : ℕ) → x.op ≡ ops.Alloc r h.partition size → x.rules.version ≡ s.caches.version → Contains acts a →
+  pub makes : (pools : List PoolEntry) (a : RootAct) (x : Played) (r : ℕ) → x.op ≡ ops.Alloc r h.partition size →
+      x.rules.version ≡ s.caches.version → Contains acts a →
       MakesEntry pools h.partition a x
   pub fills : (a : RootAct) → Contains acts a → FillsFrom s.caches.version a
   pub usable : h.title.len - 8 ≡ usable_of s.caches.version size
-  pub rows : (roots : Journals) (x : Played) (r : ℕ) (seen : Seen) (after : Cache) → x.op ≡ ops.Alloc r h.partition size → x.rules.version ≡ s.caches.version → OnlyActs roots x.line h.partition acts →
-      seen.slot ≡ name_of h.title → number_of seen.found.0 ≡ seen_of v h.title → SameLists after (listed_in (record s { view = v; caches = cs })) →
+  pub rows : (roots : Journals) (x : Played) (r : ℕ) (seen : Seen) (after : Cache) → x.op ≡ ops.Alloc r h.partition size →
+      x.rules.version ≡ s.caches.version → OnlyActs roots x.line h.partition acts →
+      seen.slot ≡ name_of h.title → number_of seen.found.0 ≡ seen_of v h.title →
+      SameLists after (listed_in (record s { view = v; caches = cs })) →
       MadeRow roots x seen (listed_in s) after
 
 not_uncut : (t u : Title) (word : ℕ) → Counted t steps.Issue word 0 ≡ Uncut u → ⊥
@@ -124,14 +133,19 @@ not_full seen usable j e = cc
 not_done : (seen : Seen) (usable : ℕ) (other : Seen) → answers.Made seen usable ≡ answers.Done other → ⊥
 not_done seen usable other e = cc
 
-pub made_does : CountLeaves → (line size r word : ℕ) (h : Handle) (acts : List RootAct) (es : List Entry) (s : StockValue) (v : View) (cs : WorkerLists) →
+pub made_does : CountLeaves →
+    (line size r word : ℕ) (h : Handle) (acts : List RootAct) (es : List Entry) (s : StockValue) (v : View) (cs : WorkerLists) →
     Bringing line size h acts es s v cs → IsStock (record s { view = v; caches = cs }) → HasItsStake (record s { view = v; caches = cs }) →
     CanCount steps.Issue h.title (zeroed h.title v) → IsFound h.title word (zeroed h.title v) → number_of word ≡ seen_of v h.title →
-    IsBack h (record s { view = v; caches = cs }) → h.partition < s.partitions → r < 64 → HasNoHandle (register_in s.registers r) → 16 ≤ h.title.len →
-    size ≤ greatest_size → DoesOp line (ops.Alloc r h.partition size) (answers.Made (seen_at h word) (h.title.len - 8)) s (issued (record s { view = v; caches = cs }) h r word)
+    IsBack h (record s { view = v; caches = cs }) → h.partition < s.partitions → r < 64 →
+    HasNoHandle (register_in s.registers r) → 16 ≤ h.title.len →
+    size ≤ greatest_size →
+    DoesOp line (ops.Alloc r h.partition size) (answers.Made (seen_at h word) (h.title.len - 8)) s
+    (issued (record s { view = v; caches = cs }) h r word)
 made_does counts line size r word h acts es s v cs before is stake can found number back inner below bare long few =
     entered_does s (issued mid h r word) line op answer all refl refl before.version
-    (entering_both s.thread line es (Counted t steps.Issue word 0 ∷ []) s.view v w before.entering (issued_enters counts mid line word t is stake can found))
+    (entering_both s.thread line es (Counted t steps.Issue word 0 ∷ []) s.view v w before.entering
+    (issued_enters counts mid line word t is stake can found))
     (λ phase. let x = quiet_record s w line phase op answer all in let it = it_asks line h.partition acts es v x before.asks same in
     record {
       cells = λ list none. none;
@@ -141,11 +155,16 @@ made_does counts line size r word h acts es s v cs before is stake can found num
       refused = λ j q p n full is_op. absurd (not_full (seen_at h word) (h.title.len - 8) j full);
       uncuts = λ u among. absurd (elim (Contains-append_cases es (Counted t steps.Issue word 0 ∷ []) (Uncut u) among) [
         | inl first ↦ before.uncut u first
-        | inr last ↦ elim (in_cases (Counted t steps.Issue word 0) (Uncut u) [] last) [ inl e ↦ not_uncut t u word e | inr none ↦ not_in_none (Uncut u) none ]
+        | inr last ↦ elim (in_cases (Counted t steps.Issue word 0) (Uncut u) [] last)
+            [ inl e ↦ not_uncut t u word e | inr none ↦ not_in_none (Uncut u) none ]
       ]);
       homes = λ q past. inl (root_elsewhere line h.partition q acts (λ e. omega arith));
-      owes = owes_made s.registers op (seen_at h word) (h.title.len - 8) h.title.len all
-          ([], tt, filter-append is_touch es (Counted t steps.Issue word 0 ∷ []) ∙ ap (λ ys. ys ++ Counted t steps.Issue word 0 ∷ []) before.quiet) (omega arith);
+      owes = owes_made s.registers op (seen_at h word) (h.title.len - 8) h.title.len all (
+        [],
+        tt,
+        filter-append is_touch es (Counted t steps.Issue word 0 ∷ []) ∙
+            ap (λ ys. ys ++ Counted t steps.Issue word 0 ∷ []) before.quiet,
+      ) (omega arith);
       words = λ refused. absurd refused;
       answers = λ o run many rules sees line_acts.
           let slot = slot_in_run o w h run sees (made_kept h v w refl back.made) in
@@ -161,11 +180,14 @@ made_does counts line size r word h acts es s v cs before is stake can found num
               ),
               (let e = slot.length in omega arith),
             );
-            row = alloc_row (register_in s.registers r) (row_facts o) (regs_of s.registers) r size answer (regs_of (slice_set s.registers r (Own h))) bare
-                (request_row (row_facts o) (regs_of s.registers) r size (seen_at h word) (h.title.len - 8) (regs_of (slice_set s.registers r (Own h))) few
+            row = alloc_row (register_in s.registers r) (row_facts o) (regs_of s.registers) r size answer
+                (regs_of (slice_set s.registers r (Own h))) bare
+                (request_row (row_facts o) (regs_of s.registers) r size (seen_at h word) (h.title.len - 8)
+                (regs_of (slice_set s.registers r (Own h))) few
                 (before.usable ∙ ap (λ (k : Rules). usable_of k.version size) rules)
                 (λ k. regs_set s.registers r (Own h) k inside));
-            lists = before.rows o.roots x.played r (seen_at h word) (listed_in (issued mid h r word)) refl refl only refl number (issued_lists counts mid r word h can back);
+            lists = before.rows o.roots x.played r (seen_at h word) (listed_in (issued mid h r word)) refl refl only refl number
+                (issued_lists counts mid r word h can back);
             reader = tt;
             unmaps = λ seen p asked n e done among on act. absurd (not_done (seen_at h word) (h.title.len - 8) seen done);
             makes = makes_each x it o.pools (λ p e low among.
@@ -173,7 +195,8 @@ made_does counts line size r word h acts es s v cs before is stake can found num
                 subst (λ q. MakesEntry o.pools q e.act x.played) (sym at.0) (before.makes o.pools e.act x.played r refl refl at.1));
             home = λ m e. (h.partition, home_of o h.partition (mark_at line (seen_at h word) (Some steps.Issue)) m e slot.size);
             signs = filter_map-append sign_of es (Counted t steps.Issue word 0 ∷ [])
-                ∙ ap (λ ys. ys ++ Stepped ∷ []) (before.asks.signs ∙ shapes_have_signs.only o.partitions line h.partition o.roots acts run.past only);
+                ∙ ap (λ ys. ys ++ Stepped ∷ [])
+                (before.asks.signs ∙ shapes_have_signs.only o.partitions line h.partition o.roots acts run.past only);
           };
     })
   where
@@ -202,11 +225,15 @@ made_does counts line size r word h acts es s v cs before is stake can found num
     same q = entered_append q es (Counted h.title steps.Issue word 0 ∷ []) ∙ append-nil (entered_in q es)
 
 -- the budget is one less
-pub issued_budget : (h : Handle) (r n : ℕ) (answer : Answer) (mid after : StockValue) → Issues h r answer mid after → n ≤ mid.view.budget → n ≤ after.view.budget + 1
-issued_budget h r n answer mid after is more = let e : after.view.budget ≡ mid.view.budget - 1 = ap (λ (z : StockValue). z.view.budget) is.after_is in omega arith
+pub issued_budget : (h : Handle) (r n : ℕ) (answer : Answer) (mid after : StockValue) → Issues h r answer mid after →
+    n ≤ mid.view.budget → n ≤ after.view.budget + 1
+issued_budget h r n answer mid after is more = let e : after.view.budget ≡ mid.view.budget - 1 =
+    ap (λ (z : StockValue). z.view.budget) is.after_is in omega arith
 
 -- the op that was played then
-pub issued_does : CountLeaves → (line size r : ℕ) (h : Handle) (acts : List RootAct) (es : List Entry) (s mid after : StockValue) (v : View) (cs : WorkerLists) (answer : Answer) →
+pub issued_does : CountLeaves →
+    (line size r : ℕ) (h : Handle) (acts : List RootAct) (es : List Entry) (s mid after : StockValue) (v : View) (cs : WorkerLists)
+    (answer : Answer) →
     Bringing line size h acts es s v cs → mid ≡ record s { view = v; caches = cs } → IsStock mid → HasItsStake mid → IsBack h mid →
     Issues h r answer mid after → h.partition < s.partitions → r < 64 →
     HasNoHandle (register_in s.registers r) → size ≤ greatest_size → DoesOp line (ops.Alloc r h.partition size) answer s after
@@ -216,8 +243,10 @@ issued_does counts line size r h acts es s mid after v cs answer before mid_is i
     let word = j.seen.found.0 in
     let seen_is : j.seen ≡ seen_at h word = ap (λ n. record j.seen { slot = n }) j.slot in
     subst (λ (z : StockValue). DoesOp line (ops.Alloc r h.partition size) answer s z) (sym j.after_is)
-    (subst (λ a. DoesOp line (ops.Alloc r h.partition size) a s (issued base h r word)) (sym (j.answer_is ∙ ap (λ x. answers.Made x (h.title.len - 8)) seen_is))
-    (made_does counts line size r word h acts es s v cs before (subst (λ (z : StockValue). IsStock z) mid_is is) (subst (λ (z : StockValue). HasItsStake z) mid_is stake)
+    (subst (λ a. DoesOp line (ops.Alloc r h.partition size) a s (issued base h r word))
+    (sym (j.answer_is ∙ ap (λ x. answers.Made x (h.title.len - 8)) seen_is))
+    (made_does counts line size r word h acts es s v cs before (subst (λ (z : StockValue). IsStock z) mid_is is)
+    (subst (λ (z : StockValue). HasItsStake z) mid_is stake)
     j.able j.found j.number (subst (λ (z : StockValue). IsBack h z) mid_is back) inner below bare j.long few))
 
 -- the slot that was made is the register's

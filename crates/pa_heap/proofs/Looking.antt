@@ -53,7 +53,8 @@ record Lookingly (op : Op) (answer : Answer) (seen : Seen) : Type 0 where
   no_swap : (j : ℕ) → answer ≡ answers.Swapped j → ⊥
   owes : (registers : List StockRegister) (t : Title) (found : ℕ) → OwesOf registers op answer (Looked t found ∷ [])
   told : (sizes : SlotName → ℕ) (es : List Entry) → IsLookTold (title_of sizes seen.slot) seen.found.0 es → IsToldBy sizes op answer es
-  lists : (partitions : ℕ) (roots : Journals) (x : Played) (cache after : Cache) → NoActs roots x.line → SameLists after cache → CacheRow partitions roots x answer cache after
+  lists : (partitions : ℕ) (roots : Journals) (x : Played) (cache after : Cache) → NoActs roots x.line → SameLists after cache →
+      CacheRow partitions roots x answer cache after
   home : (line : ℕ) → mark_of_answer line op answer ≡ Some (mark_at line seen None)
 
 lookingly : (op : Op) (answer : Answer) (seen : Seen) → IsOfLook answer seen → Lookingly op answer seen
@@ -104,12 +105,16 @@ lookingly op answers.TooLarge seen is = absurd is
 lookingly op (answers.Full entry) seen is = absurd is
 lookingly op (answers.Swapped entry) seen is = absurd is
 lookingly op (answers.Purged slots) seen is = absurd is
+lookingly op answers.Uncounted seen is = absurd is
 
 -- the op does what it should, if its row says so
-pub looked_does : LookLeaves → (s : StockValue) (op : Op) (answer : Answer) (reg word : ℕ) (h : Handle) → IsStock s → IsAware s.view → HasItsStake s →
+pub looked_does : LookLeaves → (s : StockValue) (op : Op) (answer : Answer) (reg word : ℕ) (h : Handle) → IsStock s →
+    IsAware s.view → HasItsStake s →
     reg < 64 → HasHandleTo h (register_in s.registers reg) → IsFound h.title word s.view → IsNoSwap op → IsOfLook answer (seen_at h word) →
     ((o : Outcome) → Row (row_facts o) op (regs_of s.registers) answer (regs_of s.registers)) →
-    ((o : Outcome) (line phase : ℕ) → ReadsIts o.sizes (regs_of s.registers) op (quiet_record s (after_look h.title word s.view) line phase op answer (Looked h.title word ∷ []))) →
+    ((o : Outcome) (line phase : ℕ) →
+    ReadsIts o.sizes (regs_of s.registers) op
+    (quiet_record s (after_look h.title word s.view) line phase op answer (Looked h.title word ∷ []))) →
     (line : ℕ) → DoesOp line op answer s (looked s h word)
 looked_does looks s op answer reg word h is aware stake below has found no_swap of_look row reads =
     let t = h.title in

@@ -42,13 +42,15 @@ use Rattle.pa_heap.proofs.Given.{HasReturned}
 use Rattle.pa_heap.proofs.Settling.{home_does, spill_does}
 
 -- a worker that has seen how a slot was made has seen an entry of its partition's list
-slot_entries : (s : StockValue) (h : Handle) → IsAware s.view → HasItsStake s → HasSeenMade h s.view → HasSeenSome s.thread h.partition s.view
+slot_entries : (s : StockValue) (h : Handle) → IsAware s.view → HasItsStake s → HasSeenMade h s.view →
+    HasSeenSome s.thread h.partition s.view
 slot_entries s h aware stake made =
     let (m, e, among, says, out) = made.entry in
     record { some = (m, among); own = stakes_made s.view s.thread h.partition aware stake }
 
 -- what each knows of its step
-reset_returned : CountLeaves → (s : StockValue) (r word : ℕ) (h : Handle) → IsStock s → IsAware s.view → HasItsStake s → 0 < s.view.budget → r < 64 →
+reset_returned : CountLeaves → (s : StockValue) (r word : ℕ) (h : Handle) → IsStock s → IsAware s.view →
+    HasItsStake s → 0 < s.view.budget → r < 64 →
     register_in s.registers r ≡ Ref h → IsFound h.title word s.view → IsReturning steps.Reset word →
     HasReturned (ops.Reset r) steps.Reset h word s (after_count steps.Reset h.title word s.view) (slice_set s.registers r Cleared)
 reset_returned counts s r word h is aware stake budget below ref found back =
@@ -62,17 +64,21 @@ reset_returned counts s r word h is aware stake budget below ref found back =
       cells = λ list x none. none;
       told = λ sizes es told. told;
       long = ap bytes_in ref;
-      row = λ o. reset_row (register_in s.registers r) h (seen_at h word) (regs_of s.registers) r (regs_of (slice_set s.registers r Cleared)) ref refl (λ k. regs_set s.registers r Cleared k inside);
+      row = λ o. reset_row (register_in s.registers r) h (seen_at h word) (regs_of s.registers) r
+          (regs_of (slice_set s.registers r Cleared)) ref refl (λ k. regs_set s.registers r Cleared k inside);
       lists = λ partitions line phase roots cache after row. inl (back, row);
       reader = λ o x. tt;
       mark = λ line. refl;
-      touched = touched_count counts s.thread steps.Reset t word s.view refl can found (least_is s.thread s.view is.stake stake).0 (user_not_free s.view t aware knows.0);
-      number = seen_left t (number_of word) (seen_of w t) (seen_of s.view t) found.not_older ((counts steps.Reset t word s.view can).seen t);
+      touched = touched_count counts s.thread steps.Reset t word s.view refl can found (least_is s.thread s.view is.stake stake).0
+          (user_not_free s.view t aware knows.0);
+      number = seen_left t (number_of word) (seen_of w t) (seen_of s.view t) found.not_older
+          ((counts steps.Reset t word s.view can).seen t);
       made = made_kept h s.view w refl knows.1;
       entries = slot_entries s h aware stake knows.1;
     }
 
-free_returned : CountLeaves → OwnsChange → StatesAreOwns → (s : StockValue) (r word : ℕ) (h : Handle) → IsStock s → IsAware s.view → HasItsStake s → 0 < s.view.budget → r < 64 →
+free_returned : CountLeaves → OwnsChange → StatesAreOwns → (s : StockValue) (r word : ℕ) (h : Handle) → IsStock s → IsAware s.view →
+    HasItsStake s → 0 < s.view.budget → r < 64 →
     register_in s.registers r ≡ Own h → IsFound h.title word (poisoned h.title s.view) → IsReturning steps.Free word →
     HasReturned (ops.Free r) steps.Free h word s (freed_view s.view h.title word) (slice_set s.registers r Freed)
 free_returned counts owns states s r word h is aware stake budget below own found back =
@@ -86,26 +92,34 @@ free_returned counts owns states s r word h is aware stake budget below own foun
       cells = λ list x none. none;
       told = λ sizes es told. told;
       long = ap bytes_in own;
-      row = λ o. free_row (register_in s.registers r) h (seen_at h word) (regs_of s.registers) r (regs_of (slice_set s.registers r Freed)) own refl (λ k. regs_set s.registers r Freed k inside);
+      row = λ o. free_row (register_in s.registers r) h (seen_at h word) (regs_of s.registers) r
+          (regs_of (slice_set s.registers r Freed)) own refl (λ k. regs_set s.registers r Freed k inside);
       lists = λ partitions line phase roots cache after row. inl (back, row);
       reader = λ o x. tt;
       mark = λ line. refl;
       touched = touched_free counts owns states s r word h is stake budget below own found (user_not_free s.view t aware knows.0);
-      number = seen_left t (number_of word) (seen_of w t) (seen_of s.view t) found.not_older ((counts steps.Free t word (poisoned t s.view) can).seen t);
+      number = seen_left t (number_of word) (seen_of w t) (seen_of s.view t) found.not_older
+          ((counts steps.Free t word (poisoned t s.view) can).seen t);
       made = made_kept h s.view w refl knows.1;
       entries = slot_entries s h aware stake knows.1;
     }
 
 -- the op does what it should, wherever the slot went
-settled_does : SlotsStaySeen → (op : Op) (step : Step) (h : Handle) (word line : ℕ) (s after : StockValue) (w : View) (rs : List StockRegister) → IsStock s → IsStock after →
-    HasReturned op step h word s w rs → NeedsRoot h (record s { view = w; registers = rs }) → IsSettled line h (record s { view = w; registers = rs }) after →
+settled_does : SlotsStaySeen →
+    (op : Op) (step : Step) (h : Handle) (word line : ℕ) (s after : StockValue) (w : View) (rs : List StockRegister) →
+    IsStock s → IsStock after →
+    HasReturned op step h word s w rs → NeedsRoot h (record s { view = w; registers = rs }) →
+    IsSettled line h (record s { view = w; registers = rs }) after →
     DoesOp line op (answers.Done (seen_at h word)) s after
-settled_does stays op step h word line s after w rs is sound of root (inl (bare, home)) = home_does stays op step h word line s after w rs is of bare home
+settled_does stays op step h word line s after w rs is sound of root (inl (bare, home)) =
+    home_does stays op step h word line s after w rs is of bare home
 settled_does stays op step h word line s after w rs is sound of root (inr (class, class_is, small, some, spills)) =
     spill_does stays op step h class word line s after w rs is sound of class_is small some (root class class_is small) spills
 
-pub reset_settled : CountLeaves → SlotsStaySeen → (line : ℕ) (s mid after : StockValue) (r : ℕ) (h : Handle) (seen : Seen) → IsStock s → IsAware s.view → HasItsStake s → 0 < s.view.budget → r < 64 →
-    register_in s.registers r ≡ Ref h → LetsGo steps.Reset h r Cleared s.view seen s mid → IsReturning steps.Reset seen.found.0 → NeedsRoot h mid → IsSettled line h mid after → IsStock after →
+pub reset_settled : CountLeaves → SlotsStaySeen → (line : ℕ) (s mid after : StockValue) (r : ℕ) (h : Handle) (seen : Seen) → IsStock s →
+    IsAware s.view → HasItsStake s → 0 < s.view.budget → r < 64 →
+    register_in s.registers r ≡ Ref h → LetsGo steps.Reset h r Cleared s.view seen s mid → IsReturning steps.Reset seen.found.0 →
+    NeedsRoot h mid → IsSettled line h mid after → IsStock after →
     DoesOp line (ops.Reset r) (answers.Done seen) s after
 reset_settled counts stays line s mid after r h seen is aware stake budget below ref gone back root settled sound =
     let word = seen.found.0 in
@@ -114,7 +128,8 @@ reset_settled counts stays line s mid after r h seen is aware stake budget below
     subst (λ x. DoesOp line (ops.Reset r) (answers.Done x) s after) (sym e)
     (settled_does stays (ops.Reset r) steps.Reset h word line s after w (slice_set s.registers r Cleared) is sound
     (reset_returned counts s r word h is aware stake budget below ref gone.found back)
-    (subst (λ (z : StockValue). NeedsRoot h z) gone.after_is root) (subst (λ (z : StockValue). IsSettled line h z after) gone.after_is settled))
+    (subst (λ (z : StockValue). NeedsRoot h z) gone.after_is root)
+    (subst (λ (z : StockValue). IsSettled line h z after) gone.after_is settled))
 
 pub free_settled : CountLeaves → OwnsChange → StatesAreOwns → SlotsStaySeen
     → (line : ℕ) (s mid after : StockValue) (r : ℕ) (h : Handle) (seen : Seen) → IsStock s → IsAware s.view → HasItsStake s
@@ -129,7 +144,8 @@ free_settled counts owns states stays line s mid after r h seen is aware stake b
     subst (λ x. DoesOp line (ops.Free r) (answers.Done x) s after) (sym e)
     (settled_does stays (ops.Free r) steps.Free h word line s after w (slice_set s.registers r Freed) is sound
     (free_returned counts owns states s r word h is aware stake budget below own gone.found back)
-    (subst (λ (z : StockValue). NeedsRoot h z) gone.after_is root) (subst (λ (z : StockValue). IsSettled line h z after) gone.after_is settled))
+    (subst (λ (z : StockValue). NeedsRoot h z) gone.after_is root)
+    (subst (λ (z : StockValue). IsSettled line h z after) gone.after_is settled))
 
 -- a reset, whatever became of its slot
 pub reset_released : CountLeaves → SlotsStaySeen → (line : ℕ) (s after : StockValue) (r : ℕ) (h : Handle) (seen : Seen) → IsStock s →

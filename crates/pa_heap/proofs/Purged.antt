@@ -65,12 +65,15 @@ no_uncut p (m ∷ ms) t among = elim (in_cases (Entered p m) (Uncut t) (map (Ent
 -- purges of the same lists have the same acts
 acts_same : (xs ys : ℕ → List Numbered) (i n : ℕ) → ((c : ℕ) → xs c ≡ ys c) → purge_acts xs i n ≡ purge_acts ys i n
 acts_same xs ys i zero same = refl
-acts_same xs ys i (suc n) same = ap (λ ms. gives ms ++ purge_acts xs (i + 1) n) (same i) ∙ ap (λ acts. gives (ys i) ++ acts) (acts_same xs ys (i + 1) n same)
+acts_same xs ys i (suc n) same =
+    ap (λ ms. gives ms ++ purge_acts xs (i + 1) n) (same i) ∙ ap (λ acts. gives (ys i) ++ acts) (acts_same xs ys (i + 1) n same)
 
 slots_same : (xs ys : ℕ → List Numbered) (i n : ℕ) → ((c : ℕ) → xs c ≡ ys c) → listed_slots xs i n ≡ listed_slots ys i n
 unfolding listed_slots
 slots_same xs ys i zero same = refl
-slots_same xs ys i (suc n) same = ap (λ (ms : List Numbered). length ms + listed_slots xs (i + 1) n) (same i) ∙ ap (λ k. length (ys i) + k) (slots_same xs ys (i + 1) n same)
+slots_same xs ys i (suc n) same =
+    ap (λ (ms : List Numbered). length ms + listed_slots xs (i + 1) n) (same i) ∙
+    ap (λ k. length (ys i) + k) (slots_same xs ys (i + 1) n same)
 
 -- ---- partition after partition
 
@@ -78,7 +81,8 @@ slots_same xs ys i (suc n) same = ap (λ (ms : List Numbered). length ms + liste
 pub record Purging (line n slots : ℕ) (s now : StockValue) : Type 0 where
   stretch : List Entry
   enters : Entering s.thread line stretch s.view now.view
-  says : (p : ℕ) → p < n → map (λ (m : Made). m.numbers) (entered_in p stretch) ≡ map root_numbers (map (root_entry line) (purge_acts (listed_in s p) 0 170))
+  says : (p : ℕ) → p < n →
+      map (λ (m : Made). m.numbers) (entered_in p stretch) ≡ map root_numbers (map (root_entry line) (purge_acts (listed_in s p) 0 170))
   none : (p : ℕ) → n ≤ p → entered_in p stretch ≡ []
   quiet : touches stretch ≡ []
   signs : filter_map sign_of stretch ≡ flat_map (λ p. flat_map (act_signs line p) (purge_acts (listed_in s p) 0 170)) (range_with_len 0 n)
@@ -136,10 +140,12 @@ not_yet line n slots s now some is c =
     itself false is = refl
 
 -- one more
-kept_more : (n q : ℕ) (ts us : List Title) → us ≡ (if nat_lt q n then [] else ts) → (if q == n then [] else us) ≡ (if nat_lt q (n + 1) then [] else ts)
+kept_more : (n q : ℕ) (ts us : List Title) → us ≡ (if nat_lt q n then [] else ts) →
+    (if q == n then [] else us) ≡ (if nat_lt q (n + 1) then [] else ts)
 kept_more n q ts us is = go (q == n) (nat_lt q n) (nat_lt q (n + 1)) refl refl refl is
   where
-    go : (a b d : Bool) → (q == n) ≡ a → nat_lt q n ≡ b → nat_lt q (n + 1) ≡ d → us ≡ (if b then [] else ts) → (if a then [] else us) ≡ (if d then [] else ts)
+    go : (a b d : Bool) → (q == n) ≡ a → nat_lt q n ≡ b → nat_lt q (n + 1) ≡ d → us ≡ (if b then [] else ts) →
+        (if a then [] else us) ≡ (if d then [] else ts)
     go true b true e f g is = refl
     go true b false e f g is = absurd (grind (arith, nat_tests))
     go false true true e f g is = is
@@ -152,25 +158,34 @@ range_more : {A : Type 0} (f : ℕ → List A) (a n : ℕ) → flat_map f (range
 range_more f a zero = append-nil (f a) ∙ ap f (let e : a ≡ a + 0 = omega arith in e)
 range_more f a (suc n) =
     ap (λ k. flat_map f (range_with_len a k)) (let e : suc n + 1 ≡ suc (n + 1) = omega arith in e)
-    ∙ ap (λ ys. f a ++ ys) (range_more f (a + 1) n ∙ ap (λ k. flat_map f (range_with_len (a + 1) n) ++ f k) (let e : (a + 1) + n ≡ a + suc n = omega arith in e))
+    ∙ ap (λ ys. f a ++ ys)
+    (range_more f (a + 1) n ∙ ap (λ k. flat_map f (range_with_len (a + 1) n) ++ f k)
+    (let e : (a + 1) + n ≡ a + suc n = omega arith in e))
     ∙ sym (append_assoc (f a) (flat_map f (range_with_len (a + 1) n)) (f (a + suc n)))
 
-range_same : {A : Type 0} (f g : ℕ → List A) (a n : ℕ) → ((p : ℕ) → p < a + n → f p ≡ g p) → flat_map f (range_with_len a n) ≡ flat_map g (range_with_len a n)
+range_same : {A : Type 0} (f g : ℕ → List A) (a n : ℕ) → ((p : ℕ) → p < a + n → f p ≡ g p) →
+    flat_map f (range_with_len a n) ≡ flat_map g (range_with_len a n)
 range_same f g a zero same = refl
 range_same f g a (suc n) same =
-    ap (λ ys. ys ++ flat_map f (range_with_len (a + 1) n)) (same a (omega arith)) ∙ ap (λ ys. g a ++ ys) (range_same f g (a + 1) n (λ p low. same p (omega arith)))
+    ap (λ ys. ys ++ flat_map f (range_with_len (a + 1) n)) (same a (omega arith)) ∙
+    ap (λ ys. g a ++ ys) (range_same f g (a + 1) n (λ p low. same p (omega arith)))
 
-pub purging_more : (line n slots more : ℕ) (s now next : StockValue) → IsStock now → Purging line n slots s now → PurgesRoot line n more now next →
+pub purging_more : (line n slots more : ℕ) (s now next : StockValue) → IsStock now → Purging line n slots s now →
+    PurgesRoot line n more now next →
     n < s.partitions → n < 4 → Purging line (n + 1) (slots + more) s next
 purging_more line n slots more s now next is some (more_is, given) below low = record {
   stretch = some.stretch ++ es;
   enters = entering_both s.thread line some.stretch es s.view now.view next.view some.enters
-      (subst (λ k. Entering k line es now.view next.view) some.same.0 (gives_enters line n (purge_acts (listed_in now n) 0 170) (without_lists n (titles_in now.caches)) now next given (omega arith)));
+      (subst (λ k. Entering k line es now.view next.view) some.same.0
+      (gives_enters line n (purge_acts (listed_in now n) 0 170) (without_lists n (titles_in now.caches)) now next given (omega arith)));
   says = λ p lower. elim (eqb_tells p n) [
     | inl y ↦
-        subst (λ q. map (λ (m : Made). m.numbers) (entered_in q (some.stretch ++ es)) ≡ map root_numbers (map (root_entry line) (purge_acts (listed_in s q) 0 170))) (sym y.1)
-        (ap (map (λ (m : Made). m.numbers)) (entered_append n some.stretch es ∙ (ap (λ ms. ms ++ entered_in n es) (some.none n (omega arith)) ∙ entered_here n given.entries))
-        ∙ (given.says ∙ ap (λ acts. map root_numbers (map (root_entry line) acts)) (acts_same (listed_in now n) (listed_in s n) 0 170 lists)))
+        subst (λ q. map (λ (m : Made). m.numbers) (entered_in q (some.stretch ++ es)) ≡
+        map root_numbers (map (root_entry line) (purge_acts (listed_in s q) 0 170))) (sym y.1)
+        (ap (map (λ (m : Made). m.numbers)) (entered_append n some.stretch es ∙
+        (ap (λ ms. ms ++ entered_in n es) (some.none n (omega arith)) ∙ entered_here n given.entries))
+        ∙ (given.says ∙ ap (λ acts. map root_numbers (map (root_entry line) acts))
+        (acts_same (listed_in now n) (listed_in s n) 0 170 lists)))
     | inr away ↦
         ap (map (λ (m : Made). m.numbers)) (entered_append p some.stretch es
         ∙ (ap (λ ms. entered_in p some.stretch ++ ms) (entered_elsewhere n p given.entries away.1)
@@ -178,7 +193,8 @@ purging_more line n slots more s now next is some (more_is, given) below low = r
         ∙ some.says p (less p n lower away.1)
   ];
   none = λ p far.
-      entered_append p some.stretch es ∙ (ap (λ ms. ms ++ entered_in p es) (some.none p (omega arith)) ∙ entered_elsewhere n p given.entries (λ e. omega arith));
+      entered_append p some.stretch es ∙
+      (ap (λ ms. ms ++ entered_in p es) (some.none p (omega arith)) ∙ entered_elsewhere n p given.entries (λ e. omega arith));
   quiet = filter-append is_touch some.stretch es ∙ (ap (λ ms. ms ++ touches es) some.quiet ∙ entered_quiet n given.entries);
   signs =
       let acts : ℕ → List RootAct = λ p. purge_acts (listed_in s p) 0 170 in
@@ -188,7 +204,8 @@ purging_more line n slots more s now next is some (more_is, given) below low = r
       (given.says ∙ numbers_again line (purge_acts (listed_in now n) 0 170)) (purge_names_none (listed_in now n) 0 170) in
       filter_map-append sign_of some.stretch es ∙ ap (λ ys. ys ++ filter_map sign_of es) some.signs
       ∙ ap (λ ys. flat_map signs_in (range_with_len 0 n) ++ ys) (entered ∙ ap (flat_map (act_signs line n)) here)
-      ∙ sym (range_more signs_in 0 n ∙ ap (λ k. flat_map signs_in (range_with_len 0 n) ++ signs_in k) (let e : 0 + n ≡ n = omega arith in e));
+      ∙ sym (range_more signs_in 0 n ∙ ap (λ k. flat_map signs_in (range_with_len 0 n) ++ signs_in k)
+      (let e : 0 + n ≡ n = omega arith in e));
   uncut = λ t among. elim (Contains-append_cases some.stretch es (Uncut t) among) [
     | inl first ↦ some.uncut t first
     | inr second ↦ no_uncut n given.entries t second
@@ -200,7 +217,9 @@ purging_more line n slots more s now next is some (more_is, given) below low = r
   version = given.version ∙ some.version;
   count =
       let e : s.partitions - n ≡ suc (s.partitions - (n + 1)) = omega arith in
-      let f : all_listed (listed_in s) n (s.partitions - n) ≡ listed_slots (listed_in s n) 0 170 + all_listed (listed_in s) (n + 1) (s.partitions - (n + 1)) = ap (all_listed (listed_in s) n) e in
+      let f : all_listed (listed_in s) n (s.partitions - n) ≡
+      listed_slots (listed_in s n) 0 170 + all_listed (listed_in s) (n + 1) (s.partitions - (n + 1)) =
+      ap (all_listed (listed_in s) n) e in
       let g = slots_same (listed_in now n) (listed_in s n) 0 170 lists in
       let h = some.count in
       omega arith;
@@ -218,15 +237,17 @@ purging_more line n slots more s now next is some (more_is, given) below low = r
 -- ---- the op
 
 -- what a purge enters it makes, and it names no entry of the pool
-made_by_purge : (lists : ℕ → List Numbered) (i n : ℕ) (pools : List PoolEntry) (p : ℕ) (act : RootAct) (x : Played) → x.op ≡ ops.Purge → Contains (purge_acts lists i n) act → MakesEntry pools p act x
+made_by_purge : (lists : ℕ → List Numbered) (i n : ℕ) (pools : List PoolEntry) (p : ℕ) (act : RootAct) (x : Played) → x.op ≡ ops.Purge →
+    Contains (purge_acts lists i n) act → MakesEntry pools p act x
 made_by_purge lists i zero pools p act x op among = elim (in_cases Purge act [] among) [
   | inl same ↦ subst (λ a. MakesEntry pools p a x) same op
   | inr none ↦ absurd (not_in_none act none)
 ]
-made_by_purge lists i (suc n) pools p act x op among = elim (Contains-append_cases (gives (lists i)) (purge_acts lists (i + 1) n) act among) [
-  | inl first ↦ (let (slots, is) = in_gives (lists i) act first in subst (λ a. MakesEntry pools p a x) (sym is) (inr op))
-  | inr later ↦ made_by_purge lists (i + 1) n pools p act x op later
-]
+made_by_purge lists i (suc n) pools p act x op among =
+    elim (Contains-append_cases (gives (lists i)) (purge_acts lists (i + 1) n) act among) [
+      | inl first ↦ (let (slots, is) = in_gives (lists i) act first in subst (λ a. MakesEntry pools p a x) (sym is) (inr op))
+      | inr later ↦ made_by_purge lists (i + 1) n pools p act x op later
+    ]
 
 -- and it fills from no class
 no_fill : (version : ℕ) (lists : ℕ → List Numbered) (i n : ℕ) (act : RootAct) → Contains (purge_acts lists i n) act → FillsFrom version act
@@ -248,7 +269,8 @@ purge_asks_none line lists i (suc n) =
     ∙ purge_asks_none line lists (i + 1) n))
 
 -- in a run no list of a partition past its own has a title
-pub none_past : (o : Outcome) (s : StockValue) (q c : ℕ) → IsOutcome o → IsSeenOf o s.view → IsStock s → o.partitions ≤ q → titles_in s.caches q c ≡ []
+pub none_past : (o : Outcome) (s : StockValue) (q c : ℕ) → IsOutcome o → IsSeenOf o s.view → IsStock s →
+    o.partitions ≤ q → titles_in s.caches q c ≡ []
 none_past o s q c run sees is past = go (titles_in s.caches q c) refl
   where
     go : (ts : List Title) → titles_in s.caches q c ≡ ts → ts ≡ []
@@ -278,7 +300,8 @@ purge_does line slots s now is still some =
             told = some.quiet;
             row = (slots, refl, λ k. ap (λ (rs : List StockRegister). regs_of rs k) some.same.2);
             lists = (
-              (λ p low. acts.here p (few p (subst (λ n. p < n) many low)) ∙ (ap acts_in (roots_at p (subst (λ n. p < n) many low)) ∙ acts_back line (purge_acts (listed_in s p) 0 170))),
+              (λ p low. acts.here p (few p (subst (λ n. p < n) many low)) ∙
+                  (ap acts_in (roots_at p (subst (λ n. p < n) many low)) ∙ acts_back line (purge_acts (listed_in s p) 0 170))),
               subst (λ n. slots ≡ all_listed (listed_in s) 0 n) (sym many) total,
               (λ p c. ap (numbered_by now.view) (empty o run many sees p c)),
             );
@@ -288,8 +311,10 @@ purge_does line slots s now is still some =
                 (λ p e low among. makes p e o.pools (quiet_record s now.view line phase ops.Purge (answers.Purged slots)
                 some.stretch).played refl among);
             home = λ m e. absurd (not_some m e);
-            signs = some.signs ∙ ap (λ n. flat_map (λ p. flat_map (act_signs line p) (purge_acts (listed_in s p) 0 170)) (range_with_len 0 n)) (sym many)
-                ∙ range_same (λ p. flat_map (act_signs line p) (purge_acts (listed_in s p) 0 170)) (λ p. flat_map (act_signs line p) (acts_of o.roots line p)) 0 o.partitions
+            signs = some.signs ∙
+                ap (λ n. flat_map (λ p. flat_map (act_signs line p) (purge_acts (listed_in s p) 0 170)) (range_with_len 0 n)) (sym many)
+                ∙ range_same (λ p. flat_map (act_signs line p) (purge_acts (listed_in s p) 0 170))
+                (λ p. flat_map (act_signs line p) (acts_of o.roots line p)) 0 o.partitions
                 (λ p low.
                 let below : p < s.partitions = subst (λ n. p < n) many (let b : p < o.partitions = omega arith in b) in
                 ap (flat_map (act_signs line p))
@@ -303,7 +328,9 @@ purge_does line slots s now is still some =
     roots_at : (p : ℕ) → p < s.partitions → roots p ≡ map (root_entry line) (purge_acts (listed_in s p) 0 170)
     roots_at p low = go (nat_lt p s.partitions) refl
       where
-        go : (b : Bool) → nat_lt p s.partitions ≡ b → (if b then map (root_entry line) (purge_acts (listed_in s p) 0 170) else []) ≡ map (root_entry line) (purge_acts (listed_in s p) 0 170)
+        go : (b : Bool) → nat_lt p s.partitions ≡ b →
+            (if b then map (root_entry line) (purge_acts (listed_in s p) 0 170) else []) ≡
+            map (root_entry line) (purge_acts (listed_in s p) 0 170)
         go true is = refl
         go false is = absurd (let high : s.partitions ≤ p = grind (arith, nat_tests) in omega arith)
 
@@ -314,7 +341,8 @@ purge_does line slots s now is still some =
     entered_are p = go (nat_lt p s.partitions) refl
       where
         go : (b : Bool) → nat_lt p s.partitions ≡ b →
-            map (λ (m : Made). m.numbers) (entered_in p some.stretch) ≡ map root_numbers (if b then map (root_entry line) (purge_acts (listed_in s p) 0 170) else [])
+            map (λ (m : Made). m.numbers) (entered_in p some.stretch) ≡
+            map root_numbers (if b then map (root_entry line) (purge_acts (listed_in s p) 0 170) else [])
         go true is = some.says p (grind (arith, nat_tests))
         go false is = ap (map (λ (m : Made). m.numbers)) (some.none p (grind (arith, nat_tests)))
 
@@ -346,21 +374,25 @@ purge_does line slots s now is still some =
     empty : (o : Outcome) → IsOutcome o → o.partitions ≡ s.partitions → IsSeenOf o now.view → (p c : ℕ) → titles_in now.caches p c ≡ []
     empty o run many sees p c = go (nat_lt p s.partitions) refl (some.kept p c)
       where
-        go : (b : Bool) → nat_lt p s.partitions ≡ b → titles_in now.caches p c ≡ (if b then [] else titles_in s.caches p c) → titles_in now.caches p c ≡ []
+        go : (b : Bool) → nat_lt p s.partitions ≡ b →
+            titles_in now.caches p c ≡ (if b then [] else titles_in s.caches p c) → titles_in now.caches p c ≡ []
         go true is kept = kept
         go false is kept = none_past o now p c run sees still (let high : s.partitions ≤ p = grind (arith, nat_tests) in omega arith)
 
     fills : (p : ℕ) (e : RootEntry) → Contains (roots p) e → FillsFrom s.caches.version e.act
     fills p e among = go (nat_lt p s.partitions) among
       where
-        go : (b : Bool) → Contains (if b then map (root_entry line) (purge_acts (listed_in s p) 0 170) else []) e → FillsFrom s.caches.version e.act
+        go : (b : Bool) → Contains (if b then map (root_entry line) (purge_acts (listed_in s p) 0 170) else []) e →
+            FillsFrom s.caches.version e.act
         go true among = no_fill s.caches.version (listed_in s p) 0 170 e.act (act_among line (purge_acts (listed_in s p) 0 170) e among)
         go false none = absurd (not_in_none e none)
 
-    makes : (p : ℕ) (e : RootEntry) (pools : List PoolEntry) (x : Played) → x.op ≡ ops.Purge → Contains (roots p) e → MakesEntry pools p e.act x
+    makes : (p : ℕ) (e : RootEntry) (pools : List PoolEntry) (x : Played) → x.op ≡ ops.Purge →
+        Contains (roots p) e → MakesEntry pools p e.act x
     makes p e pools x op among = go (nat_lt p s.partitions) among
       where
-        go : (b : Bool) → Contains (if b then map (root_entry line) (purge_acts (listed_in s p) 0 170) else []) e → MakesEntry pools p e.act x
+        go : (b : Bool) →
+            Contains (if b then map (root_entry line) (purge_acts (listed_in s p) 0 170) else []) e → MakesEntry pools p e.act x
         go true among = made_by_purge (listed_in s p) 0 170 pools p e.act x op (act_among line (purge_acts (listed_in s p) 0 170) e among)
         go false none = absurd (not_in_none e none)
 

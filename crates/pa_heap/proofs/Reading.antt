@@ -101,9 +101,11 @@ owner_of (Read t place value since owned unclean) = owned
 owner_of other = true
 
 -- What a read says of the register through which it was made.
-read_through : (s : StockValue) (u : View) (sizes : SlotName → ℕ) (reg : ℕ) (place value : ℕ) (h : Handle) (x : ToldRecord) → IsStock s → IsAware s.view → reg < 64 →
+read_through : (s : StockValue) (u : View) (sizes : SlotName → ℕ) (reg : ℕ) (place value : ℕ) (h : Handle) (x : ToldRecord) →
+    IsStock s → IsAware s.view → reg < 64 →
     HasHandleTo h (register_in s.registers reg) → title_of sizes (name_of h.title) ≡ h.title → ((t : Title) → x.saw t ≡ seen_of s.view t) →
-    ((t : Title) (p v : ℕ) (since : Deeds) (owner unclean : Bool) → register_in s.registers reg ≡ Own h → Contains x.stretch (Read t p v since owner unclean) → owner ≡ true) →
+    ((t : Title) (p v : ℕ) (since : Deeds) (owner unclean : Bool) → register_in s.registers reg ≡ Own h →
+    Contains x.stretch (Read t p v since owner unclean) → owner ≡ true) →
     IsReadThrough sizes (regs_of s.registers reg) x
 read_through s u sizes reg place value h x is aware below has titled saw owned = record {
   issued = λ n handle.
@@ -117,7 +119,8 @@ read_through s u sizes reg place value h x is aware below has titled saw owned =
 }
 
 -- A read past the slot's words does nothing.
-pub far_read_does : (s : StockValue) (n reg place : ℕ) (h : Handle) → IsStock s → IsAware s.view → reg < 64 → HasHandleTo h (register_in s.registers reg) →
+pub far_read_does : (s : StockValue) (n reg place : ℕ) (h : Handle) → IsStock s → IsAware s.view → reg < 64 →
+    HasHandleTo h (register_in s.registers reg) →
     IsWellFormed n h.title → h.title.len / 8 - 1 ≤ place → (line : ℕ) → DoesOp line (ops.Read reg place) answers.OutOfRange s s
 far_read_does s n reg place h is aware below has well far =
     let made = (register_has s reg h is below has).1 in
@@ -130,7 +133,8 @@ far_read_does s n reg place h is aware below has well far =
     (λ k. refl, inl (omega arith, refl)))
     (λ o line phase run sees.
     let slot = slot_in_run o s.view h run sees made in
-    read_through s s.view o.sizes reg place 0 h (quiet_record s s.view line phase (ops.Read reg place) answers.OutOfRange []) is aware below has slot.title
+    read_through s s.view o.sizes reg place 0 h (quiet_record s s.view line phase (ops.Read reg place) answers.OutOfRange []) is aware
+    below has slot.title
     (λ t. refl) (λ t p v since owner unclean own among. absurd (not_in_none _ among)))
 
 -- the answer of a read, by the bit that it found
@@ -140,8 +144,10 @@ IsOfRead (answers.Dangling seen value) s v = (seen ≡ s) × (value ≡ v) × (h
 IsOfRead answer s v = ⊥
 
 -- A read of a word of the slot does what it should, whether its slot is held or was freed.
-module _ (looks : LookLeaves) (entries : EntryLeaves) (s : StockValue) (n reg place word value : ℕ) (h : Handle) (is : IsStock s) (aware : IsAware s.view) (stake : HasItsStake s)
-    (below : reg < 64) (has : HasHandleTo h (register_in s.registers reg)) (found : IsFound h.title word s.view) (well : IsWellFormed n h.title) (near : place < content_count h.title) where
+module _ (looks : LookLeaves) (entries : EntryLeaves) (s : StockValue) (n reg place word value : ℕ) (h : Handle) (is : IsStock s)
+    (aware : IsAware s.view) (stake : HasItsStake s)
+    (below : reg < 64) (has : HasHandleTo h (register_in s.registers reg)) (found : IsFound h.title word s.view)
+    (well : IsWellFormed n h.title) (near : place < content_count h.title) where
   abbrev w : View
   w = read_view s.view h.title word place value
 
@@ -154,17 +160,21 @@ module _ (looks : LookLeaves) (entries : EntryLeaves) (s : StockValue) (n reg pl
       let least = least_is s.thread s.view is.stake stake in
       let there = looked_stock looks owns s word h is stake in
       let after = least_is s.thread (after_look t word s.view) there.stake (looked_stake looks s word h is stake) in
-      touched_both s.thread (Looked t word) (Read t place value no_deeds (has_own (after_look t word s.view) t) (has_unclean (after_look t word s.view) t)) s.view (after_look t word s.view) w
+      touched_both s.thread (Looked t word)
+      (Read t place value no_deeds (has_own (after_look t word s.view) t) (has_unclean (after_look t word s.view) t)) s.view
+      (after_look t word s.view) w
       (touched_look looks s.thread t word s.view least.1 found least.0 (user_not_free s.view t aware (register_has s reg h is below has).0))
       (touched_load entries s.thread t place value (after_look t word s.view) after.1 after.0)
 
-  read_told : (owns : OwnsChange) (t : Title) → t ≡ h.title → IsReadTold t place word value (has_own (after_look h.title word s.view) h.title) es
+  read_told : (owns : OwnsChange) (t : Title) → t ≡ h.title →
+      IsReadTold t place word value (has_own (after_look h.title word s.view) h.title) es
   read_told owns t same =
       let there = looked_stock looks owns s word h is stake in
       record {
         since = no_deeds;
         unclean = has_unclean (after_look h.title word s.view) h.title;
-        pair = ap (λ x. Looked x word ∷ Read x place value no_deeds (has_own (after_look h.title word s.view) h.title) (has_unclean (after_look h.title word s.view) h.title) ∷ []) (sym same);
+        pair = ap (λ x. Looked x word ∷ Read x place value no_deeds (has_own (after_look h.title word s.view) h.title)
+            (has_unclean (after_look h.title word s.view) h.title) ∷ []) (sym same);
         rest = [];
         none = refl;
         quiet = refl;
@@ -172,10 +182,13 @@ module _ (looks : LookLeaves) (entries : EntryLeaves) (s : StockValue) (n reg pl
         in_use = in_use h.title word s.view (register_has s reg h is below has).0 found;
       }
 
-  owner_is : (looks : LookLeaves) (t : Title) (p v : ℕ) (since : Deeds) (owner unclean : Bool) → register_in s.registers reg ≡ Own h → Contains es (Read t p v since owner unclean) → owner ≡ true
+  owner_is : (looks : LookLeaves) (t : Title) (p v : ℕ) (since : Deeds) (owner unclean : Bool) → register_in s.registers reg ≡ Own h →
+      Contains es (Read t p v since owner unclean) → owner ≡ true
   owner_is looks t p v since owner unclean own among =
       let first = Looked h.title word in
-      let second = Read h.title place value no_deeds (has_own (after_look h.title word s.view) h.title) (has_unclean (after_look h.title word s.view) h.title) in
+      let second =
+      Read h.title place value no_deeds (has_own (after_look h.title word s.view) h.title)
+      (has_unclean (after_look h.title word s.view) h.title) in
       elim (in_cases first (Read t p v since owner unclean) (second ∷ []) among) [
         | inl same ↦ absurd (not_read same)
         | inr later ↦ elim (in_cases second (Read t p v since owner unclean) [] later) [
@@ -191,8 +204,10 @@ module _ (looks : LookLeaves) (entries : EntryLeaves) (s : StockValue) (n reg pl
       not_read : Looked h.title word ≡ Read t p v since owner unclean → ⊥
       not_read e = cc
 
-  pub read_does : (owns : OwnsChange) (answer : Answer) → IsOfRead answer (seen_at h word) value → (line : ℕ) → DoesOp line (ops.Read reg place) answer s (read_stock s h word place value)
-  read_does owns (answers.Value seen v) (same, equal, held) line = subst (λ q. DoesOp line (ops.Read reg place) (answers.Value q v) s (read_stock s h word place value)) (sym same)
+  pub read_does : (owns : OwnsChange) (answer : Answer) → IsOfRead answer (seen_at h word) value → (line : ℕ) →
+      DoesOp line (ops.Read reg place) answer s (read_stock s h word place value)
+  read_does owns (answers.Value seen v) (same, equal, held) line =
+      subst (λ q. DoesOp line (ops.Read reg place) (answers.Value q v) s (read_stock s h word place value)) (sym same)
       (subst (λ q. DoesOp line (ops.Read reg place) (answers.Value (seen_at h word) q) s (read_stock s h word place value)) (sym equal)
       (quiet_does s w s.registers (ops.Read reg place) (answers.Value (seen_at h word) value) es is.lists (touched looks owns)
       (record { room = λ j e. cc; no_swap = λ j e. cc; cells = λ list x none. none })
@@ -201,15 +216,27 @@ module _ (looks : LookLeaves) (entries : EntryLeaves) (s : StockValue) (n reg pl
       let slot = slot_in_run o w h run sees (made_kept h s.view w refl (register_has s reg h is below has).1) in
       let a = well.len_aligned in let b = well.long in let long = slot.length in
       record {
-        told = (held, (reg, place, has_own (after_look h.title word s.view) h.title, refl, read_told owns (title_of o.sizes (name_of h.title)) slot.title));
-        row = read_row (register_in s.registers reg) h (row_facts o) (regs_of s.registers) place (answers.Value (seen_at h word) value) (regs_of s.registers) has
+        told = (
+          held,
+          (
+            reg,
+            place,
+            has_own (after_look h.title word s.view) h.title,
+            refl,
+            read_told owns (title_of o.sizes (name_of h.title)) slot.title,
+          ),
+        );
+        row = read_row (register_in s.registers reg) h (row_facts o) (regs_of s.registers) place (answers.Value (seen_at h word) value)
+            (regs_of s.registers) has
             (λ k. refl, inr (omega arith, seen_at h word, value, refl, inl (held, refl)));
         lists = (none, same);
-        reader = read_through s w o.sizes reg place value h (quiet_record s w line phase (ops.Read reg place) (answers.Value (seen_at h word) value) es) is aware below has slot.title
+        reader = read_through s w o.sizes reg place value h
+            (quiet_record s w line phase (ops.Read reg place) (answers.Value (seen_at h word) value) es) is aware below has slot.title
             (λ t. refl) (owner_is looks);
         home = λ m e. (h.partition, home_of o h.partition (mark_at line (seen_at h word) None) m e slot.size);
       }) line))
-  read_does owns (answers.Dangling seen v) (same, equal, held) line = subst (λ q. DoesOp line (ops.Read reg place) (answers.Dangling q v) s (read_stock s h word place value)) (sym same)
+  read_does owns (answers.Dangling seen v) (same, equal, held) line =
+      subst (λ q. DoesOp line (ops.Read reg place) (answers.Dangling q v) s (read_stock s h word place value)) (sym same)
       (subst (λ q. DoesOp line (ops.Read reg place) (answers.Dangling (seen_at h word) q) s (read_stock s h word place value)) (sym equal)
       (quiet_does s w s.registers (ops.Read reg place) (answers.Dangling (seen_at h word) value) es is.lists (touched looks owns)
       (record { room = λ j e. cc; no_swap = λ j e. cc; cells = λ list x none. none })
@@ -218,11 +245,22 @@ module _ (looks : LookLeaves) (entries : EntryLeaves) (s : StockValue) (n reg pl
       let slot = slot_in_run o w h run sees (made_kept h s.view w refl (register_has s reg h is below has).1) in
       let a = well.len_aligned in let b = well.long in let long = slot.length in
       record {
-        told = (held, (reg, place, has_own (after_look h.title word s.view) h.title, refl, read_told owns (title_of o.sizes (name_of h.title)) slot.title));
-        row = read_row (register_in s.registers reg) h (row_facts o) (regs_of s.registers) place (answers.Dangling (seen_at h word) value) (regs_of s.registers) has
+        told = (
+          held,
+          (
+            reg,
+            place,
+            has_own (after_look h.title word s.view) h.title,
+            refl,
+            read_told owns (title_of o.sizes (name_of h.title)) slot.title,
+          ),
+        );
+        row = read_row (register_in s.registers reg) h (row_facts o) (regs_of s.registers) place (answers.Dangling (seen_at h word) value)
+            (regs_of s.registers) has
             (λ k. refl, inr (omega arith, seen_at h word, value, refl, inr (held, refl)));
         lists = (none, same);
-        reader = read_through s w o.sizes reg place value h (quiet_record s w line phase (ops.Read reg place) (answers.Dangling (seen_at h word) value) es) is aware below has slot.title
+        reader = read_through s w o.sizes reg place value h
+            (quiet_record s w line phase (ops.Read reg place) (answers.Dangling (seen_at h word) value) es) is aware below has slot.title
             (λ t. refl) (owner_is looks);
         home = λ m e. (h.partition, home_of o h.partition (mark_at line (seen_at h word) None) m e slot.size);
       }) line))
@@ -241,6 +279,7 @@ module _ (looks : LookLeaves) (entries : EntryLeaves) (s : StockValue) (n reg pl
   read_does owns (answers.Full entry) is_read line = absurd is_read
   read_does owns (answers.Swapped entry) is_read line = absurd is_read
   read_does owns (answers.Purged slots) is_read line = absurd is_read
+  read_does owns answers.Uncounted is_read line = absurd is_read
 
 pub looked_of_read : (seen : Seen) (value : ℕ) → IsOfRead (looked_read seen value) seen value
 looked_of_read seen value = elim (by_held seen.found.0 (answers.Value seen value) (answers.Dangling seen value)) [
@@ -251,9 +290,11 @@ looked_of_read seen value = elim (by_held seen.found.0 (answers.Value seen value
 -- a call that looked at a handle's slot and read a content word of it did the read, with the answer for what was found
 pub read_op_does : LookLeaves → EntryLeaves → OwnsChange → (s after : StockValue) (n reg place value : ℕ) (h : Handle) (seen : Seen)
     (answer : Answer) → IsStock s → IsAware s.view → HasItsStake s → reg < 64 →
-    HasHandleTo h (register_in s.registers reg) → IsWellFormed n h.title → place < content_count h.title → ReadsAt h place seen value s after → IsOfRead answer seen value → (line : ℕ) →
+    HasHandleTo h (register_in s.registers reg) → IsWellFormed n h.title → place < content_count h.title →
+    ReadsAt h place seen value s after → IsOfRead answer seen value → (line : ℕ) →
     DoesOp line (ops.Read reg place) answer s after
 read_op_does looks entries owns s after n reg place value h seen answer is aware stake below has well near reads of_read line =
     let e : seen ≡ seen_at h seen.found.0 = ap (λ m. record seen { slot = m }) reads.slot in
     subst (DoesOp line (ops.Read reg place) answer s) (sym reads.after_is)
-    (read_does looks entries s n reg place seen.found.0 value h is aware stake below has reads.found well near owns answer (subst (λ x. IsOfRead answer x value) e of_read) line)
+    (read_does looks entries s n reg place seen.found.0 value h is aware stake below has reads.found well near owns answer
+    (subst (λ x. IsOfRead answer x value) e of_read) line)

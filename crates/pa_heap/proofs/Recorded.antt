@@ -30,7 +30,8 @@ module _ (p : ℕ) (s : RootState) (sound : IsRootSound p s) where
       let first = h.first in
       let last = h.last in
       let some = (IsRow-of u.class (good.spans u among).counted.class).some_pages in
-      let payload : IsPayloadOf s.root.supers u.place = record { aligned = omega arith; super = (at, h.among, omega arith); page = (omega arith, omega arith) } in
+      let payload : IsPayloadOf s.root.supers u.place =
+      record { aligned = omega arith; super = (at, h.among, omega arith); page = (omega arith, omega arith) } in
       inl (raw_held p s u.place sound payload (8 * q) (omega arith) (omega arith))
 
   -- a slot of a span's list is free

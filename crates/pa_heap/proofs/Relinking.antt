@@ -50,11 +50,13 @@ touched_relinked stake es v w x re touched = subst (Touched stake es v) (sym re.
   grows = touched.grows;
   frees = touched.frees;
   numbers = touched.numbers;
-  each = λ e among. touches_to v w (record w { words = x.words; since = record w.since { stored = x.since.stored } }) (λ t. refl) e (touched.each e among);
+  each = λ e among. touches_to v w (record w { words = x.words; since = record w.since { stored = x.since.stored } }) (λ t. refl) e
+      (touched.each e among);
 })
 
 -- what came before an issue
-pub brings_relinked : (line size : ℕ) (h : Handle) (acts : List RootAct) (es : List Entry) (s : StockValue) (v x : View) (cs : WorkerLists) → Relinked v x →
+pub brings_relinked : (line size : ℕ) (h : Handle) (acts : List RootAct) (es : List Entry) (s : StockValue) (v x : View)
+    (cs : WorkerLists) → Relinked v x →
     Bringing line size h acts es s v cs → Bringing line size h acts es s x cs
 brings_relinked line size h acts es s v x cs re brings = subst (λ (y : View). Bringing line size h acts es s y cs) (sym re.rest) (record {
   entering = record {
@@ -62,7 +64,8 @@ brings_relinked line size h acts es s v x cs re brings = subst (λ (y : View). B
     stakes = brings.entering.stakes;
     lists = brings.entering.lists;
     grows = brings.entering.grows;
-    each = λ e among. tells_to line s.view v (record v { words = x.words; since = record v.since { stored = x.since.stored } }) (λ t. refl) e
+    each = λ e among. tells_to line s.view v
+        (record v { words = x.words; since = record v.since { stored = x.since.stored } }) (λ t. refl) e
         (brings.entering.each e among);
   };
   version = brings.version;

@@ -26,7 +26,8 @@ stays_whole c xs few = go (nat_lt (limit_of c) (length xs)) refl
     go false is = (rw is refl, rw is refl)
 
 -- The lists afterwards, if the seat has seen this number of the title and no other number of the titles that were listed.
-pub front_lists : (s : StockValue) (w : View) (rs : List StockRegister) (p c n : ℕ) (t : Title) → IsStock s → p < 4 → HasClass s.caches.version c →
+pub front_lists : (s : StockValue) (w : View) (rs : List StockRegister) (p c n : ℕ) (t : Title) → IsStock s →
+    p < 4 → HasClass s.caches.version c →
     ((u : Title) → 0 < free_of s.view u → seen_of w u ≡ seen_of s.view u) → seen_of w t ≡ n →
     SameLists (listed_in (record s { view = w; registers = rs; caches = put_in_front p c t s.caches }))
     (with_list (listed_in s) p c (record { slot = name_of t; number = n } ∷ listed_in s p c))
@@ -37,10 +38,12 @@ front_lists s w rs p c n t is low small numbers seen q d = elim (front_cases s.c
   ]
   | inr h ↦ elim (front_list (listed_in s) p c q d (record { slot = name_of t; number = n } ∷ listed_in s p c)) [
     | inl y ↦ absurd (h.0 (y.0, y.1))
-    | inr none ↦ ap (numbered_by w) h.1 ∙ (same_titles s.view w (titles_in s.caches q d) (λ u among. numbers u (is.lists.free q d u among)) ∙ sym none.1)
+    | inr none ↦ ap (numbered_by w) h.1 ∙
+        (same_titles s.view w (titles_in s.caches q d) (λ u among. numbers u (is.lists.free q d u among)) ∙ sym none.1)
   ]
 ]
   where
     front : numbered_by w (t ∷ titles_in s.caches p c) ≡ record { slot = name_of t; number = n } ∷ listed_in s p c
     front = ap (λ m. record { slot = name_of t; number = m } ∷ numbered_by w (titles_in s.caches p c)) seen
-        ∙ ap (λ ms. record { slot = name_of t; number = n } ∷ ms) (same_titles s.view w (titles_in s.caches p c) (λ u among. numbers u (is.lists.free p c u among)))
+        ∙ ap (λ ms. record { slot = name_of t; number = n } ∷ ms)
+        (same_titles s.view w (titles_in s.caches p c) (λ u among. numbers u (is.lists.free p c u among)))

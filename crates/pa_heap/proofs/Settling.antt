@@ -30,7 +30,8 @@ use Rattle.pa_logs.specs.Listed.{first_of}
 use Rattle.pa_root.specs.Handing.{at_number_seen, numbered_by, root_entry}
 use Rattle.pa_cells.specs.declared.handle.Handle.{Handle}
 use Rattle.pa_cells.specs.Handles.{SlotsStaySeen}
-use Rattle.pa_op_specs.specs.Stocks.{StockRegister, StockValue, IsStock, cache_place, titles_in, listed_in, WorkerLists}
+use Rattle.pa_rules.specs.Lists.{cache_place}
+use Rattle.pa_op_specs.specs.Stocks.{StockRegister, StockValue, IsStock, titles_in, listed_in, WorkerLists}
 use Rattle.pa_rules.specs.Sizes.{HasClass, class_total}
 use Rattle.pa_rules.proofs.Versions.{real_in}
 use Rattle.pa_thread_state.specs.Changes.{put_in_front}
@@ -75,7 +76,10 @@ over_limit c x xs some full = go (nat_lt (limit_of c) (length (x ∷ xs))) refl
   where
     go : (b : Bool) → nat_lt (limit_of c) (length (x ∷ xs)) ≡ b →
         (kept c (x ∷ xs) ≡ x ∷ take (limit_of c / 2 - 1) xs) × (spilled c (x ∷ xs) ≡ drop (limit_of c / 2 - 1) xs)
-    go true is = (rw is (ap (λ n. take n (x ∷ xs)) (half_some (limit_of c) some)), rw is (ap (λ n. drop n (x ∷ xs)) (half_some (limit_of c) some)))
+    go true is = (
+      rw is (ap (λ n. take n (x ∷ xs)) (half_some (limit_of c) some)),
+      rw is (ap (λ n. drop n (x ∷ xs)) (half_some (limit_of c) some)),
+    )
     go false is = absurd (let few : length (x ∷ xs) ≤ limit_of c = grind (arith, nat_tests) in omega arith)
 
 none_kept : (c : ℕ) (x : Numbered) → limit_of c ≡ 0 → (kept c (x ∷ []) ≡ []) × (spilled c (x ∷ []) ≡ x ∷ [])
@@ -84,7 +88,8 @@ none_kept c x none = (rw none refl, rw none refl)
 -- ---- lists after a step
 
 -- the lists as they were before the step, each title at its number
-step_lists : (op : Op) (step : Step) (h : Handle) (word : ℕ) (s : StockValue) (w : View) (rs : List StockRegister) → IsStock s → HasReturned op step h word s w rs →
+step_lists : (op : Op) (step : Step) (h : Handle) (word : ℕ) (s : StockValue) (w : View) (rs : List StockRegister) → IsStock s →
+    HasReturned op step h word s w rs →
     SameLists (listed_in (record s { view = w; registers = rs })) (listed_in s)
 step_lists op step h word s w rs is of p class =
     same_titles s.view w (titles_in s.caches p class) (λ t among. of.touched.numbers t (is.lists.free p class t among))
@@ -113,11 +118,13 @@ uncut_tells line t v w e among = elim (in_cases (Uncut t) e [] among) [
 ]
 
 -- the title in its note, at the number that the step left
-in_note : (op : Op) (step : Step) (h : Handle) (word : ℕ) (s : StockValue) (w : View) (rs : List StockRegister) → HasReturned op step h word s w rs →
+in_note : (op : Op) (step : Step) (h : Handle) (word : ℕ) (s : StockValue) (w : View) (rs : List StockRegister) →
+    HasReturned op step h word s w rs →
     at_number_seen (note_of_title h.title w) h.title ≡ left_at h word
 in_note op step h word s w rs of = ap (λ n. record { slot = name_of h.title; number = n }) of.number
 
-pub home_does : SlotsStaySeen → (op : Op) (step : Step) (h : Handle) (word line : ℕ) (s after : StockValue) (w : View) (rs : List StockRegister) → IsStock s →
+pub home_does : SlotsStaySeen →
+    (op : Op) (step : Step) (h : Handle) (word line : ℕ) (s after : StockValue) (w : View) (rs : List StockRegister) → IsStock s →
     HasReturned op step h word s w rs → KeepsNoList h (record s { view = w; registers = rs }) →
     GoesHome line h (record s { view = w; registers = rs }) after → DoesOp line op (answers.Done (seen_at h word)) s after
 home_does stays op step h word line s after w rs is of bare home = by_class h.class refl home.comes
@@ -149,18 +156,23 @@ home_does stays op step h word line s after w rs is of bare home = by_class h.cl
     lists : SameLists (listed_in after) (listed_in s)
     lists p class = home.lists p class ∙ step_lists op step h word s w rs is of p class
 
-    by_class : (k : Option ℕ) → h.class ≡ k → ComesHome k s.thread h.partition line (without_title h.title w) after.view (note_of_title h.title w) h.title →
+    by_class : (k : Option ℕ) → h.class ≡ k →
+        ComesHome k s.thread h.partition line (without_title h.title w) after.view (note_of_title h.title w) h.title →
         DoesOp line op (answers.Done (seen_at h word)) s after
     by_class None direct takes =
         unmap_does stays op step h word line s after w rs y note of direct thread partitions version registers takes
-        (entering_both s.thread line [] (behind h.title takes.enters.pool h.partition takes.enters.made) w y after.view (left_enters s.thread line h.title w)
-        (two_enters takes.asked takes.index s.thread h.partition line (Uncut h.title ∷ []) (give_entry line h.partition (supers_for h.title.len) takes.first)
-        (Unmap takes.asked (at_number_seen note h.title)) y after.view takes.enters (omega arith) refl (uncut_tells line h.title y after.view)))
+        (entering_both s.thread line [] (behind h.title takes.enters.pool h.partition takes.enters.made) w y after.view
+        (left_enters s.thread line h.title w)
+        (two_enters takes.asked takes.index s.thread h.partition line (Uncut h.title ∷ [])
+        (give_entry line h.partition (supers_for h.title.len) takes.first)
+        (Unmap takes.asked (at_number_seen note h.title)) y after.view takes.enters (omega arith) refl
+        (uncut_tells line h.title y after.view)))
         of.number lists
     by_class (Some class) class_is (index, one) =
         let acts_are : Give (numbered_by note (h.title ∷ [])) ∷ [] ≡ gives (left_at h word ∷ []) =
         ap (λ x. Give (x ∷ []) ∷ []) (in_note op step h word s w rs of) in
-        gives_does stays op step h class word line s after w rs (one.made ∷ []) (left_at h word ∷ []) of class_is thread partitions version registers
+        gives_does stays op step h class word line s after w rs (one.made ∷ [])
+        (left_at h word ∷ []) of class_is thread partitions version registers
         (entering_both s.thread line [] (Entered h.partition one.made ∷ []) w y after.view (left_enters s.thread line h.title w)
         (one_enters index s.thread h.partition line (Give (numbered_by note (h.title ∷ []))) y after.view one (omega arith)))
         (ap (λ n. n ∷ []) one.is_made.says ∙ ap (λ done. map root_numbers (map (root_entry line) done)) acts_are)
@@ -193,7 +205,8 @@ pub length_numbered : (v : View) (ts : List Title) → length (numbered_by v ts)
 length_numbered v [] = refl
 length_numbered v (t ∷ ts) = ap suc (length_numbered v ts)
 
-tail_tells : (line p : ℕ) (acts : List RootAct) (ms : List Made) (v w : View) → p < 5 → map (λ (m : Made). m.numbers) ms ≡ map root_numbers (map (root_entry line) acts) →
+tail_tells : (line p : ℕ) (acts : List RootAct) (ms : List Made) (v w : View) → p < 5 →
+    map (λ (m : Made). m.numbers) ms ≡ map root_numbers (map (root_entry line) acts) →
     (e : Entry) → Contains (map (Entered p) ms) e → TellsOf line v w e
 tail_tells line p acts [] v w low says e among = absurd (not_in_none e among)
 tail_tells line p [] (m ∷ ms) v w low says e among = absurd cc
@@ -205,7 +218,9 @@ tail_tells line p (a ∷ acts) (m ∷ ms) v w low says e among =
       | inr later ↦ tail_tells line p acts ms v w low rest e later
     ]
 
-pub spill_does : SlotsStaySeen → (op : Op) (step : Step) (h : Handle) (class word line : ℕ) (s after : StockValue) (w : View) (rs : List StockRegister) → IsStock s → IsStock after →
+pub spill_does : SlotsStaySeen →
+    (op : Op) (step : Step) (h : Handle) (class word line : ℕ) (s after : StockValue) (w : View) (rs : List StockRegister) →
+    IsStock s → IsStock after →
     HasReturned op step h word s w rs → h.class ≡ Some class → HasClass s.caches.version class → 0 < limit_of class →
     limit_of class ≤ length (titles_in s.caches h.partition class) →
     Spills line h class (record s { view = w; registers = rs }) after → DoesOp line op (answers.Done (seen_at h word)) s after
@@ -219,7 +234,8 @@ spill_does stays op step h class word line s after w rs is sound of class_is sma
       grows = λ t. subst (λ (v : View). seen_of w t ≤ seen_of v t) (sym view) (given.grows t);
       each = tail_tells line h.partition (gives (drop keep (listed_in mid h.partition class))) ms w after.view (omega arith) given.says;
     })
-    (given.says ∙ ap (λ done. map root_numbers (map (root_entry line) done)) (ap (λ xs. gives (drop keep xs)) (before_lists h.partition class) ∙ sym (ap gives over.1)))
+    (given.says ∙ ap (λ done. map root_numbers (map (root_entry line) done))
+    (ap (λ xs. gives (drop keep xs)) (before_lists h.partition class) ∙ sym (ap gives over.1)))
     (λ real. (refl, lists))
   where
     mid : StockValue
@@ -249,7 +265,10 @@ spill_does stays op step h class word line s after w rs is sound of class_is sma
     stake_here : (k : ℕ) → View → ℕ
     stake_here k v = stake_of v k
 
-    view : after.view ≡ record spills.between.view { words = after.view.words; since = record spills.between.view.since { stored = after.view.since.stored } }
+    view : after.view ≡ record spills.between.view {
+      words = after.view.words;
+      since = record spills.between.view.since { stored = after.view.since.stored };
+    }
     view = spills.front.relinked.rest
 
     thread : after.thread ≡ spills.between.thread
@@ -273,11 +292,13 @@ spill_does stays op step h class word line s after w rs is sound of class_is sma
     before_lists : SameLists (listed_in (record s { view = w; registers = rs })) (listed_in s)
     before_lists = step_lists op step h word s w rs is of
 
-    over : (kept class (left_at h word ∷ listed_in s h.partition class) ≡ left_at h word ∷ take (limit_of class / 2 - 1) (listed_in s h.partition class))
+    over : (kept class (left_at h word ∷ listed_in s h.partition class) ≡
+        left_at h word ∷ take (limit_of class / 2 - 1) (listed_in s h.partition class))
         × (spilled class (left_at h word ∷ listed_in s h.partition class) ≡ drop (limit_of class / 2 - 1) (listed_in s h.partition class))
     over =
         let long = length_numbered s.view (titles_in s.caches h.partition class) in
-        over_limit class (left_at h word) (listed_in s h.partition class) (limit_some class (real_in s.caches.version class small) some) (omega arith)
+        over_limit class (left_at h word) (listed_in s h.partition class)
+        (limit_some class (real_in s.caches.version class small) some) (omega arith)
 
     long_between : length spills.between.caches.lists ≡ 4 * class_total spills.between.caches.version
     long_between =
@@ -293,13 +314,15 @@ spill_does stays op step h class word line s after w rs is sound of class_is sma
         ap (λ (v : View). seen_of v t) view ∙ given.numbers well.0 t well.1 (subst (λ (v : View). 0 < free_of v t) view free)
 
     -- titles that are listed at the end and were listed before have the numbers that were seen of them before
-    both_numbers : (q d : ℕ) (ts : List Title) → ((t : Title) → Contains ts t → Contains (titles_in after.caches q d) t × Contains (titles_in s.caches q d) t) →
+    both_numbers : (q d : ℕ) (ts : List Title) →
+        ((t : Title) → Contains ts t → Contains (titles_in after.caches q d) t × Contains (titles_in s.caches q d) t) →
         numbered_by after.view ts ≡ numbered_by s.view ts
     both_numbers q d ts each =
         same_titles s.view after.view ts
         (λ t among. let both = each t among in end_number q d t both.0 ∙ of.touched.numbers t (is.lists.free q d t both.1))
 
-    lists : SameLists (listed_in after) (with_list (listed_in s) h.partition class (kept class (left_at h word ∷ listed_in s h.partition class)))
+    lists : SameLists (listed_in after)
+        (with_list (listed_in s) h.partition class (kept class (left_at h word ∷ listed_in s h.partition class)))
     lists q d = elim (front_cases spills.between.caches h.partition class h.title q d low real_between long_between) [
       | inl here ↦ elim (front_list (listed_in s) h.partition class q d (kept class (left_at h word ∷ listed_in s h.partition class))) [
         | inl y ↦
@@ -319,19 +342,25 @@ spill_does stays op step h class word line s after w rs is sound of class_is sma
     ]
       where
         other_list : (q d : ℕ) → ((q ≡ h.partition) × (d ≡ class) → ⊥) → titles_in spills.between.caches q d ≡ titles_in s.caches q d
-        other_list q d other = given.kept q d ∙ list_elsewhere h.partition class q d (take keep (titles_in s.caches h.partition class)) (titles_in s.caches) other
+        other_list q d other =
+            given.kept q d ∙ list_elsewhere h.partition class q d (take keep (titles_in s.caches h.partition class))
+            (titles_in s.caches) other
 
         kept_here : titles_in spills.between.caches h.partition class ≡ take keep (titles_in s.caches h.partition class)
-        kept_here = given.kept h.partition class ∙ list_there h.partition class (take keep (titles_in s.caches h.partition class)) (titles_in s.caches)
+        kept_here = given.kept h.partition class ∙ list_there h.partition class (take keep (titles_in s.caches h.partition class))
+            (titles_in s.caches)
 
-        in_front : (q d : ℕ) → q ≡ h.partition → d ≡ class → titles_in after.caches q d ≡ h.title ∷ take keep (titles_in s.caches h.partition class) →
-            numbered_by after.view (h.title ∷ take keep (titles_in s.caches h.partition class)) ≡ left_at h word ∷ take keep (listed_in s h.partition class)
+        in_front : (q d : ℕ) → q ≡ h.partition → d ≡ class →
+            titles_in after.caches q d ≡ h.title ∷ take keep (titles_in s.caches h.partition class) →
+            numbered_by after.view (h.title ∷ take keep (titles_in s.caches h.partition class)) ≡
+            left_at h word ∷ take keep (listed_in s h.partition class)
         in_front q d p_is c_is titles =
             let ts = take keep (titles_in s.caches h.partition class) in
             let front = end_number q d h.title (subst (λ us. Contains us h.title) (sym titles) (first_in h.title ts)) ∙ of.number in
             let rest = both_numbers q d ts (λ t among. (
               subst (λ us. Contains us t) (sym titles) (later_in h.title t ts among),
-              subst (λ k. Contains (titles_in s.caches k d) t) (sym p_is) (subst (λ k. Contains (titles_in s.caches h.partition k) t) (sym c_is)
+              subst (λ k. Contains (titles_in s.caches k d) t) (sym p_is)
+                  (subst (λ k. Contains (titles_in s.caches h.partition k) t) (sym c_is)
                   (taken_from keep (titles_in s.caches h.partition class) t among)),
             )) in
             ap (λ n. record { slot = name_of h.title; number = n } ∷ numbered_by after.view ts) front

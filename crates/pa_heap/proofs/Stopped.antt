@@ -23,7 +23,8 @@ class_asks reg p size class s bare few of empty = record {
 }
 
 -- the size has no class
-pub map_asks : (reg p size : ℕ) (s : StockValue) → HasNoHandle (register_in s.registers reg) → IsMapSize s.caches.version size → AsksRoot reg p size s
+pub map_asks : (reg p size : ℕ) (s : StockValue) → HasNoHandle (register_in s.registers reg) →
+    IsMapSize s.caches.version size → AsksRoot reg p size s
 map_asks reg p size s bare direct = record {
   bare = bare;
   small = direct.1;
@@ -37,9 +38,11 @@ purges_one_more line n slots s now next first purges = subst (λ k. PurgesFirst 
 
 -- A worker whose op ran out of memory: its thread state and room are what `stock` and `room` give of the worker as it was, it is stopped
 -- and owes nothing, and all else is as before.
-pub stopped_as : (stock : WorkerValue → StockValue) (room : WorkerValue → ℕ) {inside old : WorkerValue} {s : StockValue} {n : ℕ} {os : List Owed} →
+pub stopped_as : (stock : WorkerValue → StockValue) (room : WorkerValue → ℕ) {inside old : WorkerValue} {s : StockValue} {n : ℕ}
+    {os : List Owed} →
     inside ≡ old → s ≡ stock inside → n ≡ room inside → os ≡ none_owed →
-    record inside { stock = s; room = n; stopped = true; owed = os } ≡ record old { stock = stock old; room = room old; stopped = true; owed = none_owed }
+    record inside { stock = s; room = n; stopped = true; owed = os } ≡
+    record old { stock = stock old; room = room old; stopped = true; owed = none_owed }
 stopped_as stock room {inside} {old} {s} {n} {os} is same fits none =
     ap (λ (z : StockValue). record inside { stock = z; room = n; stopped = true; owed = os }) same
     ∙ ap (λ (k : ℕ). record inside { stock = stock inside; room = k; stopped = true; owed = os }) fits

@@ -17,7 +17,8 @@ use Rattle.pa_rules.specs.Caches.{NoActs, OnlyActs, FrontIs, FilledFirst, acts_o
 use Rattle.pa_rules.specs.Roots.{Journals}
 use Rattle.pa_rules.proofs.Sizes.{sizes_fit}
 use Rattle.pa_root.specs.Handing.{at_number_seen, numbered_by}
-use Rattle.pa_op_specs.specs.Stocks.{StockValue, IsStock, titles_in, listed_slot, cache_place}
+use Rattle.pa_rules.specs.Lists.{cache_place}
+use Rattle.pa_op_specs.specs.Stocks.{StockValue, IsStock, titles_in, listed_slot}
 use Rattle.pa_thread_state.specs.Changes.{IsBack}
 use Rattle.pa_thread_state.specs.Allocating.{with_listed, TakesFront}
 use Rattle.pa_thread_state.proofs.Places.{titles_here}
@@ -31,9 +32,11 @@ pub first_alone : (t : Title) (ts : List Title) → AllPairs ◌≢◌ (t ∷ ts
 first_alone t ts differ (k, below, is) = differ 0 (suc k) t (omega arith) (omega arith) (sym is)
 
 -- the front is the slot that was made, at the number that was found
-pub front_is : (v : View) (t : Title) (seen : Seen) (ms : List Numbered) → seen.slot ≡ name_of t → number_of seen.found.0 ≡ seen_of v t → FrontIs seen (at_number_seen v t ∷ ms) ms
+pub front_is : (v : View) (t : Title) (seen : Seen) (ms : List Numbered) → seen.slot ≡ name_of t → number_of seen.found.0 ≡ seen_of v t →
+    FrontIs seen (at_number_seen v t ∷ ms) ms
 front_is v t seen ms slot number =
-    ap (λ n. record { slot = n; number = seen_of v t } ∷ ms) (sym slot) ∙ ap (λ n. record { slot = seen.slot; number = n } ∷ ms) (sym number)
+    ap (λ n. record { slot = n; number = seen_of v t } ∷ ms) (sym slot) ∙
+    ap (λ n. record { slot = seen.slot; number = n } ∷ ms) (sym number)
 
 -- ---- the front of a list
 
@@ -57,9 +60,11 @@ front_back s mid p c t is low front = subst (λ (z : StockValue). IsBack (listed
     among = subst (λ ts. Contains ts t) (sym front.was) (first_in t front.rest)
 
     differ : AllPairs ◌≢◌ (t ∷ front.rest)
-    differ = subst (λ ts. AllPairs ◌≢◌ ts) (sym (titles_here s.caches p c front.real) ∙ front.was) (is.lists.sound (cache_place s.caches.version p c)).different
+    differ = subst (λ ts. AllPairs ◌≢◌ ts) (sym (titles_here s.caches p c front.real) ∙ front.was)
+        (is.lists.sound (cache_place s.caches.version p c)).different
 
-pub front_brings : (line size p c : ℕ) (t : Title) (s mid : StockValue) (front : TakesFront p c t s mid) → IsStock s → p < 4 → IsClassIn s.caches.version (max size 1 + 8) c →
+pub front_brings : (line size p c : ℕ) (t : Title) (s mid : StockValue) (front : TakesFront p c t s mid) → IsStock s → p < 4 →
+    IsClassIn s.caches.version (max size 1 + 8) c →
     Bringing line size (listed_slot p c t) [] [] s s.view (with_listed p c front.rest s.caches)
 front_brings line size p c t s mid front is low class = record {
   entering = entering_none s.thread line s.view;
@@ -76,7 +81,8 @@ front_brings line size p c t s mid front is low class = record {
     numbered_by s.view (t ∷ front.rest),
     numbered_by s.view front.rest,
     (r, size, is_op, class_as x.rules.version s.caches.version (max size 1 + 8) c first class),
-    subst (λ ts. FilledFirst roots x.line p c (numbered_by s.view ts) (numbered_by s.view (t ∷ front.rest))) (sym front.was) (refl, no_acts roots x.line p only),
+    subst (λ ts. FilledFirst roots x.line p c (numbered_by s.view ts) (numbered_by s.view (t ∷ front.rest))) (sym front.was)
+        (refl, no_acts roots x.line p only),
     front_is s.view t seen (numbered_by s.view front.rest) slot number,
     λ q d. same q d ∙ relisted s s.view p c front.rest (numbered_by s.view front.rest) is low front.real refl (λ k e u among. refl) q d,
   );

@@ -106,11 +106,23 @@ joins v w after is host aware other both long =
 -- what was taken in stays so when more is taken in
 pub pool_on : (words : ℕ) (v w : View) → {es : _} → LeavesPool words es v → IsWithin v w → LeavesPool words es w
 pool_on words v w left on =
-    record { pool = left.pool; entries_are = left.entries_are; whole = left.whole; kept = left.kept; within = within_on left.pool.view v w left.within on }
+    record {
+      pool = left.pool;
+      entries_are = left.entries_are;
+      whole = left.whole;
+      kept = left.kept;
+      within = within_on left.pool.view v w left.within on;
+    }
 
 pub root_on : (p : ℕ) (v w : View) → {es : _} → LeavesRoot p es v → IsWithin v w → LeavesRoot p es w
 root_on p v w left on =
-    record { root = left.root; journal_is = left.journal_is; kept = left.kept; spans = left.spans; within = within_on left.root.view v w left.within on }
+    record {
+      root = left.root;
+      journal_is = left.journal_is;
+      kept = left.kept;
+      spans = left.spans;
+      within = within_on left.root.view v w left.within on;
+    }
 
 pub worker_on : (v w : View) → {x : _} → LeavesWorker v x → IsWithin v w → LeavesWorker w x
 worker_on v w {x} left on = record { stock = left.stock; links = left.links; within = within_on x.stock.view v w left.within on }

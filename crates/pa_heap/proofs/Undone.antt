@@ -39,17 +39,22 @@ undone_keeps s d undone stake = record {
 }
 
 -- a register that is emptied and gets what it had
-set_back : (rs : List StockRegister) (i : ℕ) (r : StockRegister) → i < length rs → register_in rs i ≡ r → slice_set (slice_set rs i Empty) i r ≡ rs
+set_back : (rs : List StockRegister) (i : ℕ) (r : StockRegister) → i < length rs → register_in rs i ≡ r →
+    slice_set (slice_set rs i Empty) i r ≡ rs
 set_back [] i r within has = absurd (omega arith)
 set_back (x ∷ xs) zero r within has = ap (λ (y : StockRegister). y ∷ xs) (sym has)
 set_back (x ∷ xs) (suc i) r within has = ap (λ (ys : List StockRegister). x ∷ ys) (set_back xs i r (omega arith) has)
 
-back : GiversLackHandles → TakersHaveHandles → BeginningsJoin → SeenJoins → ListsJoin → FreeNumbersStay → (s : StockValue) (reg : ℕ) (p : ParkedHandle) →
+back : GiversLackHandles → TakersHaveHandles → BeginningsJoin → SeenJoins → ListsJoin → FreeNumbersStay →
+    (s : StockValue) (reg : ℕ) (p : ParkedHandle) →
     IsStock s → reg < 64 → register_in s.registers reg ≡ register_of p → p.note.view ≡ given_after (handle_parcel p) s.view →
     IsAware (left_after (handle_parcel p) s.view) → IsAware (united (left_after (handle_parcel p) s.view) p.note.view) →
     (d : StockValue) →
     TakesHandleIn reg p (record s { view = left_after (handle_parcel p) s.view; registers = slice_set s.registers reg Empty }) d →
-    IsUndone s (record s { view = united (left_after (handle_parcel p) s.view) p.note.view; registers = slice_set (slice_set s.registers reg Empty) reg (register_of p) })
+    IsUndone s (record s {
+      view = united (left_after (handle_parcel p) s.view) p.note.view;
+      registers = slice_set (slice_set s.registers reg Empty) reg (register_of p);
+    })
 back gives takes joins seen longest stay s reg p is below has given aware both d taken =
     let left = left_after (handle_parcel p) s.view in
     let lacks = gives p.own p.handle.title 0 s.view (holds_given s reg p.own p.handle is below has) in
@@ -83,7 +88,8 @@ back gives takes joins seen longest stay s reg p is below has given aware both d
     plus : (n m : ℕ) → m ≡ 0 → (n - 0) + m ≡ n
     plus n m e = omega arith
 
-pub undone_back : GiversLackHandles → TakersHaveHandles → BeginningsJoin → SeenJoins → ListsJoin → FreeNumbersStay → (s a d : StockValue) (reg : ℕ) (p : ParkedHandle) →
+pub undone_back : GiversLackHandles → TakersHaveHandles → BeginningsJoin → SeenJoins → ListsJoin → FreeNumbersStay →
+    (s a d : StockValue) (reg : ℕ) (p : ParkedHandle) →
     IsStock s → reg < 64 → IsAware a.view → IsAware d.view → Parks reg (Some p) s a → TakesIn reg (Some p) a d → IsUndone s d
 undone_back gives takes joins seen longest stay s a d reg p is below aware both parks taken =
     let left = left_after (handle_parcel p) s.view in
@@ -94,11 +100,14 @@ undone_back gives takes joins seen longest stay s a d reg p is below aware both 
     (subst (λ (z : StockValue). IsAware z.view) t.after_is both) d t)
 
 -- By what the calls say: what was handed over came back, since the exchange found no memory, and was taken in again.
-pub undone : GiversLackHandles → TakersHaveHandles → BeginningsJoin → SeenJoins → ListsJoin → FreeNumbersStay → (s a b d : StockValue) (reg : ℕ) (given back : Option ParkedHandle) →
-    IsStock s → reg < 64 → IsAware a.view → IsAware d.view → Parks reg given s a → back ≡ given → b ≡ a → IfSome back (λ p. TakesIn reg (Some p) b d) →
+pub undone : GiversLackHandles → TakersHaveHandles → BeginningsJoin → SeenJoins → ListsJoin → FreeNumbersStay →
+    (s a b d : StockValue) (reg : ℕ) (given back : Option ParkedHandle) →
+    IsStock s → reg < 64 → IsAware a.view → IsAware d.view → Parks reg given s a → back ≡ given → b ≡ a →
+    IfSome back (λ p. TakesIn reg (Some p) b d) →
     IfNone back (d ≡ b) → IsUndone s d
 undone gives takes joins seen longest stay s a b d reg given back is below aware both parks same kept taken none =
-    go given parks (subst (λ (o : Option ParkedHandle). IfSome o (λ p. TakesIn reg (Some p) b d)) same taken) (subst (λ (o : Option ParkedHandle). IfNone o (d ≡ b)) same none)
+    go given parks (subst (λ (o : Option ParkedHandle). IfSome o (λ p. TakesIn reg (Some p) b d)) same taken)
+    (subst (λ (o : Option ParkedHandle). IfNone o (d ≡ b)) same none)
   where
     go : (o : Option ParkedHandle) → Parks reg o s a → IfSome o (λ p. TakesIn reg (Some p) b d) → IfNone o (d ≡ b) → IsUndone s d
     go None parked taken none = subst (λ (z : StockValue). IsUndone s z) (sym (none ∙ (kept ∙ parked.0))) (undone_none s)

@@ -51,7 +51,8 @@ use Rattle.pa_op_specs.proofs.Entered.{Entering, LineActs, acts_in, entered_does
 use Rattle.pa_heap.proofs.Given.{HasReturned, not_full, same_found, step_no_uncut}
 
 -- the slot of a handle without a class is a direct map in any run that fits
-direct_in_run : (o : Outcome) (v : View) (h : Handle) → IsSeenOf o v → HasSeenMade h v → h.class ≡ None → IsDirect o.roots (name_of h.title) h.partition
+direct_in_run : (o : Outcome) (v : View) (h : Handle) → IsSeenOf o v → HasSeenMade h v → h.class ≡ None →
+    IsDirect o.roots (name_of h.title) h.partition
 direct_in_run o v h seen made direct =
     let (m, e, among, says, out) = made.entry in
     let parts = parts_at (list_of h.partition v) m among in
@@ -72,7 +73,8 @@ entered_no_uncut k m u e = cc
 same_unmap : (a b : ℕ) (x y : Numbered) → Unmap a x ≡ Unmap b y → x ≡ y
 same_unmap a b x y e = cc
 
-pub unmap_does : SlotsStaySeen → (op : Op) (step : Step) (h : Handle) (word line : ℕ) (s after : StockValue) (w : View) (rs : List StockRegister) (y note : View) →
+pub unmap_does : SlotsStaySeen →
+    (op : Op) (step : Step) (h : Handle) (word line : ℕ) (s after : StockValue) (w : View) (rs : List StockRegister) (y note : View) →
     HasReturned op step h word s w rs → h.class ≡ None →
     after.thread ≡ s.thread → after.partitions ≡ s.partitions → after.caches.version ≡ s.caches.version → after.registers ≡ rs →
     (takes : UnmapTakes s.thread h.partition line y after.view note h.title) →
@@ -82,7 +84,8 @@ pub unmap_does : SlotsStaySeen → (op : Op) (step : Step) (h : Handle) (word li
     DoesOp line op (answers.Done (seen_at h word)) s after
 unmap_does stays op step h word line s after w rs y note is direct thread partitions version registers takes came number lists =
     entered_does s after line op (answers.Done (seen_at h word)) es thread partitions version
-    (entering_both s.thread line (c ∷ []) (behind h.title pool h.partition made) s.view w after.view (touched_enters s.thread line (c ∷ []) s.view w is.touched) came)
+    (entering_both s.thread line (c ∷ []) (behind h.title pool h.partition made) s.view w after.view
+    (touched_enters s.thread line (c ∷ []) s.view w is.touched) came)
     (λ phase. record {
       cells = λ list none. is.cells list (x phase) none;
       it = it phase;
@@ -127,14 +130,16 @@ unmap_does stays op step h word line s after w rs y note is direct thread partit
     entries q = if q == h.partition then entry ∷ [] else []
 
     entered : (q : ℕ) (a b d : Bool) → q < 4 → (4 == q) ≡ a → (h.partition == q) ≡ b → (q == h.partition) ≡ d →
-        map (λ (m : Made). m.numbers) ((if a then pool ∷ [] else []) ++ ((if b then made ∷ [] else []) ++ [])) ≡ map root_numbers (if d then entry ∷ [] else [])
+        map (λ (m : Made). m.numbers) ((if a then pool ∷ [] else []) ++ ((if b then made ∷ [] else []) ++ [])) ≡
+        map root_numbers (if d then entry ∷ [] else [])
     entered q true b d lower e f g = absurd (let same : 4 ≡ q = grind (arith, nat_tests) in omega arith)
     entered q false true true lower e f g = ap (λ n. n ∷ []) takes.enters.is_made.says
     entered q false true false lower e f g = absurd (grind (arith, nat_tests))
     entered q false false true lower e f g = absurd (grind (arith, nat_tests))
     entered q false false false lower e f g = refl
 
-    pool_entered : (a b : Bool) → (4 == 4) ≡ a → (h.partition == 4) ≡ b → (if a then pool ∷ [] else []) ++ ((if b then made ∷ [] else []) ++ []) ≡ pool ∷ []
+    pool_entered : (a b : Bool) → (4 == 4) ≡ a → (h.partition == 4) ≡ b →
+        (if a then pool ∷ [] else []) ++ ((if b then made ∷ [] else []) ++ []) ≡ pool ∷ []
     pool_entered true true e f = absurd (let same : h.partition ≡ 4 = grind (arith, nat_tests) in omega arith)
     pool_entered true false e f = refl
     pool_entered false b e f = absurd (grind (arith, nat_tests))
@@ -150,7 +155,8 @@ unmap_does stays op step h word line s after w rs y note is direct thread partit
       roots = entries;
       pools = gave ∷ [];
       roots_are = λ q lower. entered q (4 == q) (h.partition == q) (q == h.partition) lower refl refl refl;
-      pools_are = ap (λ (l : List Made). map (λ (m : Made). m.numbers) l) (pool_entered (4 == 4) (h.partition == 4) refl refl) ∙ ap (λ n. n ∷ []) takes.enters.is_pool.says;
+      pools_are = ap (λ (l : List Made). map (λ (m : Made). m.numbers) l) (pool_entered (4 == 4) (h.partition == 4) refl refl) ∙
+          ap (λ n. n ∷ []) takes.enters.is_pool.says;
     }
 
     own : (b : Bool) → (h.partition == h.partition) ≡ b → (if b then entry ∷ [] else []) ≡ entry ∷ []
@@ -214,7 +220,8 @@ unmap_does stays op step h word line s after w rs y note is direct thread partit
     in_one q true e among = elim (in_cases entry e [] among) [ inl same ↦ same | inr none ↦ absurd (not_in_none e none) ]
     in_one q false e among = absurd (not_in_none e among)
 
-    at_step : (phase : ℕ) (o : Outcome) → LineActs o (x phase) (it phase) → (q asked : ℕ) (slot : Numbered) → Contains (acts_of o.roots line q) (Unmap asked slot) →
+    at_step : (phase : ℕ) (o : Outcome) → LineActs o (x phase) (it phase) → (q asked : ℕ) (slot : Numbered) →
+        Contains (acts_of o.roots line q) (Unmap asked slot) →
         slot.number ≡ number_of word + 1
     at_step phase o line_acts q index slot among = go (nat_lt q 4) refl
       where
@@ -225,9 +232,11 @@ unmap_does stays op step h word line s after w rs y note is direct thread partit
             let same = ap (λ (f : RootEntry). f.act) (in_one q (q == h.partition) e inside) ∙ act in
             sym (ap (λ (n : Numbered). n.number) (same_unmap takes.asked index (at_number_seen note h.title) slot same)) ∙ number
         go false higher =
-            absurd (not_in_none (Unmap index slot) (subst (λ done. Contains done (Unmap index slot)) (line_acts.past q (grind (arith, nat_tests))) among))
+            absurd (not_in_none (Unmap index slot)
+            (subst (λ done. Contains done (Unmap index slot)) (line_acts.past q (grind (arith, nat_tests))) among))
 
-    answers_in : (phase : ℕ) (o : Outcome) → IsOutcome o → IsSeenOf o after.view → LineActs o (x phase) (it phase) → AnswersIn o s after (x phase)
+    answers_in : (phase : ℕ) (o : Outcome) → IsOutcome o → IsSeenOf o after.view →
+        LineActs o (x phase) (it phase) → AnswersIn o s after (x phase)
     answers_in phase o run sees line_acts =
         let seen_made = stays h w after.view is.made (came.lists h.partition) in
         let slot = slot_in_run o after.view h run sees seen_made in
@@ -238,7 +247,8 @@ unmap_does stays op step h word line s after w rs y note is direct thread partit
         ) in
         record {
           told = is.told o.sizes es ([], tt, ap (λ u. Counted u step word 0 ∷ []) (sym slot.title));
-          row = subst (λ r. Row (row_facts o) op (regs_of s.registers) (answers.Done (seen_at h word)) (regs_of r)) (sym registers) (is.row o);
+          row = subst (λ r. Row (row_facts o) op (regs_of s.registers) (answers.Done (seen_at h word)) (regs_of r))
+              (sym registers) (is.row o);
           lists = is.lists o.partitions line phase o.roots (listed_in s) (listed_in after) (inr (
             h.partition,
             takes.asked,
@@ -249,10 +259,15 @@ unmap_does stays op step h word line s after w rs y note is direct thread partit
           ));
           reader = is.reader o (x phase);
           unmaps = unmaps_next o.roots (x phase).played
-              (λ q asked slot among seen done. at_step phase o line_acts q asked slot among ∙ ap (λ n. number_of n + 1) (same_found h word seen done));
+              (λ q asked slot among seen done. at_step phase o line_acts q asked slot among ∙
+              ap (λ n. number_of n + 1) (same_found h word seen done));
           makes = makes_each (x phase) (it phase) o.pools
-              (λ q e lower among. subst (λ (f : RootEntry). MakesEntry o.pools q f.act (x phase).played) (in_one q (q == h.partition) e among) is.freeing);
-          home = λ m e. (h.partition, home_of o h.partition (mark_at line (seen_at h word) (Some step)) m (sym (is.mark line) ∙ e) slot.size);
+              (λ q e lower among. subst (λ (f : RootEntry). MakesEntry o.pools q f.act (x phase).played)
+              (in_one q (q == h.partition) e among) is.freeing);
+          home = λ m e. (
+            h.partition,
+            home_of o h.partition (mark_at line (seen_at h word) (Some step)) m (sym (is.mark line) ∙ e) slot.size,
+          );
           signs = ap (λ ys. Stepped ∷ ys)
               (shapes_have_signs.asked line h.partition takes.asked unmap pool made low takes.enters.is_made.says refl
               ∙ shapes_have_signs.only o.partitions line h.partition o.roots (unmap ∷ []) run.past only);

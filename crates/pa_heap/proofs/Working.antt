@@ -36,9 +36,11 @@ plays_op line op answer before after records does counts phase =
     )
 
 -- The same by what the calls leave: the thread state, the records with one more, the counts, and what is owed.
-pub worker_plays : (line : ℕ) (op : Op) (answer : Answer) (w : WorkerValue) (after : StockValue) (records : List Entry) (counts : List Count)
+pub worker_plays : (line : ℕ) (op : Op) (answer : Answer) (w : WorkerValue) (after : StockValue) (records : List Entry)
+    (counts : List Count)
     (owed : List Owed) (thread room : ℕ) (stopped : Bool) →
-    records ≡ w.records ++ record { line = line; thread = thread; answer = answer } ∷ [] → thread ≡ after.thread → DoesOp line op answer w.stock after →
+    records ≡ w.records ++ record { line = line; thread = thread; answer = answer } ∷ [] → thread ≡ after.thread →
+    DoesOp line op answer w.stock after →
     CountsOp line op answer w.stock after w.counts counts w.owed owed →
     PlaysOp line op answer w (record { stock = after; records = records; room = room; stopped = stopped; counts = counts; owed = owed })
 worker_plays line op answer w after records counts owed thread room stopped items at does counted =
@@ -47,38 +49,44 @@ worker_plays line op answer w after records counts owed thread room stopped item
     (items ∙ ap (λ k. w.records ++ record { line = line; thread = k; answer = answer } ∷ []) (at ∙ done.same.0)) does counted
 
 -- a worker that played an op goes on
-pub worker_goes_on : (line : ℕ) (op : Op) (answer : Answer) (w : WorkerValue) (after : StockValue) (records : List Entry) (counts : List Count)
+pub worker_goes_on : (line : ℕ) (op : Op) (answer : Answer) (w : WorkerValue) (after : StockValue) (records : List Entry)
+    (counts : List Count)
     (owed : List Owed) (e : Entry) → records ≡ w.records ++ e ∷ [] → CanPlayOp w → DoesOp line op answer w.stock after →
     KeepsOn w (record { stock = after; records = records; room = w.room; stopped = w.stopped; counts = counts; owed = owed })
 worker_goes_on line op answer w after records counts owed e items can does =
     let (x, is, done, none) = does 0 in
     record {
       going = can.going;
-      stake = subst (λ k. 0 < stake_of after.view k) (sym done.same.0) (let e = done.stakes w.stock.thread in let h = can.stake in omega arith);
+      stake = subst (λ k. 0 < stake_of after.view k) (sym done.same.0)
+          (let e = done.stakes w.stock.thread in let h = can.stake in omega arith);
       count = ap length items ∙ length-append w.records (e ∷ []);
       room = refl;
     }
 
 -- the counts, and what is owed, by what the calls say of them
-pub counts_by : (line : ℕ) (op : Op) (answer : Answer) (before after : StockValue) (cs ds es : List Count) (os ps rs : List Owed) → ds ≡ es → ps ≡ rs →
+pub counts_by : (line : ℕ) (op : Op) (answer : Answer) (before after : StockValue) (cs ds es : List Count) (os ps rs : List Owed) →
+    ds ≡ es → ps ≡ rs →
     CountsOp line op answer before after cs es os rs → CountsOp line op answer before after cs ds os ps
 counts_by line op answer before after cs ds es os ps rs counted owes counts =
     subst (λ (zs : List Owed). CountsOp line op answer before after cs ds os zs) (sym owes)
     (subst (λ (zs : List Count). CountsOp line op answer before after cs zs os rs) (sym counted) counts)
 
 -- what is owed after an op may still be added
-pub covered_after : (line : ℕ) (op : Op) (answer : Answer) (before after : StockValue) (os ps rs : List Owed) → DoesOp line op answer before after → ps ≡ rs →
+pub covered_after : (line : ℕ) (op : Op) (answer : Answer) (before after : StockValue) (os ps rs : List Owed) →
+    DoesOp line op answer before after → ps ≡ rs →
     ((q : ℕ) → owed_in q rs ≤ owed_in q os + owed_by q (step_in op answer) (bytes_stepped before.registers op answer)) →
     HasItsStake before → IsCovered os before → IsCovered ps after
 covered_after line op answer before after os ps rs does owes less stake covered =
     let (x, is, done, none) = does 0 in
     subst (λ (zs : List Owed). IsCovered zs after) (sym owes)
     (op_covered before after x os rs done none
-    (λ q. subst (λ (y : Played). owed_in q rs ≤ owed_in q os + owed_by q (step_by y) (bytes_stepped before.registers y.op y.answer)) (sym is) (less q))
+    (λ q. subst (λ (y : Played). owed_in q rs ≤ owed_in q os + owed_by q (step_by y) (bytes_stepped before.registers y.op y.answer))
+    (sym is) (less q))
     stake covered)
 
 -- a worker that owes no more than before may still add it
-pub covered_still : (line : ℕ) (op : Op) (answer : Answer) (before after : StockValue) (os : List Owed) → DoesOp line op answer before after →
+pub covered_still : (line : ℕ) (op : Op) (answer : Answer) (before after : StockValue) (os : List Owed) →
+    DoesOp line op answer before after →
     HasItsStake before → IsCovered os before → IsCovered os after
 covered_still line op answer before after os does stake covered =
     covered_after line op answer before after os os os does refl

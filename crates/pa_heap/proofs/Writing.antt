@@ -1,5 +1,5 @@
 -- A write by the owner, after a look that finds no raw_ptr: what it says.
-use Rattle.std.proofs.Common.{◌≡◌, ℕ, ◌+◌, ◌<◌, true, ◌&&◌, [], ◌∷◌, length, Some, refl, sym, ◌∙◌, ap, subst, arith, inl, inr}
+use Rattle.std.proofs.Common.{◌≡◌, ℕ, ◌+◌, ◌<◌, true, ◌&&◌, ◌||◌, [], ◌∷◌, length, Some, refl, sym, ◌∙◌, ap, subst, arith, inl, inr}
 use Rattle.std.specs.Prelude.{◌==◌}
 use Rattle.std.proofs.lemmas.Bool.{eq-eqb}
 use Rattle.pa_slot.specs.declared.title.OwnState.TheVariants.{Clean}
@@ -49,15 +49,18 @@ can_fill looks owns s reg word h is stake below own none =
     let same = (looks t word s.view least.1).0.states t Clean in
     let clean = clean_own s.view t is.handles.clean in
     let first = owns.0 t (idle_if word) s.view.owns has in
-    let a = first.1.replaced (λ (o : OwnTitle). one (same_title o.title t && o.idle)) in
-    let b = first.1.within (λ (o : OwnTitle). one (same_title o.title t && o.idle)) in
+    let a = first.1.replaced (λ (o : OwnTitle). one (same_title o.title t && (o.idle || o.sealed))) in
+    let b = first.1.within (λ (o : OwnTitle). one (same_title o.title t && (o.idle || o.sealed))) in
     let z : (refs_of word == 0) ≡ true = eq-eqb (refs_of word) 0 none in
-    let c : one (same_title (idle_if word first.0).title t && (idle_if word first.0).idle) ≡ 1 = rw z (rw first.1.is_own refl) in
+    let c : one (same_title (idle_if word first.0).title t && ((idle_if word first.0).idle || (idle_if word first.0).sealed)) ≡ 1 =
+    rw z (rw first.1.is_own refl) in
     (omega arith, omega arith)
 
 -- what the step leaves, of the view before the stores
-touched_fill : CountLeaves → OwnsChange → StatesAreOwns → FilledWords → (n : ℕ) (s : StockValue) (value word : ℕ) (h : Handle) → IsStock s → HasItsStake s → 0 < s.view.budget →
-    IsWellFormed n h.title → length s.view.words ≡ n → CanFill h s → IsFound h.title word (filled h.title value s.view) → (0 < free_of s.view h.title → ⊥) →
+touched_fill : CountLeaves → OwnsChange → StatesAreOwns → FilledWords → (n : ℕ) (s : StockValue) (value word : ℕ) (h : Handle) → IsStock s →
+    HasItsStake s → 0 < s.view.budget →
+    IsWellFormed n h.title → length s.view.words ≡ n → CanFill h s → IsFound h.title word (filled h.title value s.view) →
+    (0 < free_of s.view h.title → ⊥) →
     Touched s.thread (Counted h.title steps.Write word value ∷ []) s.view (filled_view s.view h.title value word)
 touched_fill counts owns states fills n s value word h is stake budget well long can found held =
     let t = h.title in
@@ -79,10 +82,14 @@ write_row r h word regs own none =
     subst (λ x. WriteRow (as_reg x) regs (answers.Done (seen_at h word)) regs) (sym own) (seen_at h word, refl, λ k. refl, inr (none, refl))
 
 -- The write does what it should: `first` is the word of the look.
-pub filled_does : CountLeaves → LookLeaves → OwnsChange → StatesAreOwns → FilledWords → (n : ℕ) (s : StockValue) (reg value first word : ℕ) (h : Handle) → IsStock s → IsAware s.view →
-    HasItsStake s → 0 < s.view.budget → reg < 64 → register_in s.registers reg ≡ Own h → IsWellFormed n h.title → length s.view.words ≡ n → refs_of first ≡ 0 →
-    IsFound h.title first s.view → CanStep steps.Write word → IsFound h.title word (filled h.title value (after_look h.title first s.view)) → (line : ℕ) →
-    DoesOp line (ops.Write reg value) (answers.Done (seen_at h word)) s (filled_stock (record s { view = after_look h.title first s.view }) h value word)
+pub filled_does : CountLeaves → LookLeaves → OwnsChange → StatesAreOwns → FilledWords →
+    (n : ℕ) (s : StockValue) (reg value first word : ℕ) (h : Handle) → IsStock s → IsAware s.view →
+    HasItsStake s → 0 < s.view.budget → reg < 64 → register_in s.registers reg ≡ Own h → IsWellFormed n h.title →
+    length s.view.words ≡ n → refs_of first ≡ 0 →
+    IsFound h.title first s.view → CanStep steps.Write word →
+    IsFound h.title word (filled h.title value (after_look h.title first s.view)) → (line : ℕ) →
+    DoesOp line (ops.Write reg value) (answers.Done (seen_at h word)) s
+    (filled_stock (record s { view = after_look h.title first s.view }) h value word)
 filled_does counts looks owns states fills n s reg value first word h is aware stake budget below own well long none found can again =
     let t = h.title in
     let u = after_look t first s.view in
@@ -94,9 +101,11 @@ filled_does counts looks owns states fills n s reg value first word h is aware s
     let there = looked_stock looks owns s first h is stake in
     let fill = can_fill looks owns s reg first h is stake below own none in
     let frees = ((looks t first s.view least.1).0).frees t in
-    let step = touched_fill counts owns states fills n (record s { view = u }) value word h there (looked_stake looks s first h is stake) budget well long fill again
+    let step = touched_fill counts owns states fills n (record s { view = u }) value word h there
+    (looked_stake looks s first h is stake) budget well long fill again
     (λ free. held (let e = frees in omega arith)) in
-    quiet_does s w s.registers (ops.Write reg value) (answers.Done (seen_at h word)) (Looked t first ∷ Counted t steps.Write word value ∷ []) is.lists
+    quiet_does s w s.registers (ops.Write reg value) (answers.Done (seen_at h word))
+    (Looked t first ∷ Counted t steps.Write word value ∷ []) is.lists
     (touched_both s.thread (Looked t first) (Counted t steps.Write word value) s.view u w one_look step)
     (record { room = λ j e. cc; no_swap = λ j e. cc; cells = λ list x empty. empty })
     (owes_done s.registers (ops.Write reg value) (seen_at h word) t.len (Looked t first ∷ Counted t steps.Write word value ∷ [])
@@ -120,23 +129,31 @@ seen_is : (h : Handle) (seen : Seen) → seen.slot ≡ name_of h.title → seen 
 seen_is h seen e = ap (λ n. record seen { slot = n }) e
 
 -- a write to an Own at whose slot a look found a Ref counted did its op, which answers `shared`
-pub shared_does : LookLeaves → (s after : StockValue) (reg value : ℕ) (h : Handle) (seen : Seen) → IsStock s → IsAware s.view → HasItsStake s → reg < 64 →
-    register_in s.registers reg ≡ Own h → LooksAtSlot h seen s after → 0 < refs_of seen.found.0 → (line : ℕ) → DoesOp line (ops.Write reg value) (answers.Shared seen) s after
+pub shared_does : LookLeaves → (s after : StockValue) (reg value : ℕ) (h : Handle) (seen : Seen) → IsStock s →
+    IsAware s.view → HasItsStake s → reg < 64 →
+    register_in s.registers reg ≡ Own h → LooksAtSlot h seen s after → 0 < refs_of seen.found.0 → (line : ℕ) →
+    DoesOp line (ops.Write reg value) (answers.Shared seen) s after
 shared_does looks s after reg value h seen is aware stake below own at some line =
     subst (DoesOp line (ops.Write reg value) (answers.Shared seen) s) (sym at.after_is)
-    (looked_does looks s (ops.Write reg value) (answers.Shared seen) reg seen.found.0 h is aware stake below (inl own) at.found tt (seen_is h seen at.slot)
-    (λ o. subst (λ x. WriteRow (as_reg x) (regs_of s.registers) (answers.Shared seen) (regs_of s.registers)) (sym own) (seen, at.slot, λ k. refl, inl (some, refl)))
+    (looked_does looks s (ops.Write reg value) (answers.Shared seen) reg seen.found.0 h is aware stake below (inl own) at.found tt
+    (seen_is h seen at.slot)
+    (λ o. subst (λ x. WriteRow (as_reg x) (regs_of s.registers) (answers.Shared seen) (regs_of s.registers)) (sym own)
+    (seen, at.slot, λ k. refl, inl (some, refl)))
     (λ o line phase. tt) line)
 
 pub written_does : CountLeaves → LookLeaves → OwnsChange → StatesAreOwns → FilledWords
     → (n : ℕ) (s middle after : StockValue) (reg value : ℕ) (h : Handle) (first seen : Seen) → IsStock s → IsAware s.view →
-    HasItsStake s → 0 < s.view.budget → reg < 64 → register_in s.registers reg ≡ Own h → IsWellFormed n h.title → length s.view.words ≡ n → refs_of first.found.0 ≡ 0 →
-    LooksAtSlot h first s middle → WritesTo h value seen middle after → (line : ℕ) → DoesOp line (ops.Write reg value) (answers.Done seen) s after
-written_does counts looks owns states fills n s middle after reg value h first seen is aware stake budget below own well long none at writes line =
+    HasItsStake s → 0 < s.view.budget → reg < 64 → register_in s.registers reg ≡ Own h → IsWellFormed n h.title →
+    length s.view.words ≡ n → refs_of first.found.0 ≡ 0 →
+    LooksAtSlot h first s middle → WritesTo h value seen middle after → (line : ℕ) →
+    DoesOp line (ops.Write reg value) (answers.Done seen) s after
+written_does counts looks owns states fills n s middle after reg value h first seen is aware stake budget below own well long none
+    at writes line =
     let m = at.after_is in
     let t = h.title in
     subst (λ x. DoesOp line (ops.Write reg value) (answers.Done x) s after) (sym (seen_is h seen writes.slot))
     (subst (DoesOp line (ops.Write reg value) (answers.Done (seen_at h seen.found.0)) s)
     (sym (writes.after_is ∙ ap (λ (z : StockValue). filled_stock z h value seen.found.0) m))
-    (filled_does counts looks owns states fills n s reg value first.found.0 seen.found.0 h is aware stake budget below own well long none at.found writes.enabled
+    (filled_does counts looks owns states fills n s reg value first.found.0 seen.found.0 h is aware stake budget below own well long none
+    at.found writes.enabled
     (subst (λ (z : StockValue). IsFound t seen.found.0 (filled t value z.view)) m writes.found) line))

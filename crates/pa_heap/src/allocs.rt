@@ -26,8 +26,8 @@ use std::sync::Wait;
 
 impl<N: Name> Worker<N> {
     /// An allocation of this size in a partition, on this line: then the register owns the slot. It waits for the lock of the
-    /// partition's root if it needs that, and only then it may run out of memory: the worker is stopped then and owes nothing, and
-    /// all else is as before.
+    /// partition's root if it needs that, and only then it may run out of memory:
+    /// the worker is stopped then and owes nothing, and all else is as before.
     pub fn alloc<R: Wait>(
         &mut self,
         rt: &R,
@@ -66,8 +66,8 @@ impl<N: Name> Worker<N> {
     }
 }
 
-// An allocation of this size in a partition, on this line: then the register owns the slot. If it runs out of memory,
-// nothing changed.
+// An allocation of this size in a partition, on this line: then the register owns the slot.
+// If it runs out of memory, nothing changed.
 fn alloc<N: Name, R: Wait>(
     stock: &mut Stock<N>,
     rt: &R,

@@ -17,8 +17,8 @@ use std::sync::Wait;
 
 impl<N: Name> Worker<N> {
     /// A purge, on this line: in each partition of the run all lists of the worker go back to the root, which then decommits
-    /// its empty spans. If it runs out of memory it is stopped: what went back stays so, and a batch that a root refused is free in its
-    /// seat, on no list.
+    /// its empty spans. If it runs out of memory it is stopped: what went back stays so,
+    /// and a batch that a root refused is free in its seat, on no list.
     pub fn purge<R: Wait>(
         &mut self,
         rt: &R,

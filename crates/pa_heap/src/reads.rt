@@ -14,8 +14,8 @@ use pa_rules::looked_read;
 use pa_thread_state::{Heap, Stock};
 
 impl<N: Name> Worker<N> {
-    /// A read of a word, by its index from 0, of the slot that the register has a handle of, on this line. It waits for
-    /// nobody.
+    /// A read of a word, by its index from 0, of the slot that the register has a handle of,
+    /// on this line. It waits for nobody.
     pub fn deref(&mut self, heap: &Heap<N>, line: u32, reg: u32, place: u32) -> Answer
         requires ready { CanPlayOp self.old }
         requires reg { reg < register_count }

@@ -26,11 +26,13 @@ use Rattle.pa_legal.proofs.Growing.{moves_append, numbered_append}
 
 -- ---- what makes an entry, over a longer pool
 
-full_more : (pools more : List PoolEntry) (p : ℕ) (class : Option ℕ) (asked : ℕ) (x : Played) → MakesFull pools p class asked x → MakesFull (pools ++ more) p class asked x
+full_more : (pools more : List PoolEntry) (p : ℕ) (class : Option ℕ) (asked : ℕ) (x : Played) → MakesFull pools p class asked x →
+    MakesFull (pools ++ more) p class asked x
 full_more pools more p None asked x (size, asks, none) = (size, asks, act_at_more pools more asked _ none)
 full_more pools more p (Some class) asked x h = h
 
-makes_more : (pools more : List PoolEntry) (p : ℕ) (act : RootAct) (x : Played) → MakesEntry pools p act x → MakesEntry (pools ++ more) p act x
+makes_more : (pools more : List PoolEntry) (p : ℕ) (act : RootAct) (x : Played) → MakesEntry pools p act x →
+    MakesEntry (pools ++ more) p act x
 makes_more pools more p (Fill class asked slots) x h = h
 makes_more pools more p (Map asked slot len) x h = h
 makes_more pools more p (Full class asked) x h = full_more pools more p class asked x h
@@ -43,9 +45,11 @@ makes_more pools more p Purge x h = h
 module _ (partitions n : ℕ) (ps : List Played) (x : Played) (pools more : List PoolEntry) (roots : Journals) (acts : Acts) (all : Caches)
     (next : Cache) (h : IsPlacedTo partitions n ps pools roots all) (d : IsDeed partitions n x pools more roots acts (all x.thread) next)
   where
-    journal_is : (p : ℕ) → IsMore (pools ++ more) (roots p) (grown roots n acts p) (root_after (pools ++ more) (acts p) (root_at pools roots p))
+    journal_is : (p : ℕ) → IsMore (pools ++ more) (roots p) (grown roots n acts p)
+        (root_after (pools ++ more) (acts p) (root_at pools roots p))
     journal_is p =
-        journal_more (pools ++ more) (roots p) n (acts p) (root_at pools roots p) (journal_grows.pool_more pools more (roots p) (h.journals p))
+        journal_more (pools ++ more) (roots p) n (acts p) (root_at pools roots p)
+        (journal_grows.pool_more pools more (roots p) (h.journals p))
         (journal_grows.pool_same pools more (roots p) (h.journals p)) (d.fits p)
 
     -- what a record says, of those before the line and of the line's own
@@ -75,8 +79,10 @@ module _ (partitions n : ℕ) (ps : List Played) (x : Played) (pools more : List
 
     extended : IsPlacedTo partitions (n + 1) (ps ++ x ∷ []) (pools ++ more) (grown roots n acts) (with_cache all x.thread next)
     extended = record {
-      rising = pairs_push (λ (y z : Played). y.line < z.line) ps x h.rising (λ y among. let low = h.recorded y among in let at = d.line in omega arith);
-      recorded = each_record (λ y. y.line < n + 1) (λ y among. let low = h.recorded y among in omega arith) (let at = d.line in omega arith);
+      rising = pairs_push (λ (y z : Played). y.line < z.line) ps x h.rising
+          (λ y among. let low = h.recorded y among in let at = d.line in omega arith);
+      recorded = each_record (λ y. y.line < n + 1) (λ y among. let low = h.recorded y among in omega arith)
+          (let at = d.line in omega arith);
       entered = λ p e among. elim (grown_cases roots n acts p e among) [
         | inl old ↦ let low = h.entered p e old in omega arith
         | inr new ↦ let at = new.1 in omega arith
@@ -91,11 +97,13 @@ module _ (partitions n : ℕ) (ps : List Played) (x : Played) (pools more : List
       ];
       none_past = λ p past. ap (λ es. es ++ entries_at n (acts p)) (h.none_past p past) ∙ ap (entries_at n) (d.none_past p past);
       refusals = λ y j reg p size among. each_record
-          (λ z. z.answer ≡ answers.Full j → z.op ≡ ops.Alloc reg p size → (e : RootEntry) × IsEntry (grown roots n acts) p j e × (e.line ≡ z.line) × IsFull e.act)
+          (λ z. z.answer ≡ answers.Full j → z.op ≡ ops.Alloc reg p size → (e : RootEntry) × IsEntry (grown roots n acts) p j e ×
+          (e.line ≡ z.line) × IsFull e.act)
           (λ z member. refusals_old z member j reg p size)
           (λ answer op. let (e, there, line, full) = d.refusal j reg p size answer op in (e, there, line ∙ sym d.line, full))
           y among;
-      caches = caches_push partitions (grown roots n acts) ps x no_caches all next (caches_stay partitions roots (grown roots n acts) ps no_caches all stays h.caches) d.row;
+      caches = caches_push partitions (grown roots n acts) ps x no_caches all next
+          (caches_stay partitions roots (grown roots n acts) ps no_caches all stays h.caches) d.row;
       numbers = λ p s. subst (λ ms. IsNumbered (Some 0) ms) (sym (moves_append (roots p) (entries_at n (acts p)) s))
           (numbered_append (Some 0) (moves_of (roots p) s) (moves_of (entries_at n (acts p)) s) (h.numbers p s) (d.numbers p s));
       unmaps = each_record (λ y. UnmapsNext (grown roots n acts) y) unmaps_old d.unmaps;
@@ -106,6 +114,7 @@ line_extends partitions n ps x pools more roots acts all next h d = extended par
 
 pub line_replays : LineReplays
 line_replays = record {
-  roots = λ partitions n ps x pools more roots acts all next p h d. (journal_is partitions n ps x pools more roots acts all next h d p).root;
+  roots = λ partitions n ps x pools more roots acts all next p h d.
+      (journal_is partitions n ps x pools more roots acts all next h d p).root;
   pool = λ supers pools e. pool_grows.next supers pools e;
 }

@@ -79,18 +79,21 @@ line_passes = record {
 
 -- ---- the order of the lines is that of the phases
 
-pub phases_rise : (rules : Rules) (ls : List Line) (ps : List Played) (x y : Played) → AreLines rules ls ps → Contains ps x → Contains ps y → x.phase < y.phase → x.line < y.line
+pub phases_rise : (rules : Rules) (ls : List Line) (ps : List Played) (x y : Played) → AreLines rules ls ps → Contains ps x →
+    Contains ps y → x.phase < y.phase → x.line < y.line
 phases_rise rules ls ps x y lines first second less =
     lines_phases rules 2 1 ls (op_line_of x) (op_line_of y)
     (subst (λ z. Contains z (op_line_of x)) lines (map_in op_line_of ps x first))
     (subst (λ z. Contains z (op_line_of y)) lines (map_in op_line_of ps y second)) less
 
-before_is_less : (rules : Rules) (ls : List Line) (ps : List Played) (x y : Played) → AreLines rules ls ps → Contains ps x → Contains ps y → StandsBefore x y → x.line < y.line
+before_is_less : (rules : Rules) (ls : List Line) (ps : List Played) (x y : Played) → AreLines rules ls ps → Contains ps x → Contains ps y →
+    StandsBefore x y → x.line < y.line
 before_is_less rules ls ps x y lines first second (inl same) = same.1
 before_is_less rules ls ps x y lines first second (inr earlier) = phases_rise rules ls ps x y lines first second earlier
 
 -- if the lines are in order, the lesser line comes before
-sorted_before : {A : Type 0} (line : A → ℕ) (xs : List A) (i j : ℕ) (a b : A) → IsNonDecreasingBy line xs → slice_get xs i ≡ Some a → slice_get xs j ≡ Some b → line a < line b → i < j
+sorted_before : {A : Type 0} (line : A → ℕ) (xs : List A) (i j : ℕ) (a b : A) → IsNonDecreasingBy line xs → slice_get xs i ≡ Some a →
+    slice_get xs j ≡ Some b → line a < line b → i < j
 sorted_before line xs i j a b h first second less = elim (cases_lt i j) [
   | inl before ↦ before
   | inr past ↦

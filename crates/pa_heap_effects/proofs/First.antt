@@ -16,7 +16,8 @@ pub not_cons : {A : Type 0} (x : A) (xs : List A) → [] ≡ x ∷ xs → ⊥
 not_cons x xs e = cc
 
 -- the first of several slots is that of the first take
-first_took : (r : Root) (o : Option Title) (further : Root → Filled) (t : Title) (ts : List Title) → (and_then (record { root = r; title = o }) further).titles ≡ t ∷ ts → o ≡ Some t
+first_took : (r : Root) (o : Option Title) (further : Root → Filled) (t : Title) (ts : List Title) →
+    (and_then (record { root = r; title = o }) further).titles ≡ t ∷ ts → o ≡ Some t
 first_took r None further t ts e = absurd (not_cons t ts e)
 first_took r (Some u) further t ts e = ap Some (ap (λ zs. get_or zs 0 u) e)
 
@@ -27,7 +28,8 @@ front_start (suc k) s r t e =
     let at : s.place + slot_of s.class * 0 ≡ t.start = ap (λ (z : Title). z.start) (of_some (title_at s 0) t e) in
     omega arith
 
-new_start : (class : ℕ) (r : Root) (at : SuperPage) (t : Title) → (taken_from (at_page class r (Some at)) r).title ≡ Some t → t.start ≡ page_place at.number r.page
+new_start : (class : ℕ) (r : Root) (at : SuperPage) (t : Title) → (taken_from (at_page class r (Some at)) r).title ≡ Some t →
+    t.start ≡ page_place at.number r.page
 new_start class r at t e = elim (cases_Bool (nat_le (r.page + pages_of class) 127)) [
   | inl room ↦ front_start (more_slots (new_span class at r.page) - 0) (with_free (new_span class at r.page)) _ t (rw room at e)
   | inr full ↦ absurd (not_some t (rw full at e))
@@ -37,7 +39,8 @@ none_listed : (class : ℕ) (r : Root) (o : Option Span) → IsNone (found_or_ne
 none_listed class r None none = refl
 none_listed class r (Some s) none = let no : true ≡ false = none in absurd cc
 
-pub first_start : (class want first entry : ℕ) (r : Root) (t : Title) (ts : List Title) → IsNone (span_for class r) → (takes class want (opened first entry r)).titles ≡ t ∷ ts →
+pub first_start : (class want first entry : ℕ) (r : Root) (t : Title) (ts : List Title) → IsNone (span_for class r) →
+    (takes class want (opened first entry r)).titles ≡ t ∷ ts →
     t.start ≡ page_place first 1
 first_start class zero first entry r t ts none e = absurd (not_cons t ts e)
 first_start class (suc want) first entry r t ts none e =

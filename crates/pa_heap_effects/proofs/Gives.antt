@@ -20,7 +20,8 @@ use Rattle.pa_heap_effects.proofs.Lists.{names_append, parts_are_out, returned_s
 
 -- ---- acts one after the other
 
-pub after_append : (pools : List PoolEntry) (a b : List RootAct) (r : Root) → root_after pools (a ++ b) r ≡ root_after pools b (root_after pools a r)
+pub after_append : (pools : List PoolEntry) (a b : List RootAct) (r : Root) →
+    root_after pools (a ++ b) r ≡ root_after pools b (root_after pools a r)
 after_append pools [] b r = refl
 after_append pools (x ∷ a) b r = after_append pools a b (root_next pools x r)
 
@@ -49,7 +50,8 @@ cut_out : (r : Root) (k : ℕ) (xs : List Numbered) → AreOut r xs → AreOut r
 cut_out r k xs h = subst (λ z. AreOut r z) (sym (take-append-drop k xs)) h
 
 -- they fit, and so do the acts that follow in the root that they leave
-batches_fit : (pools : List PoolEntry) (least n : ℕ) (xs : List Numbered) (more : List RootAct) (r : Root) → length xs ≤ n → IsSound r → AreOut r xs →
+batches_fit : (pools : List PoolEntry) (least n : ℕ) (xs : List Numbered) (more : List RootAct) (r : Root) → length xs ≤ n → IsSound r →
+    AreOut r xs →
     ActsFit pools least more (all_returned (names xs) r) → ActsFit pools least (batches n xs ++ more) r
 batches_fit pools least zero [] more r few sound out rest = rest
 batches_fit pools least zero (x ∷ xs) more r few sound out rest = absurd (omega arith)
@@ -64,12 +66,14 @@ batches_fit pools least (suc n) (x ∷ xs) more r few sound out rest =
     ∙ parts_are_out.joined r (names (take 16 (x ∷ xs))) (names (drop 16 (x ∷ xs))) in (
       first,
       tt,
-      batches_fit pools least n (drop 16 (x ∷ xs)) more (all_returned (names (take 16 (x ∷ xs))) r) (omega arith) (returned_sound r (take 16 (x ∷ xs)) sound first)
+      batches_fit pools least n (drop 16 (x ∷ xs)) more (all_returned (names (take 16 (x ∷ xs))) r) (omega arith)
+          (returned_sound r (take 16 (x ∷ xs)) sound first)
           (parts_are_out.rest r (take 16 (x ∷ xs)) (drop 16 (x ∷ xs)) sound parts)
           (subst (λ z. ActsFit pools least more z) whole rest),
     )
 
-batches_after : (pools : List PoolEntry) (n : ℕ) (xs : List Numbered) (r : Root) → length xs ≤ n → root_after pools (batches n xs) r ≡ all_returned (names xs) r
+batches_after : (pools : List PoolEntry) (n : ℕ) (xs : List Numbered) (r : Root) → length xs ≤ n →
+    root_after pools (batches n xs) r ≡ all_returned (names xs) r
 batches_after pools zero [] r few = refl
 batches_after pools zero (x ∷ xs) r few = absurd (omega arith)
 batches_after pools (suc n) [] r few = refl
@@ -80,12 +84,15 @@ batches_after pools (suc n) (x ∷ xs) r few =
     ∙ ap (λ zs. all_returned zs r) (sym (names_append (take 16 (x ∷ xs)) (drop 16 (x ∷ xs))))
     ∙ ap (λ zs. all_returned (names zs) r) (take-append-drop 16 (x ∷ xs))
 
-pub gives_fit : (pools : List PoolEntry) (least : ℕ) (xs : List Numbered) (more : List RootAct) (r : Root) → IsSound r → AreOut r xs → ActsFit pools least more (all_returned (names xs) r) →
+pub gives_fit : (pools : List PoolEntry) (least : ℕ) (xs : List Numbered) (more : List RootAct) (r : Root) → IsSound r → AreOut r xs →
+    ActsFit pools least more (all_returned (names xs) r) →
     ActsFit pools least (gives xs ++ more) r
 gives_fit pools least xs more r sound out rest = batches_fit pools least (length xs) xs more r (omega arith) sound out rest
 
-pub gives_alone : (pools : List PoolEntry) (least : ℕ) (xs : List Numbered) (r : Root) → IsSound r → AreOut r xs → ActsFit pools least (gives xs) r
-gives_alone pools least xs r sound out = subst (λ z. ActsFit pools least z r) (append-nil (gives xs)) (gives_fit pools least xs [] r sound out tt)
+pub gives_alone : (pools : List PoolEntry) (least : ℕ) (xs : List Numbered) (r : Root) → IsSound r → AreOut r xs →
+    ActsFit pools least (gives xs) r
+gives_alone pools least xs r sound out =
+    subst (λ z. ActsFit pools least z r) (append-nil (gives xs)) (gives_fit pools least xs [] r sound out tt)
 
 pub gives_after : (pools : List PoolEntry) (xs : List Numbered) (r : Root) → root_after pools (gives xs) r ≡ all_returned (names xs) r
 gives_after pools xs r = batches_after pools (length xs) xs r (omega arith)
@@ -130,7 +137,8 @@ purge_leaves lists a m line among move = elim (purge_is lists 0 170 a among) [
   | inr e ↦ absurd (not_in_none m (subst (λ z. Contains (moves_by line z) m) e move))
 ]
 
-pub purge_fits : (pools : List PoolEntry) (least class n : ℕ) (lists : ℕ → List Numbered) (r : Root) → IsSound r → AreOut r (all_of lists class n) → ActsFit pools least (purge_acts lists class n) r
+pub purge_fits : (pools : List PoolEntry) (least class n : ℕ) (lists : ℕ → List Numbered) (r : Root) → IsSound r →
+    AreOut r (all_of lists class n) → ActsFit pools least (purge_acts lists class n) r
 purge_fits pools least class zero lists r sound out = (tt, tt, tt)
 purge_fits pools least class (suc n) lists r sound out =
     let first = parts_are_out.front r (lists class) (all_of lists (class + 1) n) out in
@@ -145,4 +153,5 @@ purge_after pools class (suc n) lists r =
     after_append pools (gives (lists class)) (purge_acts lists (class + 1) n) r
     ∙ ap (root_after pools (purge_acts lists (class + 1) n)) (gives_after pools (lists class) r)
     ∙ purge_after pools (class + 1) n lists (all_returned (names (lists class)) r)
-    ∙ ap purged (sym (parts_are_out.joined r (names (lists class)) (names (all_of lists (class + 1) n))) ∙ ap (λ zs. all_returned zs r) (sym (names_append (lists class) (all_of lists (class + 1) n))))
+    ∙ ap purged (sym (parts_are_out.joined r (names (lists class)) (names (all_of lists (class + 1) n))) ∙
+    ap (λ zs. all_returned zs r) (sym (names_append (lists class) (all_of lists (class + 1) n))))

@@ -44,7 +44,8 @@ entry_at n acts e among =
     let (a, member, is) = map_cases (λ (a : RootAct). record { line = n; act = a }) acts e among in
     (subst (λ z. Contains acts z) (ap (λ (f : RootEntry). f.act) is) member, sym (ap (λ (f : RootEntry). f.line) is))
 
-pub grown_cases : (roots : Journals) (n : ℕ) (acts : Acts) (p : ℕ) (e : RootEntry) → Contains (grown roots n acts p) e → Contains (roots p) e ⊎ (Contains (acts p) e.act × (e.line ≡ n))
+pub grown_cases : (roots : Journals) (n : ℕ) (acts : Acts) (p : ℕ) (e : RootEntry) → Contains (grown roots n acts p) e →
+    Contains (roots p) e ⊎ (Contains (acts p) e.act × (e.line ≡ n))
 grown_cases roots n acts p e among = elim (Contains-append_cases (roots p) (entries_at n (acts p)) e among) [
   | inl old ↦ inl old
   | inr new ↦ inr (entry_at n (acts p) e new)
@@ -53,26 +54,32 @@ grown_cases roots n acts p e among = elim (Contains-append_cases (roots p) (entr
 pub grown_old : (roots : Journals) (n : ℕ) (acts : Acts) (p : ℕ) (e : RootEntry) → Contains (roots p) e → Contains (grown roots n acts p) e
 grown_old roots n acts p e among = Contains-append_left (roots p) (entries_at n (acts p)) e among
 
-pub grown_new : (roots : Journals) (n : ℕ) (acts : Acts) (p : ℕ) (a : RootAct) → Contains (acts p) a → Contains (grown roots n acts p) (record { line = n; act = a })
+pub grown_new : (roots : Journals) (n : ℕ) (acts : Acts) (p : ℕ) (a : RootAct) → Contains (acts p) a →
+    Contains (grown roots n acts p) (record { line = n; act = a })
 grown_new roots n acts p a among =
-    Contains-append_right (roots p) (entries_at n (acts p)) (record { line = n; act = a }) (map_in (λ (b : RootAct). record { line = n; act = b }) (acts p) a among)
+    Contains-append_right (roots p) (entries_at n (acts p)) (record { line = n; act = a })
+    (map_in (λ (b : RootAct). record { line = n; act = b }) (acts p) a among)
 
 -- what the line did, and what the lines before it did
-pub line_acts : (roots : Journals) (n : ℕ) (acts : Acts) (p : ℕ) → ((e : RootEntry) → Contains (roots p) e → e.line < n) → acts_of (grown roots n acts) n p ≡ acts p
+pub line_acts : (roots : Journals) (n : ℕ) (acts : Acts) (p : ℕ) → ((e : RootEntry) → Contains (roots p) e → e.line < n) →
+    acts_of (grown roots n acts) n p ≡ acts p
 line_acts roots n acts p entered =
     acts_append (roots p) (entries_at n (acts p)) n
     ∙ ap (λ zs. zs ++ acts_at (entries_at n (acts p)) n) (acts_none (roots p) n (λ e among same. let low = entered e among in omega arith))
     ∙ acts_here n (acts p)
 
-pub lines_before : (roots : Journals) (n line : ℕ) (acts : Acts) (p : ℕ) → line < n → acts_of (grown roots n acts) line p ≡ acts_of roots line p
+pub lines_before : (roots : Journals) (n line : ℕ) (acts : Acts) (p : ℕ) → line < n →
+    acts_of (grown roots n acts) line p ≡ acts_of roots line p
 lines_before roots n line acts p low =
     acts_append (roots p) (entries_at n (acts p)) line
-    ∙ ap (λ zs. acts_at (roots p) line ++ zs) (acts_none (entries_at n (acts p)) line (λ e among same. let at = (entry_at n (acts p) e among).1 in omega arith))
+    ∙ ap (λ zs. acts_at (roots p) line ++ zs)
+    (acts_none (entries_at n (acts p)) line (λ e among same. let at = (entry_at n (acts p) e among).1 in omega arith))
     ∙ append-nil (acts_at (roots p) line)
 
 -- ---- the journal
 
-pub least_push : (least : ℕ) (es : List RootEntry) (e : RootEntry) → least_after_all least (es ++ e ∷ []) ≡ least_after (least_after_all least es) (asked_by e.act)
+pub least_push : (least : ℕ) (es : List RootEntry) (e : RootEntry) →
+    least_after_all least (es ++ e ∷ []) ≡ least_after (least_after_all least es) (asked_by e.act)
 least_push least [] e = refl
 least_push least (x ∷ es) e = least_push (least_after least (asked_by x.act)) es e
 
@@ -81,7 +88,8 @@ pub record IsMore (pools : List PoolEntry) (journal more : List RootEntry) (afte
   pub root : root_replayed pools more new_root ≡ after
 
 -- a journal with acts that fit
-pub journal_more : (pools : List PoolEntry) (journal : List RootEntry) (n : ℕ) (acts : List RootAct) (r : Root) → IsJournal pools journal → root_replayed pools journal new_root ≡ r →
+pub journal_more : (pools : List PoolEntry) (journal : List RootEntry) (n : ℕ) (acts : List RootAct) (r : Root) → IsJournal pools journal →
+    root_replayed pools journal new_root ≡ r →
     ActsFit pools (least_after_all 0 journal) acts r → IsMore pools journal (journal ++ entries_at n acts) (root_after pools acts r)
 journal_more pools journal n [] r h is fit = record {
   fits = subst (λ z. IsJournal pools z) (sym (append-nil journal)) h;
@@ -89,10 +97,13 @@ journal_more pools journal n [] r h is fit = record {
 }
 journal_more pools journal n (a ∷ acts) r h is (fits, asks, rest) =
     let e : RootEntry = record { line = n; act = a } in
-    let next : root_replayed pools (journal ++ e ∷ []) new_root ≡ root_next pools a r = journal_grows.next pools journal e ∙ ap (root_next pools a) is in
+    let next : root_replayed pools (journal ++ e ∷ []) new_root ≡ root_next pools a r = journal_grows.next pools journal e ∙
+    ap (root_next pools a) is in
     let one = journal_grows.fits pools journal e h (subst (λ z. RootActFits pools a z) (sym is) fits) asks in
-    let more = journal_more pools (journal ++ e ∷ []) n acts (root_next pools a r) one next (subst (λ z. ActsFit pools z acts (root_next pools a r)) (sym (least_push 0 journal e)) rest) in
-    let same : (journal ++ e ∷ []) ++ entries_at n acts ≡ journal ++ entries_at n (a ∷ acts) = append_assoc journal (e ∷ []) (entries_at n acts) in
+    let more = journal_more pools (journal ++ e ∷ []) n acts (root_next pools a r) one next
+    (subst (λ z. ActsFit pools z acts (root_next pools a r)) (sym (least_push 0 journal e)) rest) in
+    let same : (journal ++ e ∷ []) ++ entries_at n acts ≡ journal ++
+    entries_at n (a ∷ acts) = append_assoc journal (e ∷ []) (entries_at n acts) in
     record {
       fits = subst (λ z. IsJournal pools z) same more.fits;
       root = ap (λ z. root_replayed pools z new_root) (sym same) ∙ more.root;
@@ -100,10 +111,13 @@ journal_more pools journal n (a ∷ acts) r h is (fits, asks, rest) =
 
 -- ---- the order of the lines
 
-pub sorted_push : {A : Type 0} (line : A → ℕ) (xs : List A) (y : A) → IsNonDecreasingBy line xs → ((x : A) → Contains xs x → line x ≤ line y) → IsNonDecreasingBy line (xs ++ y ∷ [])
-sorted_push line xs y h low = IsNonDecreasingBy-push line xs y h (λ d some. low (get_or xs (length xs - 1) d) (Contains-get_or xs (length xs - 1) d (omega arith)))
+pub sorted_push : {A : Type 0} (line : A → ℕ) (xs : List A) (y : A) → IsNonDecreasingBy line xs →
+    ((x : A) → Contains xs x → line x ≤ line y) → IsNonDecreasingBy line (xs ++ y ∷ [])
+sorted_push line xs y h low =
+    IsNonDecreasingBy-push line xs y h (λ d some. low (get_or xs (length xs - 1) d) (Contains-get_or xs (length xs - 1) d (omega arith)))
 
-pub sorted_more : (journal : List RootEntry) (n : ℕ) (acts : List RootAct) → IsNonDecreasingBy (λ (e : RootEntry). e.line) journal → ((e : RootEntry) → Contains journal e → e.line ≤ n) →
+pub sorted_more : (journal : List RootEntry) (n : ℕ) (acts : List RootAct) → IsNonDecreasingBy (λ (e : RootEntry). e.line) journal →
+    ((e : RootEntry) → Contains journal e → e.line ≤ n) →
     IsNonDecreasingBy (λ (e : RootEntry). e.line) (journal ++ entries_at n acts)
 sorted_more journal n [] h low = subst (λ z. IsNonDecreasingBy (λ (e : RootEntry). e.line) z) (sym (append-nil journal)) h
 sorted_more journal n (a ∷ acts) h low =

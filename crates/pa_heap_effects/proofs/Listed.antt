@@ -66,14 +66,16 @@ listed_is s lists class (suc n) =
     let ih = listed_is s lists (class + 1) n in
     omega arith
 
-listed_from : (lists : ℕ → List Numbered) (class n : ℕ) (m : Numbered) → Contains (all_of lists class n) m → (c : ℕ) × (class ≤ c) × (c < class + n) × Contains (lists c) m
+listed_from : (lists : ℕ → List Numbered) (class n : ℕ) (m : Numbered) → Contains (all_of lists class n) m → (c : ℕ) × (class ≤ c) ×
+    (c < class + n) × Contains (lists c) m
 listed_from lists class zero m among = absurd (not_in_none m among)
 listed_from lists class (suc n) m among = elim (Contains-append_cases (lists class) (all_of lists (class + 1) n) m among) [
   | inl here ↦ (class, omega arith, omega arith, here)
   | inr rest ↦ let (c, low, high, there) = listed_from lists (class + 1) n m rest in (c, omega arith, omega arith, there)
 ]
 
-pub listed_least : (s : SlotName) (lists : ℕ → List Numbered) (c class n : ℕ) → class ≤ c → c < class + n → stands s (lists c) ≤ listed_times s lists class n
+pub listed_least : (s : SlotName) (lists : ℕ → List Numbered) (c class n : ℕ) → class ≤ c → c < class + n →
+    stands s (lists c) ≤ listed_times s lists class n
 unfolding listed_times
 listed_least s lists c class zero low high = absurd (omega arith)
 listed_least s lists c class (suc n) low high = elim (cases_eq class c) [
@@ -81,16 +83,19 @@ listed_least s lists c class (suc n) low high = elim (cases_eq class c) [
   | inr other ↦ let ih = listed_least s lists c (class + 1) n (omega arith) (omega arith) in omega arith
 ]
 
-pub cached_least : (s : SlotName) (all : Caches) (p threads t : ℕ) → t < threads → listed_times s (all t p) 0 170 ≤ cached_times s all p threads
+pub cached_least : (s : SlotName) (all : Caches) (p threads t : ℕ) → t < threads →
+    listed_times s (all t p) 0 170 ≤ cached_times s all p threads
 cached_least s all p zero t below = absurd (omega arith)
 cached_least s all p (suc u) t below = elim (cases_eq u t) [
-  | inl e ↦ let same : listed_times s (all u p) 0 170 ≡ listed_times s (all t p) 0 170 = ap (λ z. listed_times s (all z p) 0 170) e in omega arith
+  | inl e ↦ let same : listed_times s (all u p) 0 170 ≡ listed_times s (all t p) 0 170 = ap (λ z. listed_times s (all z p) 0 170) e in
+      omega arith
   | inr other ↦ let ih = cached_least s all p u t (omega arith) in omega arith
 ]
 
 -- ---- a slot of the run so far
 
-module _ (supers partitions n : ℕ) (ls : List Line) (ps : List Played) (pools : List PoolEntry) (roots : Journals) (all : Caches) (h : IsSoFar supers partitions n ls ps pools roots all) where
+module _ (supers partitions n : ℕ) (ls : List Line) (ps : List Played) (pools : List PoolEntry) (roots : Journals) (all : Caches)
+    (h : IsSoFar supers partitions n ls ps pools roots all) where
   are_roots : AreRoots partitions ps pools roots
   are_roots = (placed_are_roots supers partitions n h.rules ls ps pools roots all h.lines h.placed h.pooled).0
 
@@ -127,7 +132,8 @@ module _ (supers partitions n : ℕ) (ls : List Line) (ps : List Played) (pools 
   ]
 
   -- what is out under the name of a slot of a class is a slot of a span
-  pub class_out : (p class : ℕ) (s : SlotName) → IsOfClass roots s p class → IsNameOut (root_at pools roots p) s → IsOut (root_at pools roots p) s
+  pub class_out : (p class : ℕ) (s : SlotName) → IsOfClass roots s p class → IsNameOut (root_at pools roots p) s →
+      IsOut (root_at pools roots p) s
   class_out p class s of out = elim (name_cases (root_at pools roots p) s out) [
     | inl slot ↦ slot
     | inr (u, member, same) ↦
@@ -136,7 +142,8 @@ module _ (supers partitions n : ℕ) (ls : List Line) (ps : List Played) (pools 
         absurd (not_both u member same t is made)
   ]
     where
-      not_both : (u : Title) → Contains (root_at pools roots p).maps u → s ≡ name_of u → (t : Title) → name_of t ≡ s → IsMadeBy pools (roots p) t → ⊥
+      not_both : (u : Title) → Contains (root_at pools roots p).maps u → s ≡ name_of u → (t : Title) → name_of t ≡ s →
+          IsMadeBy pools (roots p) t → ⊥
       not_both u member same t is (inl made) =
           let left = journal_leaves pools (roots p) (h.placed.journals p) in
           let (at, there, born) = made_born (root_at pools roots p) t left.sound made in
@@ -150,10 +157,12 @@ module _ (supers partitions n : ℕ) (ls : List Line) (ps : List Played) (pools 
   word_of_slot s = let (vs, run, one) = h.slots s in (last_word 0 vs, (vs, run, refl))
 
   known_class : (t p class : ℕ) (m : Numbered) → Contains (all t p class) m → IsOfClass roots m.slot p class
-  known_class t p class m among = all_known partitions roots ps no_caches all (λ u q c k none. absurd (not_in_none k none)) h.placed.caches t p class m among
+  known_class t p class m among =
+      all_known partitions roots ps no_caches all (λ u q c k none. absurd (not_in_none k none)) h.placed.caches t p class m among
 
   -- a slot of a list is out, and is in no other
-  listed_out : (t p class : ℕ) (m : Numbered) → Contains (all t p class) m → IsOut (root_at pools roots p) m.slot × (listed_times m.slot (all t p) 0 170 ≤ 1)
+  listed_out : (t p class : ℕ) (m : Numbered) → Contains (all t p class) m → IsOut (root_at pools roots p) m.slot ×
+      (listed_times m.slot (all t p) 0 170 ≤ 1)
   listed_out t p class m among =
       let of = known_class t p class m among in
       let left = class_leaves roots m.slot p class of in
@@ -174,7 +183,8 @@ module _ (supers partitions n : ℕ) (ls : List Line) (ps : List Played) (pools 
     once_differ (names (all_of (all t p) 0 170)) once,
   )
     where
-      members_out : (P : SlotName → Type 0) → ((m : Numbered) → Contains (all_of (all t p) 0 170) m → P m.slot) → All P (names (all_of (all t p) 0 170))
+      members_out : (P : SlotName → Type 0) → ((m : Numbered) → Contains (all_of (all t p) 0 170) m → P m.slot) →
+          All P (names (all_of (all t p) 0 170))
       members_out P each = all_from_members P (names (all_of (all t p) 0 170)) (λ s among.
           let (m, member, is) = map_cases (λ (z : Numbered). z.slot) (all_of (all t p) 0 170) s among in
           subst P is (each m member))
@@ -193,7 +203,8 @@ module _ (supers partitions n : ℕ) (ls : List Line) (ps : List Played) (pools 
       ]
 
   -- the slot that a step returns is out, and in no list
-  pub returned_out : (p t class : ℕ) (s : SlotName) (step : Step) (w : ℕ) → IsOfClass roots s p class → HasWord ps s w → IsReturning step w →
+  pub returned_out : (p t class : ℕ) (s : SlotName) (step : Step) (w : ℕ) → IsOfClass roots s p class → HasWord ps s w →
+      IsReturning step w →
       IsOut (root_at pools roots p) s × (stands s (all t p class) ≡ 0)
   returned_out p t class s step w of word returning =
       let left = class_leaves roots s p class of in

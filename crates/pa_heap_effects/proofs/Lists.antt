@@ -52,21 +52,24 @@ once_differ (x ∷ xs) few =
 pub names_append : (xs ys : List Numbered) → names (xs ++ ys) ≡ names xs ++ names ys
 names_append xs ys = map-append (λ (n : Numbered). n.slot) xs ys
 
-parts_out : (r : Root) (xs ys : List Numbered) → AreOut r (xs ++ ys) → All (IsOut r) (names xs ++ names ys) × AllPairs ◌≢◌ (names xs ++ names ys)
+parts_out : (r : Root) (xs ys : List Numbered) → AreOut r (xs ++ ys) → All (IsOut r) (names xs ++ names ys) ×
+    AllPairs ◌≢◌ (names xs ++ names ys)
 parts_out r xs ys h = (subst (λ z. All (IsOut r) z) (names_append xs ys) h.0, subst (λ z. AllPairs ◌≢◌ z) (names_append xs ys) h.1)
 
 front : (r : Root) (xs ys : List Numbered) → AreOut r (xs ++ ys) → AreOut r xs
 front r xs ys h =
     let (out, differ) = parts_out r xs ys h in (
       all_front (IsOut r) (names xs) (names ys) out,
-      once_differ (names xs) (λ s. let a = times_append s (names xs) (names ys) in let b = differ_once s (names xs ++ names ys) differ in omega arith),
+      once_differ (names xs) (λ s. let a = times_append s (names xs) (names ys) in let b = differ_once s (names xs ++ names ys) differ in
+          omega arith),
     )
 
 behind : (r : Root) (xs ys : List Numbered) → AreOut r (xs ++ ys) → AreOut r ys
 behind r xs ys h =
     let (out, differ) = parts_out r xs ys h in (
       all_back (IsOut r) (names xs) (names ys) out,
-      once_differ (names ys) (λ s. let a = times_append s (names xs) (names ys) in let b = differ_once s (names xs ++ names ys) differ in omega arith),
+      once_differ (names ys) (λ s. let a = times_append s (names xs) (names ys) in let b = differ_once s (names xs ++ names ys) differ in
+          omega arith),
     )
 
 -- what comes back leaves the others out
@@ -98,7 +101,8 @@ pub returned_sound : (r : Root) (xs : List Numbered) → IsSound r → AreOut r 
 returned_sound r xs sound h = (return_keeps.returns r (names xs) sound h.0 h.1).kept.sound
 
 -- one of some lists
-pub listed_alone : (r : Root) (lists : ℕ → List Numbered) (c class n : ℕ) → class ≤ c → c < class + n → AreOut r (all_of lists class n) → AreOut r (lists c)
+pub listed_alone : (r : Root) (lists : ℕ → List Numbered) (c class n : ℕ) → class ≤ c → c < class + n → AreOut r (all_of lists class n) →
+    AreOut r (lists c)
 listed_alone r lists c class zero low high h = absurd (omega arith)
 listed_alone r lists c class (suc n) low high h = elim (cases_eq class c) [
   | inl e ↦ subst (λ z. AreOut r (lists z)) e (front r (lists class) (all_of lists (class + 1) n) h)

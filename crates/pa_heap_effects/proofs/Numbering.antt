@@ -31,7 +31,8 @@ use Rattle.pa_legal.proofs.Converse.{left_snoc, back_snoc, act_way}
 -- ---- one entry
 
 -- at most one move, which the root's number allows
-at_most_one : (at : Option ℕ) (ms : List Move) → counted is_out ms + counted is_back ms ≤ 1 → ((m : Move) → Contains ms m → HasAt at m.way m.number) → IsNumbered at ms
+at_most_one : (at : Option ℕ) (ms : List Move) → counted is_out ms + counted is_back ms ≤ 1 →
+    ((m : Move) → Contains ms m → HasAt at m.way m.number) → IsNumbered at ms
 at_most_one at [] few has = tt
 at_most_one at (m ∷ []) few has = (has m (first_in m []), tt)
 at_most_one at (m ∷ n ∷ ms) few has =
@@ -75,10 +76,13 @@ had_some (Some k) e = (k, refl)
 -- what leaves is at the number at which the root has it
 abbrev pub LeavesAt : List RootEntry → RootAct → SlotName → Type 0
 LeavesAt journal act s =
-    (m : Move) (line k : ℕ) → Contains (moves_by line act) m → m.way ≡ Out → m.slot ≡ s → at_end (Some 0) (moves_of journal s) ≡ Some k → m.number ≡ k
+    (m : Move) (line k : ℕ) → Contains (moves_by line act) m → m.way ≡ Out → m.slot ≡ s → at_end (Some 0) (moves_of journal s) ≡ Some k →
+    m.number ≡ k
 
-pub one_numbered : (pools : List PoolEntry) (journal : List RootEntry) (e : RootEntry) (s : SlotName) → IsJournal pools journal → IsJournal pools (journal ++ e ∷ []) →
-    IsNumbered (Some 0) (moves_of journal s) → LeavesAt journal e.act s → IsNumbered (at_end (Some 0) (moves_of journal s)) (moves_of (e ∷ []) s)
+pub one_numbered : (pools : List PoolEntry) (journal : List RootEntry) (e : RootEntry) (s : SlotName) → IsJournal pools journal →
+    IsJournal pools (journal ++ e ∷ []) →
+    IsNumbered (Some 0) (moves_of journal s) → LeavesAt journal e.act s →
+    IsNumbered (at_end (Some 0) (moves_of journal s)) (moves_of (e ∷ []) s)
 one_numbered pools journal e s h h' numbered leaves =
     subst (λ ms. IsNumbered (at_end (Some 0) (moves_of journal s)) (filter (is_of s) ms)) (sym (append-nil (moves_by e.line e.act)))
     (at_most_one (at_end (Some 0) (moves_of journal s)) (filter (is_of s) (moves_by e.line e.act)) few each)
@@ -119,7 +123,8 @@ one_numbered pools journal e s h h' numbered leaves =
             let (low, high) = left_or_back pools journal s h in
             let (low', high') = left_or_back pools (journal ++ e ∷ []) s h' in
             let w = weighed in
-            let one : had (at_end (Some 0) (moves_of journal s)) ≡ 1 = elim (act_way s e.act) [ inl none ↦ omega arith | inr none ↦ omega arith ] in
+            let one : had (at_end (Some 0) (moves_of journal s)) ≡ 1 =
+            elim (act_way s e.act) [ inl none ↦ omega arith | inr none ↦ omega arith ] in
             let (k, is) = had_some (at_end (Some 0) (moves_of journal s)) one in
             is ∙ ap Some (sym (leaves m e.line k member way slot is))
         by_way m Back way among member slot =
@@ -130,7 +135,8 @@ one_numbered pools journal e s h h' numbered leaves =
             let (low, high) = left_or_back pools journal s h in
             let (low', high') = left_or_back pools (journal ++ e ∷ []) s h' in
             let w = weighed in
-            let none : had (at_end (Some 0) (moves_of journal s)) ≡ 0 = elim (act_way s e.act) [ inl none ↦ omega arith | inr none ↦ omega arith ] in
+            let none : had (at_end (Some 0) (moves_of journal s)) ≡ 0 =
+            elim (act_way s e.act) [ inl none ↦ omega arith | inr none ↦ omega arith ] in
             none_had (at_end (Some 0) (moves_of journal s)) none
 
 -- ---- a slot that never left
@@ -143,14 +149,16 @@ times_none s (t ∷ ss) none =
     let ih = times_none s ss (λ among. none (later_in t s ss among)) in
     omega arith
 
-pub none_left : (s : SlotName) (es : List RootEntry) → ((e : RootEntry) → Contains es e → Contains (leaves_by e.act) s → ⊥) → times_left s es ≡ 0
+pub none_left : (s : SlotName) (es : List RootEntry) → ((e : RootEntry) → Contains es e → Contains (leaves_by e.act) s → ⊥) →
+    times_left s es ≡ 0
 none_left s [] none = refl
 none_left s (e ∷ es) none =
     let here = times_none s (leaves_by e.act) (none e (first_in e es)) in
     let ih = none_left s es (λ f among. none f (later_in e f es among)) in
     omega arith
 
-pub never_moved : (pools : List PoolEntry) (journal : List RootEntry) (s : SlotName) → IsJournal pools journal → ((e : RootEntry) → Contains journal e → Contains (leaves_by e.act) s → ⊥) →
+pub never_moved : (pools : List PoolEntry) (journal : List RootEntry) (s : SlotName) → IsJournal pools journal →
+    ((e : RootEntry) → Contains journal e → Contains (leaves_by e.act) s → ⊥) →
     moves_of journal s ≡ []
 never_moved pools journal s h none =
     let left = none_left s journal none in
@@ -168,17 +176,21 @@ NothingLeaves acts = (a : RootAct) (m : Move) (line : ℕ) → Contains acts a �
 out_is_not_back : Out ≡ Back → ⊥
 out_is_not_back e = cc
 
-pub backs_numbered : (pools : List PoolEntry) (journal : List RootEntry) (n : ℕ) (acts : List RootAct) (s : SlotName) → IsJournal pools journal →
-    ActsFit pools (least_after_all 0 journal) acts (root_replayed pools journal new_root) → IsNumbered (Some 0) (moves_of journal s) → NothingLeaves acts →
+pub backs_numbered : (pools : List PoolEntry) (journal : List RootEntry) (n : ℕ) (acts : List RootAct) (s : SlotName) →
+    IsJournal pools journal →
+    ActsFit pools (least_after_all 0 journal) acts (root_replayed pools journal new_root) → IsNumbered (Some 0) (moves_of journal s) →
+    NothingLeaves acts →
     IsNumbered (at_end (Some 0) (moves_of journal s)) (moves_of (entries_at n acts) s)
 backs_numbered pools journal n [] s h fit numbered back = tt
 backs_numbered pools journal n (a ∷ acts) s h (fits, asks, rest) numbered back =
     let e : RootEntry = record { line = n; act = a } in
     let one = journal_grows.fits pools journal e h fits asks in
     let next = journal_grows.next pools journal e in
-    let here = one_numbered pools journal e s h one numbered (λ m line k member way. absurd (out_is_not_back (sym way ∙ back a m line (first_in a acts) member))) in
+    let here = one_numbered pools journal e s h one numbered
+    (λ m line k member way. absurd (out_is_not_back (sym way ∙ back a m line (first_in a acts) member))) in
     let whole : IsNumbered (Some 0) (moves_of (journal ++ e ∷ []) s) =
-    subst (λ ms. IsNumbered (Some 0) ms) (sym (moves_append journal (e ∷ []) s)) (numbered_append (Some 0) (moves_of journal s) (moves_of (e ∷ []) s) numbered here) in
+    subst (λ ms. IsNumbered (Some 0) ms) (sym (moves_append journal (e ∷ []) s))
+    (numbered_append (Some 0) (moves_of journal s) (moves_of (e ∷ []) s) numbered here) in
     let fit : ActsFit pools (least_after_all 0 (journal ++ e ∷ [])) acts (root_replayed pools (journal ++ e ∷ []) new_root) =
     subst (λ r. ActsFit pools (least_after_all 0 (journal ++ e ∷ [])) acts r) (sym next)
     (subst (λ z. ActsFit pools z acts (root_next pools a (root_replayed pools journal new_root))) (sym (least_push 0 journal e)) rest) in

@@ -34,7 +34,8 @@ goes_here n ps pools roots = record {
   below = λ p e among. absurd (not_in_none e among);
 }
 
-goes_further : (n m : ℕ) (ps later : List Played) (x : Played) (pools more made : List PoolEntry) (roots grows : Journals) (acts : Acts) → n ≤ m → x.line ≡ m →
+goes_further : (n m : ℕ) (ps later : List Played) (x : Played) (pools more made : List PoolEntry) (roots grows : Journals) (acts : Acts) →
+    n ≤ m → x.line ≡ m →
     GoesOn n ps later pools more roots grows → GoesOn n ps (later ++ x ∷ []) pools (more ++ made) roots (grown grows m acts)
 goes_further n m ps later x pools more made roots grows acts low line g = record {
   records = g.records ++ x ∷ [];
@@ -58,12 +59,14 @@ run_goes_on = record { here = goes_here; line = goes_further }
 
 -- ---- the lists
 
-stays_on : (partitions n : ℕ) (ps later : List Played) (pools more : List PoolEntry) (roots grows : Journals) (all : Caches) → IsPlacedTo partitions n ps pools roots all →
+stays_on : (partitions n : ℕ) (ps later : List Played) (pools more : List PoolEntry) (roots grows : Journals) (all : Caches) →
+    IsPlacedTo partitions n ps pools roots all →
     GoesOn n ps later pools more roots grows → (x : Played) → Contains ps x → Stays roots grows x.line
 stays_on partitions n ps later pools more roots grows all h g x among = record {
   acts = λ q. ap (λ es. acts_at es x.line) (g.grown q)
       ∙ acts_append (roots q) (g.journals q) x.line
-      ∙ ap (λ zs. acts_of roots x.line q ++ zs) (acts_none (g.journals q) x.line (λ e member same. let low = h.recorded x among in let high = g.below q e member in omega arith))
+      ∙ ap (λ zs. acts_of roots x.line q ++ zs)
+      (acts_none (g.journals q) x.line (λ e member same. let low = h.recorded x among in let high = g.below q e member in omega arith))
       ∙ append-nil (acts_of roots x.line q);
   more = λ q e member. subst (λ es. Contains es e) (sym (g.grown q)) (Contains-append_left (roots q) (g.journals q) e member);
 }
@@ -76,21 +79,26 @@ caches_stay partitions n ps later pools more roots grows all h g =
 
 until_all : (phase : ℕ) (xs : List Played) → ((x : Played) → Contains xs x → x.phase ≤ phase) → until phase xs ≡ xs
 until_all phase [] low = refl
-until_all phase (x ∷ xs) low = rw (le-leb x.phase phase (low x (first_in x xs))) (ap (λ zs. x ∷ zs) (until_all phase xs (λ y among. low y (later_in x y xs among))))
+until_all phase (x ∷ xs) low =
+    rw (le-leb x.phase phase (low x (first_in x xs))) (ap (λ zs. x ∷ zs) (until_all phase xs (λ y among. low y (later_in x y xs among))))
 
 until_none : (phase : ℕ) (xs : List Played) → ((x : Played) → Contains xs x → phase < x.phase) → until phase xs ≡ []
 until_none phase [] high = refl
-until_none phase (x ∷ xs) high = rw (lt-leb x.phase phase (high x (first_in x xs))) (until_none phase xs (λ y among. high y (later_in x y xs among)))
+until_none phase (x ∷ xs) high =
+    rw (lt-leb x.phase phase (high x (first_in x xs))) (until_none phase xs (λ y among. high y (later_in x y xs among)))
 
-module _ (partitions n m phase : ℕ) (ps later : List Played) (pools more : List PoolEntry) (roots grows : Journals) (all then : Caches) (h : IsPlacedTo partitions n ps pools roots all)
-    (k : IsPlacedTo partitions m later more grows then) (g : GoesOn n ps later pools more roots grows) (low : (x : Played) → Contains ps x → x.phase ≤ phase)
+module _ (partitions n m phase : ℕ) (ps later : List Played) (pools more : List PoolEntry) (roots grows : Journals) (all then : Caches)
+    (h : IsPlacedTo partitions n ps pools roots all)
+    (k : IsPlacedTo partitions m later more grows then) (g : GoesOn n ps later pools more roots grows)
+    (low : (x : Played) → Contains ps x → x.phase ≤ phase)
     (high : (x : Played) → Contains later x → n ≤ x.line → phase < x.phase) where
   records_until : until phase later ≡ ps
   records_until =
       ap (until phase) g.played
       ∙ filter-append (λ (x : Played). nat_le x.phase phase) ps g.records
       ∙ ap (λ zs. until phase ps ++ zs)
-      (until_none phase g.records (λ x among. high x (subst (λ zs. Contains zs x) (sym g.played) (Contains-append_right ps g.records x among)) (g.after x among)))
+      (until_none phase g.records
+      (λ x among. high x (subst (λ zs. Contains zs x) (sym g.played) (Contains-append_right ps g.records x among)) (g.after x among)))
       ∙ append-nil (until phase ps)
       ∙ until_all phase ps low
 
@@ -102,7 +110,8 @@ module _ (partitions n m phase : ℕ) (ps later : List Played) (pools more : Lis
         let (x, of, makes) = h.lines p e among in
         (x, (subst (λ zs. Contains zs x) (sym g.played) (Contains-append_left ps g.records x of.0), of.1), low x of.0));
     past_phases = all_from_members (PastPhases later phase) (g.journals p) (λ e among.
-        let (x, of, makes) = k.lines p e (subst (λ zs. Contains zs e) (sym (g.grown p)) (Contains-append_right (roots p) (g.journals p) e among)) in
+        let (x, of, makes) = k.lines p e
+        (subst (λ zs. Contains zs e) (sym (g.grown p)) (Contains-append_right (roots p) (g.journals p) e among)) in
         let after = g.below p e among in
         let line = of.1 in
         (x, of, high x of.0 (omega arith)));
@@ -112,13 +121,16 @@ module _ (partitions n m phase : ℕ) (ps later : List Played) (pools more : Lis
   census_then p = (
     roots p,
     entries_until p,
-    ap census (sym (journal_grows.pool_same pools g.entries (roots p) (h.journals p)) ∙ ap (λ zs. root_replayed zs (roots p) new_root) (sym g.pooled)),
+    ap census (sym (journal_grows.pool_same pools g.entries (roots p) (h.journals p)) ∙
+        ap (λ zs. root_replayed zs (roots p) new_root) (sym g.pooled)),
   )
 
-  cached_then : (threads p : ℕ) (tally : Tally) → tally.slots ≡ cached_slots all p threads → tally.bytes ≡ cached_bytes all p threads → IsCached partitions threads grows (until phase later) p tally
+  cached_then : (threads p : ℕ) (tally : Tally) → tally.slots ≡ cached_slots all p threads → tally.bytes ≡ cached_bytes all p threads →
+      IsCached partitions threads grows (until phase later) p tally
   cached_then threads p tally slots bytes = (
     all,
-    subst (λ zs. CachesTo partitions grows no_caches zs all) (sym records_until) (caches_stay partitions n ps later pools more roots grows all h g),
+    subst (λ zs. CachesTo partitions grows no_caches zs all) (sym records_until)
+        (caches_stay partitions n ps later pools more roots grows all h g),
     slots,
     bytes,
   )

@@ -18,7 +18,8 @@ use Rattle.pa_heap_effects.proofs.Growing.{sorted_push}
 use Rattle.pa_lists.proofs.Indexed.{at_in, slice_get_at}
 
 -- an element of two lists is one of the first, or comes after it
-pub get_cases : {A : Type 0} (xs ys : List A) (i : ℕ) (x : A) → slice_get (xs ++ ys) i ≡ Some x → (slice_get xs i ≡ Some x) ⊎ ((k : ℕ) × (i ≡ length xs + k) × (slice_get ys k ≡ Some x))
+pub get_cases : {A : Type 0} (xs ys : List A) (i : ℕ) (x : A) → slice_get (xs ++ ys) i ≡ Some x → (slice_get xs i ≡ Some x) ⊎
+    ((k : ℕ) × (i ≡ length xs + k) × (slice_get ys k ≡ Some x))
 get_cases [] ys i x e = inr (i, omega arith, e)
 get_cases (y ∷ xs) ys zero x e = inl e
 get_cases (y ∷ xs) ys (suc i) x e = elim (get_cases xs ys i x e) [
@@ -44,7 +45,8 @@ none_named o j none some = not_some j (sym none ∙ some)
 
 -- ---- no entry more
 
-module _ (supers n : ℕ) (pools : List PoolEntry) (roots : Journals) (acts : Acts) (h : IsPooledTo supers n pools roots) (asks : AsksNone acts) where
+module _ (supers n : ℕ) (pools : List PoolEntry) (roots : Journals) (acts : Acts) (h : IsPooledTo supers n pools roots)
+    (asks : AsksNone acts) where
   names_old : (p i j : ℕ) → Names (grown roots n acts) p i j → Names roots p i j
   names_old p i j names = elim (names_cases roots n acts p i j names) [
     | inl old ↦ old
@@ -65,7 +67,8 @@ module _ (supers n : ℕ) (pools : List PoolEntry) (roots : Journals) (acts : Ac
 
 -- ---- one entry more
 
-module _ (supers n : ℕ) (pools : List PoolEntry) (e : PoolEntry) (roots : Journals) (acts : Acts) (h : IsPooledTo supers n pools roots) (asks : AsksOnce supers n pools e acts) where
+module _ (supers n : ℕ) (pools : List PoolEntry) (e : PoolEntry) (roots : Journals) (acts : Acts) (h : IsPooledTo supers n pools roots)
+    (asks : AsksOnce supers n pools e acts) where
   one_only : (k : ℕ) (a b : RootAct) → slice_get (a ∷ []) k ≡ Some b → (k ≡ 0) × (a ≡ b)
   one_only zero a b is = (refl, of_some a b is)
   one_only (suc k) a b is = absurd (not_some b is)
@@ -138,7 +141,8 @@ module _ (supers n : ℕ) (pools : List PoolEntry) (e : PoolEntry) (roots : Jour
       | inl old ↦ let low = h.entered f old in omega arith
       | inr new ↦ let at : e.line ≡ f.line = ap (λ (z : PoolEntry). z.line) new in let line = asks.line in omega arith
     ];
-    sorted = sorted_push (λ (f : PoolEntry). f.line) pools e h.sorted (λ f among. let low = h.entered f among in let line = asks.line in omega arith);
+    sorted = sorted_push (λ (f : PoolEntry). f.line) pools e h.sorted
+        (λ f among. let low = h.entered f among in let line = asks.line in omega arith);
     fits = pool_grows.fits supers pools e h.fits asks.fits;
     named = named_more;
     below = λ p i j names. low_name p i j (name_cases p i j names);
@@ -146,6 +150,7 @@ module _ (supers n : ℕ) (pools : List PoolEntry) (e : PoolEntry) (roots : Jour
   }
 
 pub pool_extends : PoolExtends
-pool_extends supers n pools [] roots acts h asks = subst (λ z. IsPooledTo supers (n + 1) z (grown roots n acts)) (sym (append-nil pools)) (same_pool supers n pools roots acts h asks)
+pool_extends supers n pools [] roots acts h asks =
+    subst (λ z. IsPooledTo supers (n + 1) z (grown roots n acts)) (sym (append-nil pools)) (same_pool supers n pools roots acts h asks)
 pool_extends supers n pools (e ∷ []) roots acts h asks = one_more supers n pools e roots acts h asks
 pool_extends supers n pools (e ∷ f ∷ more) roots acts h asks = absurd asks

@@ -56,41 +56,52 @@ frees_by (ops.Read reg place) step w is returning = absurd (not_some step is)
 frees_by (ops.Swap cell reg) step w is returning = absurd (not_some step is)
 frees_by ops.Purge step w is returning = absurd (not_some step is)
 
-give_makes : (pools : List PoolEntry) (p : ℕ) (x : Played) (a : RootAct) → IsFreeing x.op ⊎ (x.op ≡ ops.Purge) → IsGive a → MakesEntry pools p a x
+give_makes : (pools : List PoolEntry) (p : ℕ) (x : Played) (a : RootAct) → IsFreeing x.op ⊎ (x.op ≡ ops.Purge) → IsGive a →
+    MakesEntry pools p a x
 give_makes pools p x a frees (slots, is) = subst (λ z. MakesEntry pools p z x) (sym is) frees
 
 -- the list of what is out, with the slot at the start
-front_out : (r : Root) (slot : Numbered) (xs : List Numbered) → IsOut r slot.slot → times slot.slot (names xs) ≡ 0 → AreOut r xs → AreOut r (slot ∷ xs)
+front_out : (r : Root) (slot : Numbered) (xs : List Numbered) → IsOut r slot.slot → times slot.slot (names xs) ≡ 0 → AreOut r xs →
+    AreOut r (slot ∷ xs)
 front_out r slot xs out none (others, differ) = (
   All-cons (IsOut r) slot.slot (names xs) out others,
   pairs_cons (λ (a b : SlotName). a ≢ b) slot.slot (names xs)
-      (λ s among same. let some = some_times s (names xs) among in let e : times slot.slot (names xs) ≡ times s (names xs) = ap (λ z. times z (names xs)) same in omega arith)
+      (λ s among same. let some = some_times s (names xs) among in
+      let e : times slot.slot (names xs) ≡ times s (names xs) = ap (λ z. times z (names xs)) same in omega arith)
       differ,
 )
 
 pub spilled_out : (r : Root) (class : ℕ) (xs : List Numbered) → AreOut r xs → AreOut r (spilled class xs)
 spilled_out r class xs out = elim (cases_Bool (nat_lt (limit_of class) (length xs))) [
-  | inl over ↦ rw over (parts_are_out.behind r (take (limit_of class / 2) xs) (drop (limit_of class / 2) xs) (subst (λ z. AreOut r z) (sym (take-append-drop (limit_of class / 2) xs)) out))
+  | inl over ↦ rw over (parts_are_out.behind r (take (limit_of class / 2) xs) (drop (limit_of class / 2) xs)
+      (subst (λ z. AreOut r z) (sym (take-append-drop (limit_of class / 2) xs)) out))
   | inr within ↦ rw within (λ k d low. absurd (omega arith), λ i j d before low. absurd (omega arith))
 ]
 
-pub done_row : (roots : Journals) (x : Played) (o : Option Step) (step : Step) (seen : Seen) (cache after : Cache) → o ≡ Some step → IsReturning step seen.found.0 →
+pub done_row : (roots : Journals) (x : Played) (o : Option Step) (step : Step) (seen : Seen) (cache after : Cache) → o ≡ Some step →
+    IsReturning step seen.found.0 →
     ReturnRow roots x (returned_by seen) cache after → DoneRow roots x o seen cache after
 done_row roots x o step seen cache after is returning row = subst (λ z. DoneRow roots x z seen cache after) (sym is) (inl (returning, row))
 
-module _ (supers partitions n p class : ℕ) (ls : List Line) (ps : List Played) (x : Played) (pools : List PoolEntry) (roots : Journals) (all : Caches) (seen : Seen)
-    (h : IsSoFar supers partitions n ls ps pools roots all) (line : x.line ≡ n) (returns : Returns ps x seen) (of : IsOfClass roots seen.slot p class) where
+module _ (supers partitions n p class : ℕ) (ls : List Line) (ps : List Played) (x : Played) (pools : List PoolEntry) (roots : Journals)
+    (all : Caches) (seen : Seen)
+    (h : IsSoFar supers partitions n ls ps pools roots all) (line : x.line ≡ n) (returns : Returns ps x seen)
+    (of : IsOfClass roots seen.slot p class) where
   real : class < 170
   real = class_real pools roots seen.slot p class (h.placed.journals p) of
 
   out : AreOut (root_at pools roots p) (returned_by seen ∷ all x.thread p class)
   out =
-      let (slot, none) = returned_out supers partitions n ls ps pools roots all h p x.thread class seen.slot returns.step seen.found.0 of returns.word returns.returning in
+      let (slot, none) = returned_out supers partitions n ls ps pools roots all h p x.thread class seen.slot returns.step seen.found.0 of
+      returns.word returns.returning in
       front_out (root_at pools roots p) (returned_by seen) (all x.thread p class) slot none
-      (listed_alone (root_at pools roots p) (all x.thread p) class 0 170 (omega arith) (let low = real in omega arith) (lists_are_out supers partitions n p x.thread ls ps pools roots all h))
+      (listed_alone (root_at pools roots p) (all x.thread p) class 0 170 (omega arith) (let low = real in omega arith)
+      (lists_are_out supers partitions n p x.thread ls ps pools roots all h))
 
-  acted : (xs : List Numbered) → AreOut (root_at pools roots p) xs → xs ≡ spilled class (returned_by seen ∷ all x.thread p class) → p < partitions →
-      IsActed partitions n p x pools [] roots (gives xs) (all x.thread) (with_list (all x.thread) p class (kept class (returned_by seen ∷ all x.thread p class)))
+  acted : (xs : List Numbered) → AreOut (root_at pools roots p) xs → xs ≡ spilled class (returned_by seen ∷ all x.thread p class) →
+      p < partitions →
+      IsActed partitions n p x pools [] roots (gives xs) (all x.thread)
+      (with_list (all x.thread) p class (kept class (returned_by seen ∷ all x.thread p class)))
   acted xs are_out is below =
       let sound = (journal_leaves pools (roots p) (h.placed.journals p)).sound in
       let frees = frees_by x.op returns.step seen.found.0 returns.makes returns.returning in
@@ -103,7 +114,13 @@ module _ (supers partitions n p class : ℕ) (ls : List Line) (ps : List Played)
         row = λ only. subst (λ a. CacheRow partitions (grown roots n (only_in p (gives xs))) x a (all x.thread)
             (with_list (all x.thread) p class (kept class (returned_by seen ∷ all x.thread p class)))) (sym returns.answer)
             (done_row _ x (step_of x.op) returns.step seen (all x.thread) _ returns.makes returns.returning
-            (inl (p, class, class_grown p of, subst (λ z. OnlyActs (grown roots n (only_in p (gives xs))) x.line p (gives z)) is only, λ q c. refl)));
+            (inl (
+              p,
+              class,
+              class_grown p of,
+              subst (λ z. OnlyActs (grown roots n (only_in p (gives xs))) x.line p (gives z)) is only,
+              λ q c. refl,
+            )));
         numbers = λ s. backs_numbered pools (roots p) n (gives xs) s (h.placed.journals p)
             (gives_alone pools (least_after_all 0 (roots p)) xs (root_at pools roots p) sound are_out) (h.placed.numbers p s)
             (gives_leave xs);
@@ -114,43 +131,55 @@ module _ (supers partitions n p class : ℕ) (ls : List Line) (ps : List Played)
       }
     where
       class_grown : (q : ℕ) → IsOfClass roots seen.slot q class → IsOfClass (grown roots n (only_in p (gives xs))) seen.slot q class
-      class_grown q (e, asked, slots, among, act, member) = (e, asked, slots, grown_old roots n (only_in p (gives xs)) q e among, act, member)
+      class_grown q (e, asked, slots, among, act, member) =
+          (e, asked, slots, grown_old roots n (only_in p (gives xs)) q e among, act, member)
 
       not_unmap : (a : RootAct) (asked : ℕ) (slot : Numbered) → IsGive a → a ≡ Unmap asked slot → ⊥
       not_unmap a asked slot (slots, give) unmap = cc
 
-      no_unmap : (q : ℕ) (e : RootEntry) (asked : ℕ) (slot : Numbered) → e.act ≡ Unmap asked slot → Contains (only_in p (gives xs) q) e.act → ⊥
+      no_unmap : (q : ℕ) (e : RootEntry) (asked : ℕ) (slot : Numbered) → e.act ≡ Unmap asked slot →
+          Contains (only_in p (gives xs) q) e.act → ⊥
       no_unmap q e asked slot act among =
-          by_place (λ q bs. Contains bs e.act → ⊥) p (gives xs) (λ member. not_unmap e.act asked slot (give_is xs e.act member) act) (λ q ne member. not_in_none e.act member) q among
+          by_place (λ q bs. Contains bs e.act → ⊥) p (gives xs) (λ member. not_unmap e.act asked slot (give_is xs e.act member) act)
+          (λ q ne member. not_in_none e.act member) q among
 
-  called : (xs : List Numbered) → AreOut (root_at pools roots p) xs → xs ≡ spilled class (returned_by seen ∷ all x.thread p class) → p < partitions →
-      IsCalled supers partitions n x pools [] roots p (gives xs) (all x.thread) (with_list (all x.thread) p class (kept class (returned_by seen ∷ all x.thread p class)))
+  called : (xs : List Numbered) → AreOut (root_at pools roots p) xs → xs ≡ spilled class (returned_by seen ∷ all x.thread p class) →
+      p < partitions →
+      IsCalled supers partitions n x pools [] roots p (gives xs) (all x.thread)
+      (with_list (all x.thread) p class (kept class (returned_by seen ∷ all x.thread p class)))
       (all_returned (names xs) (root_at pools roots p)) (pool_at supers pools)
   called xs are_out is below =
-      acted_called supers partitions n p ps x pools [] roots (gives xs) all _ (all_returned (names xs) (root_at pools roots p)) (pool_at supers pools) h.placed (acted xs are_out is below)
-      (asks_none supers n p pools (gives xs) (gives_ask xs)) (gives_after (pools ++ []) xs (root_at pools roots p)) (ap (pool_at supers) (append-nil pools))
+      acted_called supers partitions n p ps x pools [] roots (gives xs) all _ (all_returned (names xs) (root_at pools roots p))
+      (pool_at supers pools) h.placed (acted xs are_out is below)
+      (asks_none supers n p pools (gives xs) (gives_ask xs)) (gives_after (pools ++ []) xs (root_at pools roots p))
+      (ap (pool_at supers) (append-nil pools))
 
   below : p < partitions
   below = elim (cases_lt p partitions) [
     | inl low ↦ low
-    | inr past ↦ let (e, asked, slots, among, act, member) = of in absurd (not_in_none e (subst (λ z. Contains z e) (h.placed.none_past p past) among))
+    | inr past ↦ let (e, asked, slots, among, act, member) = of in
+        absurd (not_in_none e (subst (λ z. Contains z e) (h.placed.none_past p past) among))
   ]
 
 pub return_is_done : ReturnIsDone
 return_is_done supers partitions n p class ls ps x pools roots all seen h line returns of =
     let are_out = out supers partitions n p class ls ps x pools roots all seen h line returns of in (
       are_out,
-      called supers partitions n p class ls ps x pools roots all seen h line returns of (spilled class (returned_by seen ∷ all x.thread p class))
+      called supers partitions n p class ls ps x pools roots all seen h line returns of
+          (spilled class (returned_by seen ∷ all x.thread p class))
           (spilled_out (root_at pools roots p) class (returned_by seen ∷ all x.thread p class) are_out) refl
           (below supers partitions n p class ls ps x pools roots all seen h line returns of),
     )
 
 -- ---- a purge
 
-module _ (supers partitions n : ℕ) (ls : List Line) (ps : List Played) (x : Played) (pools : List PoolEntry) (roots : Journals) (all : Caches)
-    (h : IsSoFar supers partitions n ls ps pools roots all) (line : x.line ≡ n) (op : x.op ≡ ops.Purge) (answer : x.answer ≡ answers.Purged (all_listed (all x.thread) 0 partitions)) where
+module _ (supers partitions n : ℕ) (ls : List Line) (ps : List Played) (x : Played) (pools : List PoolEntry) (roots : Journals)
+    (all : Caches)
+    (h : IsSoFar supers partitions n ls ps pools roots all) (line : x.line ≡ n) (op : x.op ≡ ops.Purge)
+    (answer : x.answer ≡ answers.Purged (all_listed (all x.thread) 0 partitions)) where
   -- what holds of each of the first partitions with its acts, and of the others without
-  each_partition : (P : ℕ → List RootAct → Type 0) → ((q : ℕ) → q < partitions → P q (purge_acts (all x.thread q) 0 170)) → ((q : ℕ) → P q []) → (q : ℕ) → P q (purge_in partitions (all x.thread) q)
+  each_partition : (P : ℕ → List RootAct → Type 0) → ((q : ℕ) → q < partitions → P q (purge_acts (all x.thread q) 0 170)) →
+      ((q : ℕ) → P q []) → (q : ℕ) → P q (purge_in partitions (all x.thread) q)
   each_partition P here others q = elim (cases_lt q partitions) [
     | inl low ↦ rw (lt-ltb q partitions low) (here q low)
     | inr past ↦ rw (le-ltb q partitions past) (others q)
@@ -159,9 +188,11 @@ module _ (supers partitions n : ℕ) (ls : List Line) (ps : List Played) (x : Pl
   purge_here : (q : ℕ) → q < partitions → purge_in partitions (all x.thread) q ≡ purge_acts (all x.thread q) 0 170
   purge_here q low = rw (lt-ltb q partitions low) refl
 
-  fit : (more : List PoolEntry) (q : ℕ) → ActsFit more (least_after_all 0 (roots q)) (purge_acts (all x.thread q) 0 170) (root_at pools roots q)
+  fit : (more : List PoolEntry) (q : ℕ) →
+      ActsFit more (least_after_all 0 (roots q)) (purge_acts (all x.thread q) 0 170) (root_at pools roots q)
   fit more q =
-      purge_fits more (least_after_all 0 (roots q)) 0 170 (all x.thread q) (root_at pools roots q) (journal_leaves pools (roots q) (h.placed.journals q)).sound
+      purge_fits more (least_after_all 0 (roots q)) 0 170 (all x.thread q) (root_at pools roots q)
+      (journal_leaves pools (roots q) (h.placed.journals q)).sound
       (lists_are_out supers partitions n q x.thread ls ps pools roots all h)
 
   act_makes : (q : ℕ) (a : RootAct) → IsGive a ⊎ (a ≡ Purge) → MakesEntry (pools ++ []) q a x
@@ -178,27 +209,34 @@ module _ (supers partitions n : ℕ) (ls : List Line) (ps : List Played) (x : Pl
   done = record {
     deed = record {
       line = line;
-      fits = each_partition (λ q bs. ActsFit (pools ++ []) (least_after_all 0 (roots q)) bs (root_at pools roots q)) (λ q low. fit (pools ++ []) q) (λ q. tt);
-      makes = each_partition (λ q bs. (a : RootAct) → Contains bs a → MakesEntry (pools ++ []) q a x) (λ q low a among. act_makes q a (purge_is (all x.thread q) 0 170 a among))
+      fits = each_partition (λ q bs. ActsFit (pools ++ []) (least_after_all 0 (roots q)) bs (root_at pools roots q))
+          (λ q low. fit (pools ++ []) q) (λ q. tt);
+      makes = each_partition (λ q bs. (a : RootAct) → Contains bs a → MakesEntry (pools ++ []) q a x)
+          (λ q low a among. act_makes q a (purge_is (all x.thread q) 0 170 a among))
           (λ q a among. absurd (not_in_none a among));
       none_past = λ q past. rw (le-ltb q partitions past) refl;
       refusal = λ j reg q size full. absurd (not_purged_full j full);
-      row = subst (λ a. CacheRow partitions (grown roots n (purge_in partitions (all x.thread))) x a (all x.thread) (λ p class. [])) (sym answer) (
-        λ q low. ap (λ z. acts_of (grown roots n (purge_in partitions (all x.thread))) z q) line
-            ∙ line_acts roots n (purge_in partitions (all x.thread)) q (h.placed.entered q) ∙ purge_here q low,
-        refl,
-        λ q c. refl,
-      );
+      row = subst (λ a. CacheRow partitions (grown roots n (purge_in partitions (all x.thread))) x a (all x.thread) (λ p class. []))
+          (sym answer) (
+            λ q low. ap (λ z. acts_of (grown roots n (purge_in partitions (all x.thread))) z q) line
+                ∙ line_acts roots n (purge_in partitions (all x.thread)) q (h.placed.entered q) ∙ purge_here q low,
+            refl,
+            λ q c. refl,
+          );
       numbers = each_partition (λ q bs. (s : SlotName) → IsNumbered (at_end (Some 0) (moves_of (roots q) s)) (moves_of (entries_at n bs) s))
-          (λ q low s. backs_numbered pools (roots q) n (purge_acts (all x.thread q) 0 170) s (h.placed.journals q) (fit pools q) (h.placed.numbers q s) (purge_leaves (all x.thread q)))
+          (λ q low s. backs_numbered pools (roots q) n (purge_acts (all x.thread q) 0 170) s (h.placed.journals q) (fit pools q)
+          (h.placed.numbers q s) (purge_leaves (all x.thread q)))
           (λ q s. tt);
       unmaps = λ seen q asked slot e is. absurd (not_purged_done seen is);
     };
-    asks = each_partition (λ q bs. (a : RootAct) → Contains bs a → asked_by a ≡ None) (λ q low. purge_asks (all x.thread q)) (λ q a among. absurd (not_in_none a among));
+    asks = each_partition (λ q bs. (a : RootAct) → Contains bs a → asked_by a ≡ None) (λ q low. purge_asks (all x.thread q))
+        (λ q a among. absurd (not_in_none a among));
   }
 
   pub purge_done : IsDone supers partitions n x pools [] roots (purge_in partitions (all x.thread)) (all x.thread) (λ p class. [])
-      × ((p : ℕ) → p < partitions → root_at pools (grown roots n (purge_in partitions (all x.thread))) p ≡ purged (all_returned (names (all_of (all x.thread p) 0 170)) (root_at pools roots p)))
+      × ((p : ℕ) → p < partitions →
+      root_at pools (grown roots n (purge_in partitions (all x.thread))) p ≡ purged
+      (all_returned (names (all_of (all x.thread p) 0 170)) (root_at pools roots p)))
   purge_done = (
     done,
     λ p low. ap (λ z. root_at z (grown roots n (purge_in partitions (all x.thread))) p) (sym (append-nil pools))
@@ -208,4 +246,5 @@ module _ (supers partitions n : ℕ) (ls : List Line) (ps : List Played) (x : Pl
   )
 
 pub purge_is_done : PurgeIsDone
-purge_is_done supers partitions n ls ps x pools roots all h line op answer = purge_done supers partitions n ls ps x pools roots all h line op answer
+purge_is_done supers partitions n ls ps x pools roots all h line op answer =
+    purge_done supers partitions n ls ps x pools roots all h line op answer

@@ -23,7 +23,8 @@ pub record Moment (supers : ℕ) (pools : List PoolEntry) (k : ℕ) (e : PoolEnt
   pub fits : IsPool supers before
   pub acts : PoolActFits before e.partition e.act (pool_at supers before)
 
-pub fits_before : (supers : ℕ) (before es : List PoolEntry) (partition : ℕ) (act : PoolAct) → IsPool supers before → PoolActFits (before ++ es) partition act (pool_at supers before) →
+pub fits_before : (supers : ℕ) (before es : List PoolEntry) (partition : ℕ) (act : PoolAct) → IsPool supers before →
+    PoolActFits (before ++ es) partition act (pool_at supers before) →
     PoolActFits before partition act (pool_at supers before)
 fits_before supers before es partition (pool.Take count found) h fits = fits
 fits_before supers before es partition (pool.Give count first) h (t, one, (e, there, same)) =
@@ -42,7 +43,8 @@ step_of_pool supers pools before e es parts h fits = record {
   parts = parts;
   place = refl;
   fits = h;
-  acts = fits_before supers before (e ∷ es) e.partition e.act h (subst (λ z. PoolActFits z e.partition e.act (pool_at supers before)) parts fits.0);
+  acts = fits_before supers before (e ∷ es) e.partition e.act h
+      (subst (λ z. PoolActFits z e.partition e.act (pool_at supers before)) parts fits.0);
 }
 
 -- if an entry and those after it replay on the pool before it, those after it replay on the pool with it
@@ -50,7 +52,8 @@ rest_of : (supers : ℕ) (pools before : List PoolEntry) (e : PoolEntry) (es : L
     → PoolReplays pools (e ∷ es) (pool_at supers before) → PoolReplays pools es (pool_at supers (before ++ e ∷ []))
 rest_of supers pools before e es fits = subst (λ s. PoolReplays pools es s) (sym (pool_grows.next supers before e)) fits.1
 
-after_moment : (supers : ℕ) (pools : List PoolEntry) (k : ℕ) (e : PoolEntry) (before after : List PoolEntry) → Moment supers pools k e before after → IsPool supers (before ++ e ∷ [])
+after_moment : (supers : ℕ) (pools : List PoolEntry) (k : ℕ) (e : PoolEntry) (before after : List PoolEntry) →
+    Moment supers pools k e before after → IsPool supers (before ++ e ∷ [])
 after_moment supers pools k e before after m = pool_grows.fits supers before e m.fits m.acts
 
 -- where an entry stands, with the rest of the list
@@ -63,9 +66,14 @@ moment_from : (supers : ℕ) (pools before es : List PoolEntry) (k : ℕ) (e : P
     (front behind : List PoolEntry) × Found supers pools (length before + k) e front behind
 moment_from supers pools before [] k e parts h fits at = absurd (not_some e at)
 moment_from supers pools before (x ∷ es) zero e parts h fits at =
-    let f : Found supers pools (length before) x before es = record { when = step_of_pool supers pools before x es parts h fits; rest = rest_of supers pools before x es fits } in
-    let place : length before ≡ length before + 0 = omega arith in
-    (before, es, subst (λ z. Found supers pools (length before + 0) z before es) (of_some x e at) (subst (λ i. Found supers pools i x before es) place f))
+    let f : Found supers pools (length before) x before es =
+    record { when = step_of_pool supers pools before x es parts h fits; rest = rest_of supers pools before x es fits } in
+    let place : length before ≡ length before + 0 = omega arith in (
+      before,
+      es,
+      subst (λ z. Found supers pools (length before + 0) z before es) (of_some x e at)
+          (subst (λ i. Found supers pools i x before es) place f),
+    )
 moment_from supers pools before (x ∷ es) (suc k) e parts h fits at =
     let m = step_of_pool supers pools before x es parts h fits in
     let (front, behind, found) = moment_from supers pools (before ++ x ∷ []) es k e (parts ∙ sym (append_assoc before (x ∷ []) es))
@@ -74,7 +82,8 @@ moment_from supers pools before (x ∷ es) (suc k) e parts h fits at =
     let place : length (before ++ x ∷ []) + k ≡ length before + suc k = omega arith in
     (front, behind, subst (λ i. Found supers pools i e front behind) place found)
 
-moment : (supers : ℕ) (pools : List PoolEntry) (k : ℕ) (e : PoolEntry) → IsPool supers pools → slice_get pools k ≡ Some e → (front behind : List PoolEntry) × Found supers pools k e front behind
+moment : (supers : ℕ) (pools : List PoolEntry) (k : ℕ) (e : PoolEntry) → IsPool supers pools → slice_get pools k ≡ Some e →
+    (front behind : List PoolEntry) × Found supers pools k e front behind
 moment supers pools k e h at =
     let (front, behind, found) = moment_from supers pools [] pools k e refl tt h at in
     let place : 0 + k ≡ k = omega arith in
@@ -102,7 +111,8 @@ one_first supers pools t u h among among' same =
     sound.owned t u t.first among among' (omega arith, omega arith) (omega arith, omega arith)
 
 -- a run stays, or the entry gives what begins there
-keeps : (act : PoolAct) (s : PoolState) (u : Taken) → Contains s.taken u → Contains (pool_next act s).taken u ⊎ ((count first : ℕ) × (act ≡ pool.Give count first) × (u.first ≡ first))
+keeps : (act : PoolAct) (s : PoolState) (u : Taken) → Contains s.taken u → Contains (pool_next act s).taken u ⊎
+    ((count first : ℕ) × (act ≡ pool.Give count first) × (u.first ≡ first))
 keeps (pool.Take count None) s u among = inl among
 keeps (pool.Take count (Some first)) s u among = inl (Contains-append_left s.taken (run_of s.entries first count ∷ []) u among)
 keeps (pool.Give count first) s u among = elim (cases_eq u.first first) [
@@ -116,35 +126,44 @@ given_by : (supers : ℕ) (before : List PoolEntry) (partition count first : ℕ
 given_by supers before partition count first act u h fits is among same =
     let (v, one, owner) = subst (λ z. PoolActFits before partition z (pool_at supers before)) is fits in
     let e = one_first supers before v u h one.among among (one.begins ∙ sym same) in
-    let count_is : count ≡ u.count = sym one.reaches ∙ ap (λ (z : Taken). z.count) e in
-    (is ∙ ap (λ c. pool.Give c first) count_is ∙ ap (λ f. pool.Give u.count f) (sym same), subst (λ z. IsPartitions before partition z) e owner)
+    let count_is : count ≡ u.count = sym one.reaches ∙ ap (λ (z : Taken). z.count) e in (
+      is ∙ ap (λ c. pool.Give c first) count_is ∙ ap (λ f. pool.Give u.count f) (sym same),
+      subst (λ z. IsPartitions before partition z) e owner,
+    )
 
 -- ways in which a run ends
 abbrev pub IsTakenOrGiven : ℕ → List PoolEntry → Taken → Type 0
-IsTakenOrGiven supers pools u = Contains (pool_at supers pools).taken u ⊎ ((k : ℕ) × (e : PoolEntry) × (before after : List PoolEntry) × WasGiven supers pools u k e before after)
+IsTakenOrGiven supers pools u = Contains (pool_at supers pools).taken u ⊎
+    ((k : ℕ) × (e : PoolEntry) × (before after : List PoolEntry) × WasGiven supers pools u k e before after)
 
 walk : (supers : ℕ) (pools before es : List PoolEntry) (u : Taken) → pools ≡ before ++ es → IsPool supers before
     → PoolReplays pools es (pool_at supers before) → Contains (pool_at supers before).taken u →
     IsTakenOrGiven supers pools u
-walk supers pools before [] u parts h fits among = inl (subst (λ z. Contains (pool_at supers z).taken u) (sym (parts ∙ append-nil before)) among)
+walk supers pools before [] u parts h fits among =
+    inl (subst (λ z. Contains (pool_at supers z).taken u) (sym (parts ∙ append-nil before)) among)
 walk supers pools before (e ∷ es) u parts h fits among =
     let m = step_of_pool supers pools before e es parts h fits in
     elim (keeps e.act (pool_at supers before) u among) [
       | inl stays ↦
-          walk supers pools (before ++ e ∷ []) es u (parts ∙ sym (append_assoc before (e ∷ []) es)) (after_moment supers pools (length before) e before es m) (rest_of supers pools before e es fits)
+          walk supers pools (before ++ e ∷ []) es u (parts ∙ sym (append_assoc before (e ∷ []) es))
+          (after_moment supers pools (length before) e before es m) (rest_of supers pools before e es fits)
           (subst (λ (s : PoolState). Contains s.taken u) (sym (pool_grows.next supers before e)) stays)
       | inr (count, first, is, same) ↦
           let (act, owner) = given_by supers before e.partition count first e.act u h m.acts is among same in
           inr (length before, e, before, es, record { when = m; there = among; act = act; owner = owner })
     ]
 
-pub taken_or_given : (supers : ℕ) (pools : List PoolEntry) (j count first : ℕ) → IsPool supers pools → FoundRun pools j count first → IsTakenOrGiven supers pools (run_of j first count)
+pub taken_or_given : (supers : ℕ) (pools : List PoolEntry) (j count first : ℕ) → IsPool supers pools → FoundRun pools j count first →
+    IsTakenOrGiven supers pools (run_of j first count)
 taken_or_given supers pools j count first h found =
     let (e, at, act) = act_of (slice_get pools j) (pool.Take count (Some first)) found in
     let (front, behind, m) = moment supers pools j e h at in
-    let next : pool_at supers (front ++ e ∷ []) ≡ pool_next (pool.Take count (Some first)) (pool_at supers front) = pool_grows.next supers front e ∙ ap (λ a. pool_next a (pool_at supers front)) act in
+    let next : pool_at supers (front ++ e ∷ []) ≡ pool_next (pool.Take count (Some first)) (pool_at supers front) =
+    pool_grows.next supers front e ∙ ap (λ a. pool_next a (pool_at supers front)) act in
     let entry : (pool_at supers front).entries ≡ j = pool_is_sound.counted supers front ∙ m.when.place in
-    walk supers pools (front ++ e ∷ []) behind (run_of j first count) (m.when.parts ∙ sym (append_assoc front (e ∷ []) behind)) (after_moment supers pools j e front behind m.when) m.rest
+    walk supers pools (front ++ e ∷ []) behind (run_of j first count) (m.when.parts ∙ sym (append_assoc front (e ∷ []) behind))
+    (after_moment supers pools j e front behind m.when) m.rest
     (subst (λ (s : PoolState). Contains s.taken (run_of j first count)) (sym next)
-    (subst (λ i. Contains ((pool_at supers front).taken ++ run_of (pool_at supers front).entries first count ∷ []) (run_of i first count)) entry
+    (subst (λ i. Contains ((pool_at supers front).taken ++ run_of (pool_at supers front).entries first count ∷ []) (run_of i first count))
+    entry
     (Contains-push (pool_at supers front).taken (run_of (pool_at supers front).entries first count))))

@@ -30,29 +30,35 @@ use Rattle.pa_record.proofs.Replaying.{replays_rest}
 
 -- ---- the super pages of a root, entry by entry
 
-pub root_parts : (pools : List PoolEntry) (xs ys : List RootEntry) (r : Root) → root_replayed pools (xs ++ ys) r ≡ root_replayed pools ys (root_replayed pools xs r)
+pub root_parts : (pools : List PoolEntry) (xs ys : List RootEntry) (r : Root) →
+    root_replayed pools (xs ++ ys) r ≡ root_replayed pools ys (root_replayed pools xs r)
 root_parts pools [] ys r = refl
 root_parts pools (x ∷ xs) ys r = root_parts pools xs ys (root_next pools x.act r)
 
-pub rise_rest : (least : ℕ) (xs ys : List RootEntry) → RiseFrom least (all_asked (xs ++ ys)) → RiseFrom (least_after_all least xs) (all_asked ys)
+pub rise_rest : (least : ℕ) (xs ys : List RootEntry) → RiseFrom least (all_asked (xs ++ ys)) →
+    RiseFrom (least_after_all least xs) (all_asked ys)
 rise_rest least [] ys h = h
-rise_rest least (x ∷ xs) ys h = rise_rest (least_after least (asked_by x.act)) xs ys (rise_parts least (asked_by x.act) (all_asked (xs ++ ys)) h).1
+rise_rest least (x ∷ xs) ys h =
+    rise_rest (least_after least (asked_by x.act)) xs ys (rise_parts least (asked_by x.act) (all_asked (xs ++ ys)) h).1
 
 -- a super page was there before some entries, or its entry of the pool came later
-later_supers : (pools : List PoolEntry) (es : List RootEntry) (n : ℕ) (r : Root) (at : SuperPage) → IsSound r → IsSettled r → IsBornBelow n r → RootReplays pools es r →
+later_supers : (pools : List PoolEntry) (es : List RootEntry) (n : ℕ) (r : Root) (at : SuperPage) → IsSound r → IsSettled r →
+    IsBornBelow n r → RootReplays pools es r →
     RiseFrom n (all_asked es) → Contains (root_replayed pools es r).supers at → Contains r.supers at ⊎ (n ≤ at.born)
 later_supers pools [] n r at sound few old fits rise member = inl member
 later_supers pools (e ∷ es) n r at sound few old fits rise member =
     let (asks, rest) = rise_parts n (asked_by e.act) (all_asked es) rise in
     let next = next_is pools e.act n r sound few old asks fits.0 in
-    elim (later_supers pools es (least_after n (asked_by e.act)) (root_next pools e.act r) at next.sound next.settled next.born fits.1 rest member) [
+    elim (later_supers pools es (least_after n (asked_by e.act))
+    (root_next pools e.act r) at next.sound next.settled next.born fits.1 rest member) [
       | inl there ↦ next.supers at there
       | inr later ↦ let up = least_more n (asked_by e.act) asks in inr (omega arith)
     ]
 
 -- ---- two titles of one root
 
-sole_map : (ts : List Title) (t u : Title) → AllPairs (λ (x : Title) (y : Title). x.born ≢ y.born) ts → Contains ts t → Contains ts u → t.born ≡ u.born → t ≡ u
+sole_map : (ts : List Title) (t u : Title) → AllPairs (λ (x : Title) (y : Title). x.born ≢ y.born) ts → Contains ts t → Contains ts u →
+    t.born ≡ u.born → t ≡ u
 sole_map [] t u h among among' same = absurd (not_in_none t among)
 sole_map (x ∷ ts) t u h among among' same = elim (in_cases x t ts among) [
   | inl here ↦ elim (in_cases x u ts among') [
@@ -60,7 +66,8 @@ sole_map (x ∷ ts) t u h among among' same = elim (in_cases x t ts among) [
     | inr later' ↦ absurd (pairs_head (λ (x : Title) (y : Title). x.born ≢ y.born) x u ts h later' (ap (λ (z : Title). z.born) here ∙ same))
   ]
   | inr later ↦ elim (in_cases x u ts among') [
-    | inl here' ↦ absurd (pairs_head (λ (x : Title) (y : Title). x.born ≢ y.born) x t ts h later (ap (λ (z : Title). z.born) here' ∙ sym same))
+    | inl here' ↦ absurd (pairs_head (λ (x : Title) (y : Title). x.born ≢ y.born) x t ts h later
+        (ap (λ (z : Title). z.born) here' ∙ sym same))
     | inr later' ↦ sole_map ts t u (pairs_tail (λ (x : Title) (y : Title). x.born ≢ y.born) x ts h) later later' same
   ]
 ]
@@ -94,19 +101,23 @@ module _ (supers : ℕ) (pools : List PoolEntry) (roots : Journals) (h : SharePo
       → d.partition ≡ p → (k : ℕ) (e : PoolEntry) (before after : List PoolEntry) →
       WasGiven supers pools (run_of t.born first 1) k e before after → ⊥
   never p t first d made at own k e before after w =
-      let at_k : slice_get pools k ≡ Some e = ap (λ z. slice_get z k) w.when.parts ∙ ap (λ i. slice_get (before ++ e ∷ after) i) (sym w.when.place) ∙ slice_get_at before after e in
+      let at_k : slice_get pools k ≡ Some e = ap (λ z. slice_get z k) w.when.parts ∙
+      ap (λ i. slice_get (before ++ e ∷ after) i) (sym w.when.place) ∙ slice_get_at before after e in
       let (c, there, same_owner) = w.owner in
-      let at_c : slice_get pools t.born ≡ Some c = subst (λ z. slice_get z t.born ≡ Some c) (sym w.when.parts) (slice_get_more before (e ∷ after) t.born c there) in
+      let at_c : slice_get pools t.born ≡ Some c =
+      subst (λ z. slice_get z t.born ≡ Some c) (sym w.when.parts) (slice_get_more before (e ∷ after) t.born c there) in
       let same : d ≡ c = of_some d c (sym at ∙ at_c) in
       let place : e.partition ≡ p = sym same_owner ∙ ap (λ (z : PoolEntry). z.partition) (sym same) ∙ own in
       let (slot, len, f, xs, ys, u) = unmap_of supers pools roots h k 1 first e at_k w.act in
       let run = live supers pools roots h (k + 1) k first e before after slot len f xs ys (omega arith) w.when u in
-      let runs = one_first supers before (run_of slot.slot.born first (supers_for len)) (run_of t.born first 1) w.when.fits run w.there refl in
+      let runs = one_first supers before (run_of slot.slot.born first (supers_for len))
+      (run_of t.born first 1) w.when.fits run w.there refl in
       let born : slot.slot.born ≡ t.born = ap (λ (z : Taken). z.entry) runs in
       let (page, member, is) = made_born (root_at pools roots p) t (journal_leaves pools (roots p) (h.journals p)).sound made in
       let left = journal_leaves pools xs u.journal in
       let journal = subst (λ z. IsJournal pools z) u.parts (h.journals e.partition) in
-      let whole = subst (λ z. Contains (root_replayed pools z new_root).supers page) u.parts (subst (λ q. Contains (root_at pools roots q).supers page) (sym place) member) in
+      let whole = subst (λ z. Contains (root_replayed pools z new_root).supers page) u.parts
+      (subst (λ q. Contains (root_at pools roots q).supers page) (sym place) member) in
       let parted = subst (λ (r : Root). Contains r.supers page) (root_parts pools xs (f ∷ ys) new_root) whole in
       elim (later_supers pools (f ∷ ys) (least_after_all 0 xs) (root_replayed pools xs new_root) page left.sound left.settled left.born
       (replays_rest pools xs (f ∷ ys) new_root journal.replays) (rise_rest 0 xs (f ∷ ys) journal.rise) parted) [
@@ -118,7 +129,8 @@ module _ (supers : ℕ) (pools : List PoolEntry) (roots : Journals) (h : SharePo
   slot_stands p t made =
       let journal = h.journals p in
       let left = journal_leaves pools (roots p) journal in
-      let (first, found, low, high) = roots_are_taken.own pools (root_at pools roots p) t left.sound (roots_are_taken.journal pools (roots p) journal) made in
+      let (first, found, low, high) =
+      roots_are_taken.own pools (root_at pools roots p) t left.sound (roots_are_taken.journal pools (roots p) journal) made in
       let (i, f, there, asked) = titles_are_asked pools (roots p) t journal (inl made) in
       let (d, at, act) = act_of (slice_get pools t.born) (pool.Take 1 (Some first)) found in
       let own = owner_is supers pools roots h t.born p i d at (f, there, asked) in
@@ -131,11 +143,15 @@ module _ (supers : ℕ) (pools : List PoolEntry) (roots : Journals) (h : SharePo
   stands p t (inl made) = slot_stands p t made
   stands p t (inr mapped) =
       let (first, start, taken, owner) = map_run supers pools roots h p t mapped in
-      let (d, at, own) = owner in
-      (first, supers_for t.len, record { taken = taken; from = omega arith; to = map_end first t.len t.start start; entry = d; at = at; own = own })
+      let (d, at, own) = owner in (
+        first,
+        supers_for t.len,
+        record { taken = taken; from = omega arith; to = map_end first t.len t.start start; entry = d; at = at; own = own },
+      )
 
   -- two titles in one run are of one partition
-  one_run : (p q : ℕ) (t u : Title) (first count first' count' : ℕ) → StandsIn p t first count → StandsIn q u first' count' → run_of t.born first count ≡ run_of u.born first' count' →
+  one_run : (p q : ℕ) (t u : Title) (first count first' count' : ℕ) → StandsIn p t first count → StandsIn q u first' count' →
+      run_of t.born first count ≡ run_of u.born first' count' →
       IsThere (root_at pools roots p) t → IsThere (root_at pools roots q) u → AreOneOrApart p q t u
   one_run p q t u first count first' count' s s' runs a b =
       let born : t.born ≡ u.born = ap (λ (z : Taken). z.entry) runs in
@@ -164,10 +180,12 @@ module _ (supers : ℕ) (pools : List PoolEntry) (roots : Journals) (h : SharePo
           | inr behind ↦ inr (inr (omega arith))
           | inl over' ↦ elim (cases_lt first first') [
             | inl less ↦
-                let runs = sound.owned (run_of t.born first count) (run_of u.born first' count') first' s.taken s'.taken (omega arith, omega arith) (omega arith, omega arith) in
+                let runs = sound.owned (run_of t.born first count) (run_of u.born first' count') first' s.taken s'.taken
+                (omega arith, omega arith) (omega arith, omega arith) in
                 one_run p q t u first count first' count' s s' runs a b
             | inr more ↦
-                let runs = sound.owned (run_of t.born first count) (run_of u.born first' count') first s.taken s'.taken (omega arith, omega arith) (omega arith, omega arith) in
+                let runs = sound.owned (run_of t.born first count) (run_of u.born first' count') first s.taken s'.taken
+                (omega arith, omega arith) (omega arith, omega arith) in
                 one_run p q t u first count first' count' s s' runs a b
           ]
         ]

@@ -34,26 +34,31 @@ use Rattle.pa_lists.proofs.Indexed.{slice_get_at}
 use Rattle.pa_lists.proofs.Elements.{in_one}
 
 -- What a line owes of its one act.
-pub record IsOneAct (partitions n p : ℕ) (x : Played) (pools more : List PoolEntry) (roots : Journals) (act : RootAct) (cache next : Cache) : Type 0 where
+pub record IsOneAct (partitions n p : ℕ) (x : Played) (pools more : List PoolEntry) (roots : Journals) (act : RootAct)
+    (cache next : Cache) : Type 0 where
   pub line : x.line ≡ n
   pub below : p < partitions
   pub fits : RootActFits (pools ++ more) act (root_at pools roots p)
   pub asks : AsksFrom (least_after_all 0 (roots p)) (asked_by act)
   pub makes : MakesEntry (pools ++ more) p act x
   pub refusal : (j reg q size : ℕ) → x.answer ≡ answers.Full j → x.op ≡ ops.Alloc reg q size → (q ≡ p) × (j ≡ length (roots p)) × IsFull act
-  pub row : OnlyActs (grown roots n (only_in p (act ∷ []))) x.line p (act ∷ []) → CacheRow partitions (grown roots n (only_in p (act ∷ []))) x x.answer cache next
+  pub row : OnlyActs (grown roots n (only_in p (act ∷ []))) x.line p (act ∷ []) →
+      CacheRow partitions (grown roots n (only_in p (act ∷ []))) x x.answer cache next
   pub leaves : (s : SlotName) → LeavesAt (roots p) act s
   pub unmaps : UnmapsNext (grown roots n (only_in p (act ∷ []))) x
 
 -- the entry of the act comes after all others
-act_entry : (n p : ℕ) (roots : Journals) (act : RootAct) → IsEntry (grown roots n (only_in p (act ∷ []))) p (length (roots p)) (record { line = n; act = act })
+act_entry : (n p : ℕ) (roots : Journals) (act : RootAct) →
+    IsEntry (grown roots n (only_in p (act ∷ []))) p (length (roots p)) (record { line = n; act = act })
 act_entry n p roots act =
-    subst (λ z. slice_get (roots p ++ entries_at n z) (length (roots p)) ≡ Some (record { line = n; act = act })) (sym (only_here p (act ∷ [])))
+    subst (λ z. slice_get (roots p ++ entries_at n z) (length (roots p)) ≡ Some (record { line = n; act = act }))
+    (sym (only_here p (act ∷ [])))
     (slice_get_at (roots p) [] (record { line = n; act = act }))
 
 module _ (supers partitions n p : ℕ) (ps : List Played) (x : Played) (pools more : List PoolEntry) (roots : Journals) (act : RootAct)
     (all : Caches) (next : Cache) (h : IsPlacedTo partitions n ps pools roots all) where
-  pub one_called : (after : Root) (plan : PoolState) → IsOneAct partitions n p x pools more roots act (all x.thread) next → Asks supers n pools more (only_in p (act ∷ [])) →
+  pub one_called : (after : Root) (plan : PoolState) → IsOneAct partitions n p x pools more roots act (all x.thread) next →
+      Asks supers n pools more (only_in p (act ∷ [])) →
       root_next (pools ++ more) act (root_at pools roots p) ≡ after → pool_at supers (pools ++ more) ≡ plan →
       IsCalled supers partitions n x pools more roots p (act ∷ []) (all x.thread) next after plan
   one_called after plan a asks root pool = acted_called supers partitions n p ps x pools more roots (act ∷ []) all next after plan h
@@ -66,7 +71,8 @@ module _ (supers partitions n p : ℕ) (ps : List Played) (x : Played) (pools mo
             let (place, at, is) = a.refusal j reg q size full op in (
               record { line = n; act = act },
               subst (λ z. IsEntry (grown roots n (only_in p (act ∷ []))) z j (record { line = n; act = act })) (sym place)
-                  (subst (λ z. IsEntry (grown roots n (only_in p (act ∷ []))) p z (record { line = n; act = act })) (sym at) (act_entry n p roots act)),
+                  (subst (λ z. IsEntry (grown roots n (only_in p (act ∷ []))) p z (record { line = n; act = act })) (sym at)
+                  (act_entry n p roots act)),
               refl,
               is,
             );
@@ -75,7 +81,8 @@ module _ (supers partitions n p : ℕ) (ps : List Played) (x : Played) (pools mo
             let journal = journal_grows.pool_more pools more (roots p) (h.journals p) in
             let same = journal_grows.pool_same pools more (roots p) (h.journals p) in
             one_numbered (pools ++ more) (roots p) (record { line = n; act = act }) s journal
-            (journal_grows.fits (pools ++ more) (roots p) (record { line = n; act = act }) journal (subst (λ r. RootActFits (pools ++ more) act r) (sym same) a.fits) a.asks)
+            (journal_grows.fits (pools ++ more) (roots p) (record { line = n; act = act }) journal
+            (subst (λ r. RootActFits (pools ++ more) act r) (sym same) a.fits) a.asks)
             (h.numbers p s) (a.leaves s);
         unmaps = a.unmaps;
       })
@@ -83,7 +90,8 @@ module _ (supers partitions n p : ℕ) (ps : List Played) (x : Played) (pools mo
 
 -- ---- the pool's next entry
 
-module _ (supers partitions n : ℕ) (ps : List Played) (pools : List PoolEntry) (roots : Journals) (all : Caches) (h : IsPlacedTo partitions n ps pools roots all) where
+module _ (supers partitions n : ℕ) (ps : List Played) (pools : List PoolEntry) (roots : Journals) (all : Caches)
+    (h : IsPlacedTo partitions n ps pools roots all) where
   pub next_low : (p : ℕ) → least_after_all 0 (roots p) ≤ length pools
   next_low p = calls_fit.next pools (roots p) (h.journals p)
 
@@ -100,7 +108,8 @@ module _ (supers partitions n : ℕ) (ps : List Played) (pools : List PoolEntry)
       let born : t.born ≡ s.born = ap (λ (z : SlotName). z.born) is in
       omega arith
 
-pub asks_once : (supers n p : ℕ) (pools : List PoolEntry) (e : PoolEntry) (act : RootAct) → e.line ≡ n → e.partition ≡ p → PoolActFits pools e.partition e.act (pool_at supers pools) →
+pub asks_once : (supers n p : ℕ) (pools : List PoolEntry) (e : PoolEntry) (act : RootAct) → e.line ≡ n → e.partition ≡ p →
+    PoolActFits pools e.partition e.act (pool_at supers pools) →
     asked_by act ≡ Some (length pools) → Asks supers n pools (e ∷ []) (only_in p (act ∷ []))
 asks_once supers n p pools e act line place fits asked = record {
   line = line;

@@ -53,8 +53,10 @@ out_not_back e = cc
 unmap_slot : (a : RootAct) (asked other : ℕ) (slot with : Numbered) → Unmap asked slot ≡ a → a ≡ Unmap other with → slot ≡ with
 unmap_slot a asked other slot with e f = cc
 
-module _ (supers partitions n p : ℕ) (ps : List Played) (x : Played) (pools : List PoolEntry) (roots : Journals) (all : Caches) (seen : Seen) (t : Title)
-    (h : IsPlacedTo partitions n ps pools roots all) (line : x.line ≡ n) (returns : Returns ps x seen) (member : Contains (root_at pools roots p).maps t) (named : name_of t ≡ seen.slot) where
+module _ (supers partitions n p : ℕ) (ps : List Played) (x : Played) (pools : List PoolEntry) (roots : Journals) (all : Caches)
+    (seen : Seen) (t : Title)
+    (h : IsPlacedTo partitions n ps pools roots all) (line : x.line ≡ n) (returns : Returns ps x seen)
+    (member : Contains (root_at pools roots p).maps t) (named : name_of t ≡ seen.slot) where
   -- what is mapped was made by an entry of its journal
   direct : IsDirect roots seen.slot p
   direct = elim (out_is_left pools (roots p) seen.slot (h.journals p)) [
@@ -85,26 +87,32 @@ module _ (supers partitions n p : ℕ) (ps : List Played) (x : Played) (pools : 
       absurd (out_not_back (ap (λ (z : Move). z.way) e ∙ way))
 
   unmaps_next : UnmapsNext (grown roots n (only_in p (unmap_at (length pools) seen.slot (number_of seen.found.0 + 1) ∷ []))) x
-  unmaps_next other q asked slot e done among at act = elim (grown_cases roots n (only_in p (unmap_at (length pools) seen.slot (number_of seen.found.0 + 1) ∷ [])) q e among) [
-    | inl old ↦ absurd (let low = h.entered q e old in omega arith)
-    | inr new ↦
-        let one : unmap_at (length pools) seen.slot (number_of seen.found.0 + 1) ≡ e.act =
-        by_place (λ q bs. Contains bs e.act → unmap_at (length pools) seen.slot (number_of seen.found.0 + 1) ≡ e.act) p (unmap_at (length pools) seen.slot (number_of seen.found.0 + 1) ∷ [])
-        (in_one _ e.act) (λ q ne none. absurd (not_in_none e.act none)) q new.0 in
-        let is = unmap_slot e.act (length pools) asked (record { slot = seen.slot; number = number_of seen.found.0 + 1 }) slot one act in
-        sym (ap (λ (z : Numbered). z.number) is) ∙ ap (λ (z : Seen). number_of z.found.0 + 1) (one_seen x.answer seen other returns.answer done)
-  ]
+  unmaps_next other q asked slot e done among at act =
+      elim (grown_cases roots n (only_in p (unmap_at (length pools) seen.slot (number_of seen.found.0 + 1) ∷ [])) q e among) [
+        | inl old ↦ absurd (let low = h.entered q e old in omega arith)
+        | inr new ↦
+            let one : unmap_at (length pools) seen.slot (number_of seen.found.0 + 1) ≡ e.act =
+            by_place (λ q bs. Contains bs e.act → unmap_at (length pools) seen.slot (number_of seen.found.0 + 1) ≡ e.act) p
+            (unmap_at (length pools) seen.slot (number_of seen.found.0 + 1) ∷ [])
+            (in_one _ e.act) (λ q ne none. absurd (not_in_none e.act none)) q new.0 in
+            let is = unmap_slot e.act (length pools) asked
+            (record { slot = seen.slot; number = number_of seen.found.0 + 1 }) slot one act in
+            sym (ap (λ (z : Numbered). z.number) is) ∙
+            ap (λ (z : Seen). number_of z.found.0 + 1) (one_seen x.answer seen other returns.answer done)
+      ]
 
 pub unmap_is_done : UnmapIsDone
 unmap_is_done supers partitions n p ps x pools roots all seen t h g line returns member named =
     let act : RootAct = unmap_at (length pools) seen.slot (number_of seen.found.0 + 1) in
     let e : PoolEntry = unmap_made n p t in
     let (first, found, start) = (roots_are_taken.journal pools (roots p) (h.journals p)).maps t member in
-    let place : t.start ≡ page_place (super_page_at t.start) 1 = start ∙ ap (λ z. page_place z 1) (sym (ap super_page_at start ∙ page_super first)) in
+    let place : t.start ≡ page_place (super_page_at t.start) 1 = start ∙
+    ap (λ z. page_place z 1) (sym (ap super_page_at start ∙ page_super first)) in
     let at : seen.slot.start ≡ t.start = ap (λ (z : SlotName). z.start) (sym named) in
     let title : t ≡ map_title seen.slot t.len = ap (λ (z : SlotName). map_title z t.len) named in
     let fits : RootActFits (pools ++ e ∷ []) (unmap_at (length pools) seen.slot (number_of seen.found.0 + 1)) (root_at pools roots p) =
-    calls_fit.unmap pools e (super_page_at t.start) t.len (record { slot = seen.slot; number = number_of seen.found.0 + 1 }) (root_at pools roots p)
+    calls_fit.unmap pools e (super_page_at t.start) t.len (record { slot = seen.slot; number = number_of seen.found.0 + 1 })
+    (root_at pools roots p)
     (subst (λ z. Contains (root_at pools roots p).maps z) title member) (at ∙ place) refl in
     let frees = frees_by x.op returns.step seen.found.0 returns.makes returns.returning in
     one_called supers partitions n p ps x pools (e ∷ []) roots act all (all x.thread) h
@@ -116,9 +124,17 @@ unmap_is_done supers partitions n p ps x pools roots all seen t h g line returns
       asks = next_low supers partitions n ps pools roots all h p;
       makes = frees;
       refusal = λ j reg q size full. absurd (not_full_done x.answer seen j returns.answer full);
-      row = λ only. subst (λ a. CacheRow partitions (grown roots n (only_in p (act ∷ []))) x a (all x.thread) (all x.thread)) (sym returns.answer)
+      row = λ only. subst (λ a. CacheRow partitions (grown roots n (only_in p (act ∷ []))) x a (all x.thread) (all x.thread))
+          (sym returns.answer)
           (done_row _ x (step_of x.op) returns.step seen (all x.thread) (all x.thread) returns.makes returns.returning
-          (inr (p, length pools, number_of seen.found.0 + 1, direct_grown (direct supers partitions n p ps x pools roots all seen t h line returns member named), only, λ q c. refl)));
+          (inr (
+            p,
+            length pools,
+            number_of seen.found.0 + 1,
+            direct_grown (direct supers partitions n p ps x pools roots all seen t h line returns member named),
+            only,
+            λ q c. refl,
+          )));
       leaves = unmap_leaves supers partitions n p ps x pools roots all seen t h line returns member named;
       unmaps = unmaps_next supers partitions n p ps x pools roots all seen t h line returns member named;
     })
@@ -126,5 +142,7 @@ unmap_is_done supers partitions n p ps x pools roots all seen t h g line returns
     (ap (λ z. unmapped z (root_at pools roots p)) (sym named))
     (pool_grows.next supers pools e)
   where
-    direct_grown : IsDirect roots seen.slot p → IsDirect (grown roots n (only_in p (unmap_at (length pools) seen.slot (number_of seen.found.0 + 1) ∷ []))) seen.slot p
-    direct_grown (f, asked, len, among, is) = (f, asked, len, grown_old roots n (only_in p (unmap_at (length pools) seen.slot (number_of seen.found.0 + 1) ∷ [])) p f among, is)
+    direct_grown : IsDirect roots seen.slot p →
+        IsDirect (grown roots n (only_in p (unmap_at (length pools) seen.slot (number_of seen.found.0 + 1) ∷ []))) seen.slot p
+    direct_grown (f, asked, len, among, is) =
+        (f, asked, len, grown_old roots n (only_in p (unmap_at (length pools) seen.slot (number_of seen.found.0 + 1) ∷ [])) p f among, is)

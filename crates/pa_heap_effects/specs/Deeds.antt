@@ -65,8 +65,8 @@ pub record IsPlacedTo (partitions n : ℕ) (ps : List Played) (pools : List Pool
 
 -- The effect of line n, whose record is x: the acts of its partitions, over a pool that got these entries more, and the lists of
 -- its thread before and after it.
-pub record IsDeed (partitions n : ℕ) (x : Played) (pools more : List PoolEntry) (roots : Journals) (acts : Acts) (cache next : Cache) :
-    Type 0 where
+pub record IsDeed (partitions n : ℕ) (x : Played) (pools more : List PoolEntry) (roots : Journals) (acts : Acts)
+    (cache next : Cache) : Type 0 where
   pub line : x.line ≡ n
   pub fits : (p : ℕ) → ActsFit (pools ++ more) (least_after_all 0 (roots p)) (acts p) (root_at pools roots p)
   pub makes : (p : ℕ) (a : RootAct) → Contains (acts p) a → MakesEntry (pools ++ more) p a x

@@ -45,8 +45,8 @@ pub record IsPhaseEnd (partitions phase : ℕ) (ps later : List Played) (pools m
   pub cached : (threads p : ℕ) (tally : Tally) → tally.slots ≡ cached_slots all p threads → tally.bytes ≡ cached_bytes all p threads →
       IsCached partitions threads grows (until phase later) p tally
 
--- if all records before line n are up to the end of a phase and all from it on are of later phases, the end of the phase
--- remains
+-- if all records before line n are up to the end of a phase and all from it on
+-- are of later phases, the end of the phase remains
 abbrev pub PhaseEnds : Type 0
 PhaseEnds =
     (partitions n m phase : ℕ) (ps later : List Played) (pools more : List PoolEntry) (roots grows : Journals) (all then : Caches) →

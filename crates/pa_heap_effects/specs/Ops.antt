@@ -85,8 +85,8 @@ abbrev pub found_by : List Title → Option ℕ
 found_by [] = None
 found_by (t ∷ ts) = Some (super_page_at t.start)
 
--- the entry that line n made of the pool, if it asked: a take of `count` super pages for partition p, which found those of
--- the titles
+-- the entry that line n made of the pool, if it asked: a take of `count` super pages for partition p,
+-- which found those of the titles
 abbrev pub asked_for : ℕ → ℕ → ℕ → List Title → Option ℕ → List PoolEntry
 asked_for n p count titles None = []
 asked_for n p count titles (Some asked) = record { line = n; partition = p; act = pool.Take count (found_by titles) } ∷ []

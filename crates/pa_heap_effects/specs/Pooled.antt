@@ -58,8 +58,8 @@ pub record IsDone (supers partitions n : ℕ) (x : Played) (pools more : List Po
   pub deed : IsDeed partitions n x pools more roots acts cache next
   pub asks : Asks supers n pools more acts
 
--- the run before line n, whose records are those of the first lines of a trace with these rules, and whose slots' steps are one
--- run each
+-- the run before line n, whose records are those of the first lines of a trace with these rules,
+-- and whose slots' steps are one run each
 pub record IsSoFar (supers partitions n : ℕ) (ls : List Line) (ps : List Played) (pools : List PoolEntry) (roots : Journals)
     (all : Caches) : Type 0 where
   pub rules : Rules

@@ -5,7 +5,8 @@ use Rattle.std.specs.Io.KnownBytes.{Consumes, Appends, Keeps}
 use Rattle.pa_io.specs.Moves.{Moves, Takes, HasWritten, HasWrittenPart}
 
 -- a copy of the next bytes to the front of a buffer moves them
-pub moves_front : (left rest buffer front behind : List ℕ) (n : ℕ) → length front ≡ n → left ≡ front ++ rest → buffer ≡ front ++ behind → (n ≡ 0 → left ≡ []) → Moves (Some left) (Some rest) n buffer
+pub moves_front : (left rest buffer front behind : List ℕ) (n : ℕ) → length front ≡ n → left ≡ front ++ rest → buffer ≡ front ++ behind →
+    (n ≡ 0 → left ≡ []) → Moves (Some left) (Some rest) n buffer
 moves_front left rest buffer front behind n len before after empty = record {
   within = omega (arith, simp length-append at (ap length after));
   moved = rw (after, take_at front behind n len) before;
@@ -52,7 +53,8 @@ Takes_more start before after all rest left n w t e = record {
 }
 
 -- a write that fails leaves what was written and the rest
-pub HasWritten_keeps : (start before after : Option (List ℕ)) (all rest : List ℕ) → HasWritten start before all rest → Keeps before after → HasWritten start after all rest
+pub HasWritten_keeps : (start before after : Option (List ℕ)) (all rest : List ℕ) → HasWritten start before all rest → Keeps before after →
+    HasWritten start after all rest
 HasWritten_keeps start before after all rest w k = record {
   front = w.front;
   split = w.split;
@@ -60,7 +62,8 @@ HasWritten_keeps start before after all rest w k = record {
 }
 
 -- bytes that were appended and then kept
-pub Appends_part : (before between after : Option (List ℕ)) (all : List ℕ) (n : ℕ) → Appends before between (take n all) → Keeps between after → HasWrittenPart before after all
+pub Appends_part : (before between after : Option (List ℕ)) (all : List ℕ) (n : ℕ) → Appends before between (take n all) →
+    Keeps between after → HasWrittenPart before after all
 Appends_part before between after all n h k = (
   drop n all,
   record {

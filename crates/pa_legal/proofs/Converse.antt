@@ -60,7 +60,8 @@ holders_fit ps s k (m ∷ ms) (h, first, fit) = moves_fit ps h (away_at (Some 0)
 -- ---- the moves of one entry
 
 -- of the moves of a slot those at a number
-at_number : (s : SlotName) (k : ℕ) (ms : List Move) → filter (is_move_of s k) ms ≡ filter (λ (m : Move). m.number == k) (filter (is_of s) ms)
+at_number : (s : SlotName) (k : ℕ) (ms : List Move) →
+    filter (is_move_of s k) ms ≡ filter (λ (m : Move). m.number == k) (filter (is_of s) ms)
 at_number s k [] = refl
 at_number s k (m ∷ ms) =
     let ih = at_number s k ms in
@@ -72,11 +73,13 @@ at_number s k (m ∷ ms) =
       | inr miss ↦ rw miss ih
     ]
 
-pub left_snoc : (s : SlotName) (es : List RootEntry) (e : RootEntry) → times_left s (es ++ e ∷ []) ≡ times_left s es + times s (leaves_by e.act)
+pub left_snoc : (s : SlotName) (es : List RootEntry) (e : RootEntry) →
+    times_left s (es ++ e ∷ []) ≡ times_left s es + times s (leaves_by e.act)
 left_snoc s [] e = omega arith
 left_snoc s (f ∷ es) e = let ih = left_snoc s es e in omega arith
 
-pub back_snoc : (s : SlotName) (es : List RootEntry) (e : RootEntry) → times_back s (es ++ e ∷ []) ≡ times_back s es + times s (comes_by e.act)
+pub back_snoc : (s : SlotName) (es : List RootEntry) (e : RootEntry) →
+    times_back s (es ++ e ∷ []) ≡ times_back s es + times s (comes_by e.act)
 back_snoc s [] e = omega arith
 back_snoc s (f ∷ es) e = let ih = back_snoc s es e in omega arith
 
@@ -101,7 +104,8 @@ out_or_back Back = refl
 abbrev IsEven : ℕ → ℕ → Type 0
 IsEven left back = (left ≡ back + 1) ⊎ (left ≡ back)
 
-journal_even : (pools : List PoolEntry) (es : List RootEntry) (s : SlotName) → IsJournal pools es → IsEven (times_left s es) (times_back s es)
+journal_even : (pools : List PoolEntry) (es : List RootEntry) (s : SlotName) → IsJournal pools es →
+    IsEven (times_left s es) (times_back s es)
 journal_even pools es s j = elim (out_is_left pools es s j) [ inl (out, e) ↦ inl e | inr (in', e) ↦ inr e ]
 
 out_at : (at : Option ℕ) (n : ℕ) → away_at at n ≡ false → at ≡ Some n
@@ -182,7 +186,8 @@ module _ (pools : List PoolEntry) (journal : List RootEntry) (s : SlotName) (j :
 
     module _ (m : Move) (is : filter (is_of s) (moves_by e.line e.act) ≡ m ∷ []) where
       one_fits : (away_at at m.number ≡ not (is_out m.way)) × WaysFit (is_out m.way) (filter (is_move_of s m.number) (all_moves es))
-      one_fits = subst (λ zs. WaysFit (away_at at m.number) (zs ++ filter (is_move_of s m.number) (all_moves es))) here (at_here (m ∷ []) m.number is)
+      one_fits = subst (λ zs. WaysFit (away_at at m.number) (zs ++ filter (is_move_of s m.number) (all_moves es))) here
+          (at_here (m ∷ []) m.number is)
         where
           here : filter (λ (n : Move). n.number == m.number) (m ∷ []) ≡ m ∷ []
           here = rw (eq-eqb m.number m.number refl) refl
@@ -216,7 +221,8 @@ module _ (pools : List PoolEntry) (journal : List RootEntry) (s : SlotName) (j :
           let step = by_way m.way (has_at m.way refl) in
           omega arith
         where
-          by_way : (w : Way) → HasAt at w m.number → had (at_after w m.number) + cond {A = ℕ} (is_out w) 1 0 ≡ had at + cond {A = ℕ} (is_back w) 1 0
+          by_way : (w : Way) → HasAt at w m.number →
+              had (at_after w m.number) + cond {A = ℕ} (is_out w) 1 0 ≡ had at + cond {A = ℕ} (is_back w) 1 0
           by_way Out has = let x : had at ≡ 1 = ap had has in omega arith
           by_way Back has = let x : had at ≡ 0 = ap had has in omega arith
 
@@ -238,15 +244,18 @@ module _ (pools : List PoolEntry) (journal : List RootEntry) (s : SlotName) (j :
   GoesOn done rest = (next : Option ℕ) → had next + times_left s done ≡ times_back s done + 1
       → ((k : ℕ) → WaysFit (away_at next k) (filter (is_move_of s k) (all_moves rest))) → IsNumbered next (moves_of rest s)
 
-  numbered_from : (done rest : List RootEntry) (at : Option ℕ) → journal ≡ done ++ rest → had at + times_left s done ≡ times_back s done + 1 →
+  numbered_from : (done rest : List RootEntry) (at : Option ℕ) → journal ≡ done ++ rest →
+      had at + times_left s done ≡ times_back s done + 1 →
       ((k : ℕ) → WaysFit (away_at at k) (filter (is_move_of s k) (all_moves rest))) → IsNumbered at (moves_of rest s)
   numbered_from done [] at parts even fits = tt
   numbered_from done (e ∷ es) at parts even fits =
       let parts' : journal ≡ (done ++ e ∷ []) ++ es = parts ∙ sym (append_assoc done (e ∷ []) es) in
       subst (λ zs. IsNumbered at zs) (sym (filter-append (is_of s) (moves_by e.line e.act) (all_moves es)))
-      (by_here (λ next even' fits'. numbered_from (done ++ e ∷ []) es next parts' even' fits') (filter (is_of s) (moves_by e.line e.act)) refl)
+      (by_here (λ next even' fits'. numbered_from (done ++ e ∷ []) es next parts' even' fits')
+      (filter (is_of s) (moves_by e.line e.act)) refl)
     where
-      by_here : GoesOn (done ++ e ∷ []) es → (here : List Move) → filter (is_of s) (moves_by e.line e.act) ≡ here → IsNumbered at (here ++ moves_of es s)
+      by_here : GoesOn (done ++ e ∷ []) es → (here : List Move) → filter (is_of s) (moves_by e.line e.act) ≡ here →
+          IsNumbered at (here ++ moves_of es s)
       by_here on [] is =
           let a : counted is_out (filter (is_of s) (moves_by e.line e.act)) ≡ 0 = ap (counted is_out) is in
           let b : counted is_back (filter (is_of s) (moves_by e.line e.act)) ≡ 0 = ap (counted is_back) is in
@@ -255,13 +264,17 @@ module _ (pools : List PoolEntry) (journal : List RootEntry) (s : SlotName) (j :
           let left = left_snoc s done e in
           let back = back_snoc s done e in
           on at (omega arith) (λ k. at_here done es e at parts even fits [] k is)
-      by_here on (m ∷ []) is =
-          (has_at done es e at parts even fits m is m.way refl, on (at_after m.way m.number) (even_next done es e at parts even fits m is) (fits_next done es e at parts even fits m is))
+      by_here on (m ∷ []) is = (
+        has_at done es e at parts even fits m is m.way refl,
+        on (at_after m.way m.number) (even_next done es e at parts even fits m is) (fits_next done es e at parts even fits m is),
+      )
       by_here on (m ∷ n ∷ more) is = absurd (never_twice done es e at parts even fits m n more is)
 
-numbers_follow : (partitions : ℕ) (ps : List Played) (pools : List PoolEntry) (roots : Journals) → AreRoots partitions ps pools roots → AreHolders ps roots → AreNumbered roots
+numbers_follow : (partitions : ℕ) (ps : List Played) (pools : List PoolEntry) (roots : Journals) → AreRoots partitions ps pools roots →
+    AreHolders ps roots → AreNumbered roots
 numbers_follow partitions ps pools roots r holders p s =
-    numbered_from pools (roots p) s (r.journals p) [] (roots p) (Some 0) refl (omega arith) (λ k. holders_fit ps s k (moves_at (roots p) s k) (holders.moves p s k))
+    numbered_from pools (roots p) s (r.journals p) [] (roots p) (Some 0) refl (omega arith)
+    (λ k. holders_fit ps s k (moves_at (roots p) s k) (holders.moves p s k))
 
 -- ---- direct maps that go back
 
@@ -270,7 +283,8 @@ done_is a b e = cc
 
 unmaps_follow : (supers partitions : ℕ) (ps : List Played) (pools : List PoolEntry) (roots : Journals)
     → AreRoots partitions ps pools roots → IsPoolOf supers ps pools roots → AllPairs OtherRecord ps → Slots (marks_of ps) →
-    AreCaches partitions roots ps → AreHolders ps roots → ((x : Played) → Contains ps x → FindsInUse x) → (x : Played) → Contains ps x → UnmapsNext roots x
+    AreCaches partitions roots ps → AreHolders ps roots → ((x : Played) → Contains ps x → FindsInUse x) → (x : Played) → Contains ps x →
+    UnmapsNext roots x
 unmaps_follow supers partitions ps pools roots r h lines slots caches holders used x among seen p asked slot e answer member line is =
     let real = below supers partitions ps pools roots r h lines slots caches p e member in
     let back = unmap_returns partitions roots ps x e p asked slot caches real among member line is in
@@ -278,16 +292,19 @@ unmaps_follow supers partitions ps pools roots r h lines slots caches holders us
     let number : number_of seen.found.0 ≡ number_of back.seen.found.0 = ap (λ (z : Seen). number_of z.found.0) same in
     let (i, at) = in_at (roots p) e member in
     let mark = marked supers partitions ps pools roots r h lines slots caches used slot.slot x back among in
-    let before = holders.gone_from_records p i asked (number_of back.seen.found.0) slot e x at is among (mark_at x.line back.seen (Some back.step), mark, back.slot, refl) in
+    let before = holders.gone_from_records p i asked (number_of back.seen.found.0) slot e x at is among
+    (mark_at x.line back.seen (Some back.step), mark, back.slot, refl) in
     let move : Contains (moves_at (roots p) slot.slot slot.number) (move_of e.line Back slot) =
     filter_in (is_move_of slot.slot slot.number) (all_moves (roots p)) (move_of e.line Back slot)
     (flat_in (λ (f : RootEntry). moves_by f.line f.act) (roots p) e (move_of e.line Back slot) member
     (subst (λ a. Contains (moves_by e.line a) (move_of e.line Back slot)) (sym is) (first_in (move_of e.line Back slot) [])))
     (rw (same_slot_yes slot.slot slot.slot refl, eq-eqb slot.number slot.number refl) refl) in
     by_first (first_of (moves_at (roots p) slot.slot slot.number) (holders.moves p slot.slot slot.number) move)
-    (λ z n there of. gone_from supers partitions ps pools roots r h lines slots caches used slot.slot x back among z n there of) number before
+    (λ z n there of. gone_from supers partitions ps pools roots r h lines slots caches used slot.slot x back among z n there of) number
+    before
   where
-    first_of : (ms : List Move) → HasHolders ps slot.slot slot.number ms → Contains ms (move_of e.line Back slot) → (holder : Holder) × IsFirstHolder ps slot.slot slot.number holder
+    first_of : (ms : List Move) → HasHolders ps slot.slot slot.number ms → Contains ms (move_of e.line Back slot) → (holder : Holder) ×
+        IsFirstHolder ps slot.slot slot.number holder
     first_of [] has there = absurd (not_in_none (move_of e.line Back slot) there)
     first_of (m ∷ ms) (holder, first, fit) there = (holder, first)
 
@@ -302,7 +319,8 @@ unmaps_follow supers partitions ps pools roots r h lines slots caches holders us
 pub legal_is_known : LegalIsKnown
 legal_is_known t r legal used =
     let ps = records_of t r in
-    let lines = rising_differ ps (lines_rise (rules_of t) t.lines ps (records_are_lines.lines (rules_of t) t.lines r.entries legal.lines)) in
+    let lines = rising_differ ps
+    (lines_rise (rules_of t) t.lines ps (records_are_lines.lines (rules_of t) t.lines r.entries legal.lines)) in
     record {
       lines = legal.lines;
       cells = legal.cells;
@@ -315,6 +333,7 @@ legal_is_known t r legal used =
       seen = legal.seen;
       report = legal.report;
       numbers = numbers_follow t.partitions ps r.pools r.roots legal.roots legal.holders;
-      unmaps = unmaps_follow t.region t.partitions ps r.pools r.roots legal.roots legal.pool lines legal.slots legal.caches legal.holders used;
+      unmaps = unmaps_follow t.region t.partitions ps r.pools r.roots legal.roots legal.pool lines legal.slots legal.caches legal.holders
+          used;
       used = used;
     }

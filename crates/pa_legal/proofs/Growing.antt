@@ -20,7 +20,8 @@ at_end_append at (m ∷ ms) ns = at_end_append (at_after m.way m.number) ms ns
 
 all_more : (journal more : List RootEntry) → all_moves (journal ++ more) ≡ all_moves journal ++ all_moves more
 all_more [] more = refl
-all_more (e ∷ es) more = ap (λ ms. moves_by e.line e.act ++ ms) (all_more es more) ∙ sym (append_assoc (moves_by e.line e.act) (all_moves es) (all_moves more))
+all_more (e ∷ es) more = ap (λ ms. moves_by e.line e.act ++ ms) (all_more es more) ∙
+    sym (append_assoc (moves_by e.line e.act) (all_moves es) (all_moves more))
 
 pub moves_append : (journal more : List RootEntry) (s : SlotName) → moves_of (journal ++ more) s ≡ moves_of journal s ++ moves_of more s
 moves_append journal more s = ap (filter (is_of s)) (all_more journal more) ∙ filter-append (is_of s) (all_moves journal) (all_moves more)

@@ -23,7 +23,8 @@ use Rattle.pa_legal.proofs.holders.Held.{moves_hold, issuer_holds}
 use Rattle.pa_legal.proofs.holders.Records.{made_left}
 use Rattle.pa_legal.proofs.holders.Gone.{gone_from_journal, gone_from_records}
 
-module _ (supers partitions : ℕ) (ps : List Played) (pools : List PoolEntry) (roots : Journals) (a : AreKnown supers partitions ps pools roots) where
+module _ (supers partitions : ℕ) (ps : List Played) (pools : List PoolEntry) (roots : Journals)
+    (a : AreKnown supers partitions ps pools roots) where
   -- another partition's journal doesn't name the slot
   not_moved : (p q k : ℕ) (s : SlotName) (ms : List Move) → HasLeft roots p s → (q ≡ p → ⊥) → moves_at (roots q) s k ≡ ms → ms ≡ []
   not_moved p q k s [] left other is = refl
@@ -36,7 +37,8 @@ module _ (supers partitions : ℕ) (ps : List Played) (pools : List PoolEntry) (
       ap (λ a. marked (is_issue_at seen.slot (number_of seen.found.0)) (mark_of_answer x.line x.op a)) is
       ∙ rw (same_slot_yes seen.slot seen.slot refl, eq-eqb (number_of seen.found.0) (number_of seen.found.0) refl) refl
 
-  issuer : (x : Played) (seen : Seen) (usable : ℕ) → Contains ps x → x.answer ≡ Made seen usable → IsHeld ps roots seen.slot (number_of seen.found.0) (WithThread x.thread)
+  issuer : (x : Played) (seen : Seen) (usable : ℕ) → Contains ps x → x.answer ≡ Made seen usable →
+      IsHeld ps roots seen.slot (number_of seen.found.0) (WithThread x.thread)
   issuer x seen usable among is =
       let (p, left) = made_left partitions roots ps x seen usable a.caches among is in
       let k = number_of seen.found.0 in

@@ -50,17 +50,20 @@ walk at (m ∷ ms) (has, rest) =
     let c = here at m.way m.number has in
     omega arith
   where
-    here : (at : Option ℕ) (w : Way) (n : ℕ) → HasAt at w n → had at + cond {A = ℕ} (is_back w) 1 0 ≡ had (at_after w n) + cond {A = ℕ} (is_out w) 1 0
+    here : (at : Option ℕ) (w : Way) (n : ℕ) → HasAt at w n →
+        had at + cond {A = ℕ} (is_back w) 1 0 ≡ had (at_after w n) + cond {A = ℕ} (is_out w) 1 0
     here at Out n has = let e : had at ≡ 1 = ap had has in omega arith
     here at Back n has = let e : had at ≡ 0 = ap had has in omega arith
 
-slots_counted : (w : Way → Bool) (line : ℕ) (way : Way) (s : SlotName) (ns : List Numbered) → counted w (filter (is_of s) (map (move_of line way) ns)) ≡ cond {A = ℕ} (w way) (times s (names ns)) 0
+slots_counted : (w : Way → Bool) (line : ℕ) (way : Way) (s : SlotName) (ns : List Numbered) →
+    counted w (filter (is_of s) (map (move_of line way) ns)) ≡ cond {A = ℕ} (w way) (times s (names ns)) 0
 slots_counted w line way s [] = elim (cases_Bool (w way)) [ inl hit ↦ rw hit refl | inr miss ↦ rw miss refl ]
 slots_counted w line way s (n ∷ ns) =
     let a = times_cons s n.slot (names ns) in
     let ih = slots_counted w line way s ns in
     let b = one_slot (same_slot_cases n.slot s) in
-    let c : cond {A = ℕ} (w way) (times s (names (n ∷ ns))) 0 ≡ cond {A = ℕ} (w way) (once s n.slot) 0 + cond {A = ℕ} (w way) (times s (names ns)) 0 = parted (w way) _ _ _ a in
+    let c : cond {A = ℕ} (w way) (times s (names (n ∷ ns))) 0 ≡ cond {A = ℕ} (w way) (once s n.slot) 0 + cond {A = ℕ} (w way)
+    (times s (names ns)) 0 = parted (w way) _ _ _ a in
     omega arith
   where
     parted : (b : Bool) (all x y : ℕ) → all ≡ x + y → cond {A = ℕ} b all 0 ≡ cond {A = ℕ} b x 0 + cond {A = ℕ} b y 0
@@ -72,14 +75,17 @@ slots_counted w line way s (n ∷ ns) =
     one_slot (inl e) =
         ap (counted w) (filter_hit (map (move_of line way) ns) (same_slot_yes n.slot s e))
         ∙ sum_by-cons (λ (m : Move). cond {A = ℕ} (w m.way) 1 0) (move_of line way n) (filter (is_of s) (map (move_of line way) ns))
-        ∙ ap (λ z. cond {A = ℕ} (w way) z 0 + counted w (filter (is_of s) (map (move_of line way) ns))) (sym (rw (same_slot_yes s n.slot (sym e)) refl))
+        ∙ ap (λ z. cond {A = ℕ} (w way) z 0 + counted w (filter (is_of s) (map (move_of line way) ns)))
+        (sym (rw (same_slot_yes s n.slot (sym e)) refl))
       where
-        filter_hit : (ms : List Move) → same_slot n.slot s ≡ true → filter (is_of s) (move_of line way n ∷ ms) ≡ move_of line way n ∷ filter (is_of s) ms
+        filter_hit : (ms : List Move) → same_slot n.slot s ≡ true →
+            filter (is_of s) (move_of line way n ∷ ms) ≡ move_of line way n ∷ filter (is_of s) ms
         filter_hit ms hit = rw hit refl
     one_slot (inr ne) =
         let none : once s n.slot ≡ 0 = rw (same_slot_no s n.slot (λ e. ne (sym e))) refl in
         let zero_first : cond {A = ℕ} (w way) (once s n.slot) 0 ≡ 0 = ap (λ z. cond {A = ℕ} (w way) z 0) none ∙ flat (w way) in
-        let same : counted w (filter (is_of s) (map (move_of line way) (n ∷ ns))) ≡ counted w (filter (is_of s) (map (move_of line way) ns)) = rw (same_slot_no n.slot s ne) refl in
+        let same : counted w (filter (is_of s) (map (move_of line way) (n ∷ ns))) ≡ counted w
+        (filter (is_of s) (map (move_of line way) ns)) = rw (same_slot_no n.slot s ne) refl in
         omega arith
       where
         flat : (b : Bool) → cond {A = ℕ} b 0 0 ≡ 0
@@ -153,7 +159,12 @@ cached_out supers partitions threads p t class w ps pools roots all m r h lines 
       threads_below = few;
       steps = slots;
       below = below;
-      parts = record { rest = []; parts = sym (append-nil (roots p)); each = λ e member. each e member; none = λ e x member. absurd (not_in_none e member) };
+      parts = record {
+        rest = [];
+        parts = sym (append-nil (roots p));
+        each = λ e member. each e member;
+        none = λ e x member. absurd (not_in_none e member);
+      };
       caches = caches;
     })
     left word) [

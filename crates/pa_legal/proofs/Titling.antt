@@ -30,7 +30,8 @@ use Rattle.pa_rules.proofs.FourPlaces.{HasLeft}
 use Rattle.pa_legal.specs.Kinds.{OneKind}
 
 -- titles of one name, which aren't empty, are one
-one_title : (pools : List PoolEntry) (IsOne : Title → Type 0) (t u : Title) → AreTitles pools IsOne → IsOne t → IsOne u → name_of t ≡ name_of u → 1 ≤ t.len → 1 ≤ u.len → t ≡ u
+one_title : (pools : List PoolEntry) (IsOne : Title → Type 0) (t u : Title) → AreTitles pools IsOne → IsOne t → IsOne u →
+    name_of t ≡ name_of u → 1 ≤ t.len → 1 ≤ u.len → t ≡ u
 one_title pools IsOne t u h among among' same some some' =
     let start : t.start ≡ u.start = ap (λ (x : SlotName). x.start) same in
     elim (h.apart t u among among' (ap (λ (x : SlotName). x.born) same)) [
@@ -65,7 +66,8 @@ record HasMapTitle (ps : List Played) (pools : List PoolEntry) (roots : Journals
 abbrev pub IsMapOf : Journals → ℕ → RootEntry → SlotName → ℕ → Type 0
 IsMapOf roots p e s len = (asked : ℕ) × Contains (roots p) e × (e.act ≡ Map asked s len)
 
-map_long : (pools : List PoolEntry) (p asked len : ℕ) (s : SlotName) (x : Played) → MakesEntry pools p (Map asked s len) x → greatest_raw x.rules.version < len
+map_long : (pools : List PoolEntry) (p asked len : ℕ) (s : SlotName) (x : Played) → MakesEntry pools p (Map asked s len) x →
+    greatest_raw x.rules.version < len
 map_long pools p asked len s x (size, (reg, is, direct), same) = let long = long_in x.rules.version size direct in omega arith
 
 some_slot : (ps : List Played) (c : ℕ) → IsAsked ps c → 1 ≤ slot_of c
@@ -74,20 +76,23 @@ some_slot ps c (x, among, has) = let least = (IsRow-of c (real_in x.rules.versio
 some_map : (ps : List Played) (len : ℕ) → IsLong ps len → 1 ≤ len
 some_map ps len (x, among, long) = omega arith
 
-module _ (supers partitions : ℕ) (ps : List Played) (pools : List PoolEntry) (roots : Journals) (r : AreRoots partitions ps pools roots) (h : IsPoolOf supers ps pools roots) where
+module _ (supers partitions : ℕ) (ps : List Played) (pools : List PoolEntry) (roots : Journals) (r : AreRoots partitions ps pools roots)
+    (h : IsPoolOf supers ps pools roots) where
   -- the record of an entry's line makes it
   pub entry_made : (p : ℕ) (e : RootEntry) → Contains (roots p) e → (x : Played) × IsOfLine ps e.line x × MakesEntry pools p e.act x
   entry_made p e (j, few, is) = r.lines p j e (slice_get-get_or (roots p) j e few ∙ ap Some is)
 
   -- entries of one journal give a slot titles of one length
-  one_len : (p : ℕ) (t u : Title) → IsMadeBy pools (roots p) t → IsMadeBy pools (roots p) u → name_of t ≡ name_of u → 1 ≤ t.len → 1 ≤ u.len → t.len ≡ u.len
+  one_len : (p : ℕ) (t u : Title) → IsMadeBy pools (roots p) t → IsMadeBy pools (roots p) u → name_of t ≡ name_of u → 1 ≤ t.len →
+      1 ≤ u.len → t.len ≡ u.len
   one_len p t u among among' same some some' =
       let titles = (journal_leaves pools (roots p) (r.journals p)).titles in
       ap (λ (z : Title). z.len) (one_title pools (IsMadeBy pools (roots p)) t u titles among among' same some some')
 
   -- a slot of one journal is of no other
   pub one_partition : (s : SlotName) (p q : ℕ) → HasLeft roots p s → HasLeft roots q s → p ≡ q
-  one_partition s p q (e, among, leaves) (f, among', leaves') = only_of supers partitions ps pools roots q f s r h among' leaves' p e among leaves
+  one_partition s p q (e, among, leaves) (f, among', leaves') =
+      only_of supers partitions ps pools roots q f s r h among' leaves' p e among leaves
 
   -- a class of the version of one record is one of the version of any other
   asked_by_all : (c : ℕ) (y : Played) → IsAsked ps c → Contains ps y → HasClass y.rules.version c
@@ -102,7 +107,8 @@ module _ (supers partitions : ℕ) (ps : List Played) (pools : List PoolEntry) (
   shorter c len asked (y, member, long) = let most = slot_in y.rules.version c (asked_by_all c y asked member) in omega arith
 
   -- the class of a fill is the one that its record asks for
-  class_asked : (p c : ℕ) (asked : Option ℕ) (slots : List Numbered) (e : RootEntry) → Contains (roots p) e → e.act ≡ Fill c asked slots → IsAsked ps c
+  class_asked : (p c : ℕ) (asked : Option ℕ) (slots : List Numbered) (e : RootEntry) → Contains (roots p) e → e.act ≡ Fill c asked slots →
+      IsAsked ps c
   class_asked p c asked slots e among is =
       let (x, of, makes) = entry_made p e among in
       let (reg, size, asks, class) = subst (λ act. MakesEntry pools p act x) is makes in
@@ -113,13 +119,15 @@ module _ (supers partitions : ℕ) (ps : List Played) (pools : List PoolEntry) (
 
   class_title : (s : SlotName) (p c : ℕ) → IsOfClass roots s p c → (t : Title) × HasClassTitle ps pools roots s p c t
   class_title s p c (e, asked, slots, among, is, member) =
-      let (t, made, named, sized) = title_of pools (roots p) e s (r.journals p) among (subst (λ act. Contains (leaves_by act) s) (sym is) member) in
+      let (t, made, named, sized) =
+      title_of pools (roots p) e s (r.journals p) among (subst (λ act. Contains (leaves_by act) s) (sym is) member) in
       let (small, len) = subst (λ act. HasLen act t) is sized in
       (t, record { made = made; names = named; real = class_asked p c asked slots e among is; len = len })
 
   map_title_of : (s : SlotName) (p len : ℕ) (e : RootEntry) → IsMapOf roots p e s len → (t : Title) × HasMapTitle ps pools roots s p len t
   map_title_of s p len e (asked, among, is) =
-      let (t, made, named, sized) = title_of pools (roots p) e s (r.journals p) among (subst (λ act. Contains (leaves_by act) s) (sym is) (first_in s [])) in
+      let (t, made, named, sized) =
+      title_of pools (roots p) e s (r.journals p) among (subst (λ act. Contains (leaves_by act) s) (sym is) (first_in s [])) in
       let size : t.len ≡ len = subst (λ act. HasLen act t) is sized in
       let (x, of, makes) = entry_made p e among in
       let long = map_long pools p asked len s x (subst (λ act. MakesEntry pools p act x) is makes) in
@@ -172,11 +180,13 @@ module _ (supers partitions : ℕ) (ps : List Played) (pools : List PoolEntry) (
       let same : p ≡ q = one_partition s p q (class_leaves roots s p c x) (map_leaves roots s q y) in
       class_or_direct_here s q c (subst (λ k. IsOfClass roots s k c) same x) y
 
-  direct_of : (s : SlotName) (p len : ℕ) → (e : RootEntry) × (asked : ℕ) × Contains (roots p) e × (e.act ≡ Map asked s len) → IsDirect roots s p
+  direct_of : (s : SlotName) (p len : ℕ) → (e : RootEntry) × (asked : ℕ) × Contains (roots p) e × (e.act ≡ Map asked s len) →
+      IsDirect roots s p
   direct_of s p len (e, asked, among, is) = (e, asked, len, among, is)
 
   pub one_size : (s : SlotName) (p q len more : ℕ) → HasSize roots p s len → HasSize roots q s more → (p ≡ q) × (len ≡ more)
-  one_size s p q len more (inl (c, x, is)) (inl (d, y, is')) = let (same, e) = one_class s p q c d x y in (same, is ∙ ap slot_of e ∙ sym is')
+  one_size s p q len more (inl (c, x, is)) (inl (d, y, is')) = let (same, e) = one_class s p q c d x y in
+      (same, is ∙ ap slot_of e ∙ sym is')
   one_size s p q len more (inl (c, x, is)) (inr y) = absurd (class_or_direct s p q c x (direct_of s q more y))
   one_size s p q len more (inr x) (inl (d, y, is)) = absurd (class_or_direct s q p d y (direct_of s p len x))
   one_size s p q len more (inr (e, asked, among, is)) (inr (f, asked', among', is')) =

@@ -41,7 +41,8 @@ pub record Steps (ps : List Played) (s : SlotName) (x : Played) (m : Mark) (p : 
   pub step : m.step ≡ Some p
 
 -- one number of a slot is found by one step
-pub one_stepper : (ps : List Played) (s : SlotName) (x y : Played) (m n : Mark) (p q : Step) → AllPairs OtherRecord ps → Slots (marks_of ps) → Steps ps s x m p → Steps ps s y n q →
+pub one_stepper : (ps : List Played) (s : SlotName) (x y : Played) (m n : Mark) (p q : Step) → AllPairs OtherRecord ps →
+    Slots (marks_of ps) → Steps ps s x m p → Steps ps s y n q →
     number_of m.found ≡ number_of n.found → x ≡ y
 one_stepper ps s x y m n p q lines slots a b same =
     let ms = marks_of ps in
@@ -71,7 +72,8 @@ only_issue Free w can held refs = let some = can.0 in absurd (omega arith)
 only_issue Write w can held refs = let some = can.0.0 in absurd (omega arith)
 
 -- a step was made at a word of the run after which there is another
-pub goes_past : (ms : List Mark) (s : SlotName) (u : ℕ) (vs : List ℕ) (w v : ℕ) → IsRunFrom ms s u vs → Contains (u ∷ vs) w → Contains (u ∷ vs) v → number_of w < number_of v →
+pub goes_past : (ms : List Mark) (s : SlotName) (u : ℕ) (vs : List ℕ) (w v : ℕ) → IsRunFrom ms s u vs → Contains (u ∷ vs) w →
+    Contains (u ∷ vs) v → number_of w < number_of v →
     (m : Mark) × (p : Step) × IsFirstAt ms s w m p × CanStep p w
 goes_past ms s u [] w v run first second less =
     let e : number_of u ≡ number_of w = ap number_of (in_one u w first) in

@@ -29,8 +29,8 @@ is_of s m = same_slot m.slot s
 abbrev pub moves_of : List RootEntry → SlotName → List Move
 moves_of journal s = filter (is_of s) (all_moves journal)
 
--- `at` is the number at which the root has the slot, none while it is out: the root hands the slot out at that number, and takes
--- it back while it is out.
+-- `at` is the number at which the root has the slot, none while it is out: the root hands the slot out at that number,
+-- and takes it back while it is out.
 abbrev pub HasAt : Option ℕ → Way → ℕ → Type 0
 HasAt at Out n = at ≡ Some n
 HasAt at Back n = at ≡ None
@@ -82,8 +82,8 @@ CachedOut =
     CachesTo partitions roots no_caches ps all → p < partitions → t < threads → class < class_count → Contains (all t p class) m →
     HasWord ps m.slot w → IsCachedOut pools roots threads p all m.slot w
 
--- A root's numbers go on as its journal grows: the slot's moves are those before and those after, which begin where the
--- ones before left it.
+-- A root's numbers go on as its journal grows: the slot's moves are those before and those after,
+-- which begin where the ones before left it.
 pub record NumbersGrow : Type 0 where
   pub fits : (at : Option ℕ) (ms ns : List Move) → IsNumbered at ms → IsNumbered (at_end at ms) ns → IsNumbered at (ms ++ ns)
   pub ends : (at : Option ℕ) (ms ns : List Move) → at_end at (ms ++ ns) ≡ at_end (at_end at ms) ns

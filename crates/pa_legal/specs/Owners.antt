@@ -26,8 +26,8 @@ pub record WasPut (cells : ℕ → List CellEntry) (ps : List Played) (x : Playe
   pub last : (z : Played) (other : Reg) → Contains ps z → z.thread ≡ x.thread → y.line < z.line → z.line < x.line →
       change_of cells z.op z.answer ≡ Some (reg, other) → ⊥
 
--- What is known of the records of a trace of this version: they are in the order of their lines, and four clauses of a legal run
--- hold.
+-- What is known of the records of a trace of this version: they are in the order of their lines,
+-- and four clauses of a legal run hold.
 pub record HaveHandles (version : ℕ) (cells : ℕ → List CellEntry) (ps : List Played) : Type 0 where
   pub rising : RiseByLine ps
   pub exchanges : AreCells cells ps
@@ -43,10 +43,12 @@ LegalHasHandles = (t : Trace) (r : Told) → IsLegalTold t r → HaveHandles t.v
 abbrev pub HandlesArePut : Type 0
 HandlesArePut =
     (version : ℕ) (cells : ℕ → List CellEntry) (ps : List Played) (x : Played) (regs : Regs) (reg : ℕ) →
-    HaveHandles version cells ps → HasRegs (usable_of version) cells ps x regs → regs reg ≢ Empty → (y : Played) × WasPut cells ps x reg (regs reg) y
+    HaveHandles version cells ps → HasRegs (usable_of version) cells ps x regs → regs reg ≢ Empty →
+    (y : Played) × WasPut cells ps x reg (regs reg) y
 
 -- While a thread has the Own of a slot in a register, each of its records finds the slot's bit.
 abbrev pub OwnersFindTheBit : Type 0
 OwnersFindTheBit =
     (version : ℕ) (cells : ℕ → List CellEntry) (ps : List Played) (x : Played) (m : Mark) (regs : Regs) (reg : ℕ) →
-    HaveHandles version cells ps → HasRegs (usable_of version) cells ps x regs → regs reg ≡ Own m.slot → mark_of x ≡ Some m → held_of m.found ≡ 1
+    HaveHandles version cells ps → HasRegs (usable_of version) cells ps x regs → regs reg ≡ Own m.slot →
+    mark_of x ≡ Some m → held_of m.found ≡ 1

@@ -21,14 +21,14 @@ pub fn one_kind()
     ensures { OneKind }
 {}
 
-/// The law that each free slot has one holder, from the caches, the roots, the pool, the slots and the numbers at which a
-/// root has each slot.
+/// The law that each free slot has one holder, from the caches, the roots, the pool,
+/// the slots and the numbers at which a root has each slot.
 pub fn holders_follow()
     ensures { HoldersFollow }
 {}
 
-/// The law that a run is legal if each of its clauses is known but the titles and the holders, and so are the numbers at which
-/// a root has each slot.
+/// The law that a run is legal if each of its clauses is known but the titles and the holders,
+/// and so are the numbers at which a root has each slot.
 pub fn legal_follows()
     ensures { LegalFollows }
 {}
@@ -74,8 +74,8 @@ pub fn handles_are_put()
     ensures { HandlesArePut }
 {}
 
-/// The law that while a thread has the Own of a slot each of its records finds the slot's bit: so whoever finds a slot without it
-/// doesn't own it.
+/// The law that while a thread has the Own of a slot each of its records finds the slot's bit:
+/// so whoever finds a slot without it doesn't own it.
 pub fn owners_find_the_bit()
     ensures { OwnersFindTheBit }
 {}

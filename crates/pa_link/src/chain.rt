@@ -86,7 +86,8 @@ impl Chain {
         requires few { self.old.len < 4294967295 }
         ensures region { seat.new.region ≡ seat.old.region }
         ensures view { seat.new.view ≡ after_link title (link_to self.old.head) seat.old.view }
-        ensures chain { (ts : List Title) → IsChain seat.old.view self.old ts → (Contains ts title → ⊥) → IsChain seat.new.view self.new (title ∷ ts) }
+        ensures chain { (ts : List Title) → IsChain seat.old.view self.old ts → (Contains ts title → ⊥) →
+            IsChain seat.new.view self.new (title ∷ ts) }
         ensures front { self.new.head ≡ Some (name_of title) }
         ensures len { self.new.len ≡ self.old.len + 1 }
         ensures slot_len { self.new.slot_len ≡ self.old.slot_len }
@@ -143,7 +144,8 @@ impl Chain {
         requires chain { (ts : List Title) × IsChain seat.old.view self.old ts }
         ensures region { seat.new.region ≡ seat.old.region }
         ensures relinked { Relinked seat.old.view seat.new.view }
-        ensures beside { (ts : List Title) → IsChain seat.old.view self.old ts → SameBeside (take keep ts) seat.old.view.words seat.new.view.words }
+        ensures beside { (ts : List Title) → IsChain seat.old.view self.old ts →
+            SameBeside (take keep ts) seat.old.view.words seat.new.view.words }
         ensures chain { (ts : List Title) → IsChain seat.old.view self.old ts →
             (result.items ≡ take 16 (drop keep ts)) × IsChain seat.new.view self.new (take keep ts ++ drop (keep + 16) ts) }
         ensures slot_len { self.new.slot_len ≡ self.old.slot_len }
@@ -210,7 +212,8 @@ fn take_front(chain: &mut Chain, region: &Region, seat: &mut Seat) -> ArrayVec<T
     requires region { seat.old.region ≡ region.now }
     requires chain { (ts : List Title) × IsChain seat.old.view chain.old ts }
     ensures seat { seat.new ≡ seat.old }
-    ensures chain { (ts : List Title) → IsChain seat.old.view chain.old ts → (result.items ≡ take 16 ts) × IsChain seat.old.view chain.new (drop 16 ts) }
+    ensures chain { (ts : List Title) → IsChain seat.old.view chain.old ts → (result.items ≡ take 16 ts) ×
+        IsChain seat.old.view chain.new (drop 16 ts) }
     ensures slot_len { chain.new.slot_len ≡ chain.old.slot_len }
     ensures len { chain.new.len ≤ chain.old.len }
 {

@@ -73,10 +73,12 @@ only_one (y ∷ F) G a e = absurd (let rest : [] ≡ F ++ a ∷ G = cc in none_c
 -- what comes after a first part with a member is in all but the first one
 pub not_again : {A : Type 0} (F B E : List A) (p q : A) → F ++ B ≡ q ∷ E → Contains F p → Contains B q → Contains E q
 not_again [] B E p q e first second = absurd (not_in_none p first)
-not_again (z ∷ F) B E p q e first second = let rest : F ++ B ≡ E = cc in subst (λ zs. Contains zs q) rest (Contains-append_right F B q second)
+not_again (z ∷ F) B E p q e first second = let rest : F ++ B ≡ E = cc in
+    subst (λ zs. Contains zs q) rest (Contains-append_right F B q second)
 
 -- what holds wherever a list is cut at two members holds of each two
-pub pairs_cuts : {A : Type 0} (S : A → A → Type 0) (xs : List A) → ((us vs ws : List A) (a b : A) → xs ≡ us ++ a ∷ (vs ++ b ∷ ws) → S a b) → AllPairs S xs
+pub pairs_cuts : {A : Type 0} (S : A → A → Type 0) (xs : List A) → ((us vs ws : List A) (a b : A) → xs ≡ us ++ a ∷ (vs ++ b ∷ ws) → S a b) →
+    AllPairs S xs
 pairs_cuts S [] h = pairs_none S
 pairs_cuts S (x ∷ xs) h =
     pairs_cons S x xs (λ y among. let (vs, ws, parts) = parts_at xs y among in h [] vs ws x y (ap (λ zs. x ∷ zs) parts))
@@ -85,7 +87,8 @@ pairs_cuts S (x ∷ xs) h =
 -- ---- first parts that grow
 
 -- a list whose map is in two parts is in two parts itself
-pub map_front : {A B : Type 0} (f : A → B) (xs : List A) (ys zs : List B) → map f xs ≡ ys ++ zs → (map f (take (length ys) xs) ≡ ys) × (xs ≡ take (length ys) xs ++ drop (length ys) xs)
+pub map_front : {A B : Type 0} (f : A → B) (xs : List A) (ys zs : List B) → map f xs ≡ ys ++ zs → (map f (take (length ys) xs) ≡ ys) ×
+    (xs ≡ take (length ys) xs ++ drop (length ys) xs)
 map_front f xs [] zs e = (refl, refl)
 map_front f [] (y ∷ ys) zs e = absurd cc
 map_front f (x ∷ xs) (y ∷ ys) zs e =
@@ -100,7 +103,8 @@ take_both [] b xs = (take (length b) xs, refl)
 take_both (y ∷ a) b [] = ([], refl)
 take_both (y ∷ a) b (x ∷ xs) = let (c, is) = take_both a b xs in (c, ap (λ z. x ∷ z) is)
 
-pub in_front_more : {A B : Type 0} (a b : List B) (xs : List A) (x : A) → Contains (take (length a) xs) x → Contains (take (length (a ++ b)) xs) x
+pub in_front_more : {A B : Type 0} (a b : List B) (xs : List A) (x : A) → Contains (take (length a) xs) x →
+    Contains (take (length (a ++ b)) xs) x
 in_front_more [] b xs x among = absurd (not_in_none x among)
 in_front_more (c ∷ a) b [] x among = absurd (not_in_none x among)
 in_front_more (c ∷ a) b (y ∷ xs) x among = elim (in_cases y x (take (length a) xs) among) [
@@ -108,7 +112,8 @@ in_front_more (c ∷ a) b (y ∷ xs) x among = elim (in_cases y x (take (length 
   | inr later ↦ later_in y x (take (length (a ++ b)) xs) (in_front_more a b xs x later)
 ]
 
-pub in_back_more : {A B : Type 0} (a b : List B) (xs : List A) (x : A) → Contains (drop (length (a ++ b)) xs) x → Contains (drop (length a) xs) x
+pub in_back_more : {A B : Type 0} (a b : List B) (xs : List A) (x : A) → Contains (drop (length (a ++ b)) xs) x →
+    Contains (drop (length a) xs) x
 in_back_more [] b xs x among = drop_in (length b) xs x among
 in_back_more (c ∷ a) b [] x among = among
 in_back_more (c ∷ a) b (y ∷ xs) x among = in_back_more a b xs x among

@@ -64,7 +64,8 @@ passing_same f g (suc n) h =
     rw (h n (omega arith), ih) refl
 
 -- tests that agree but at one number
-pub passing_one_more : (f g : ℕ → Bool) (n k : ℕ) → k < n → f k ≡ false → g k ≡ true → ((i : ℕ) → (i ≡ k → ⊥) → f i ≡ g i) → passing g n ≡ passing f n + 1
+pub passing_one_more : (f g : ℕ → Bool) (n k : ℕ) → k < n → f k ≡ false → g k ≡ true → ((i : ℕ) → (i ≡ k → ⊥) → f i ≡ g i) →
+    passing g n ≡ passing f n + 1
 passing_one_more f g zero k below p q h = absurd (omega arith)
 passing_one_more f g (suc n) k below p q h = elim (cases_eq k n) [
   | inl same ↦
@@ -106,7 +107,8 @@ length_is (x ∷ xs) n once below =
     omega arith
 
 -- if one number below n isn't in it, it is shorter
-pub length_less : (xs : List ℕ) (n k : ℕ) → AllPairs ◌≢◌ xs → ((i : ℕ) → Contains xs i → i < n) → k < n → (Contains xs k → ⊥) → length xs < n
+pub length_less : (xs : List ℕ) (n k : ℕ) → AllPairs ◌≢◌ xs → ((i : ℕ) → Contains xs i → i < n) → k < n → (Contains xs k → ⊥) →
+    length xs < n
 length_less xs n k once below less away =
     let e = length_is xs n once below in
     let fewer = passing_less (λ i. has i xs) n k less (false_from_ne_true _ (λ hit. away (has_some k xs hit))) in

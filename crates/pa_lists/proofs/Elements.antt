@@ -51,7 +51,9 @@ all_back P (x ∷ xs) ys h = all_back P xs ys (All-tail P x (xs ++ ys) h)
 
 pub pairs_front : {A : Type 0} (R : A → A → Type 0) (xs ys : List A) → AllPairs R (xs ++ ys) → AllPairs R xs
 pairs_front R [] ys h = pairs_none R
-pairs_front R (x ∷ xs) ys h = pairs_cons R x xs (λ y among. pairs_head R x y (xs ++ ys) h (Contains-append_left xs ys y among)) (pairs_front R xs ys (pairs_tail R x (xs ++ ys) h))
+pairs_front R (x ∷ xs) ys h =
+    pairs_cons R x xs (λ y among. pairs_head R x y (xs ++ ys) h (Contains-append_left xs ys y among))
+    (pairs_front R xs ys (pairs_tail R x (xs ++ ys) h))
 
 pub same_cons : {A : Type 0} (x y : A) (xs ys : List A) → x ≡ y → xs ≡ ys → x ∷ xs ≡ y ∷ ys
 same_cons x y xs ys e f = cc
@@ -65,7 +67,8 @@ map_one f (x ∷ []) y e = (x, refl, cc)
 map_one f (x ∷ z ∷ zs) y e = absurd cc
 
 -- lists of the same values are the same if a value determines the element
-pub map_tells : {A B : Type 0} (f : A → B) (xs ys : List A) → ((x y : A) → Contains xs x → Contains ys y → f x ≡ f y → x ≡ y) → map f xs ≡ map f ys → xs ≡ ys
+pub map_tells : {A B : Type 0} (f : A → B) (xs ys : List A) → ((x y : A) → Contains xs x → Contains ys y → f x ≡ f y → x ≡ y) →
+    map f xs ≡ map f ys → xs ≡ ys
 map_tells f [] [] tells e = refl
 map_tells f [] (y ∷ ys) tells e = absurd cc
 map_tells f (x ∷ xs) [] tells e = absurd cc

@@ -30,7 +30,8 @@ pub option_cases : {A B : Type 0} (f : A → B) (o : Option A) (y : B) → optio
 option_cases f None y e = absurd (not_some y e)
 option_cases f (Some x) y e = (x, refl, of_some (f x) y e)
 
-pub map_at : {A B : Type 0} (f : A → B) (xs : List A) (i : ℕ) (y : B) → slice_get (map f xs) i ≡ Some y → (x : A) × (slice_get xs i ≡ Some x) × (f x ≡ y)
+pub map_at : {A B : Type 0} (f : A → B) (xs : List A) (i : ℕ) (y : B) → slice_get (map f xs) i ≡ Some y → (x : A) ×
+    (slice_get xs i ≡ Some x) × (f x ≡ y)
 map_at f xs i y at = option_cases f (slice_get xs i) y (sym (slice_get-map f xs i) ∙ at)
 
 pub at_map : {A B : Type 0} (f : A → B) (xs : List A) (i : ℕ) (x : A) → slice_get xs i ≡ Some x → slice_get (map f xs) i ≡ Some (f x)
@@ -83,7 +84,8 @@ here_is (x ∷ xs) zero d below = refl
 here_is (x ∷ xs) (suc i) d below = here_is xs i d (omega (arith, below))
 
 -- what is at a place of a list with one element more
-pub push_at : {A : Type 0} (xs : List A) (x y : A) (i : ℕ) → slice_get (xs ++ x ∷ []) i ≡ Some y → (slice_get xs i ≡ Some y) ⊎ ((i ≡ length xs) × (x ≡ y))
+pub push_at : {A : Type 0} (xs : List A) (x y : A) (i : ℕ) → slice_get (xs ++ x ∷ []) i ≡ Some y → (slice_get xs i ≡ Some y) ⊎
+    ((i ≡ length xs) × (x ≡ y))
 push_at [] x y zero at = inr (refl, of_some x y at)
 push_at [] x y (suc i) at = absurd (not_some y at)
 push_at (z ∷ zs) x y zero at = inl at

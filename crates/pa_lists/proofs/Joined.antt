@@ -47,7 +47,8 @@ filter_in test (y ∷ ys) x among passes = elim (cases_Bool (test y)) [
 pub filter_here : {A : Type 0} (test : A → Bool) (x : A) (xs : List A) → test x ≡ true → filter test (x ∷ xs) ≡ x ∷ filter test xs
 filter_here test x xs is = rw is refl
 
-pub flat_cases : {A B : Type 0} (f : A → List B) (xs : List A) (y : B) → Contains (flat_map f xs) y → (x : A) × Contains xs x × Contains (f x) y
+pub flat_cases : {A B : Type 0} (f : A → List B) (xs : List A) (y : B) → Contains (flat_map f xs) y → (x : A) × Contains xs x ×
+    Contains (f x) y
 flat_cases f [] y among = absurd (not_in_none y among)
 flat_cases f (x ∷ xs) y among = elim (Contains-append_cases (f x) (flat_map f xs) y among) [
   | inl here ↦ (x, first_in x xs, here)
@@ -62,7 +63,8 @@ flat_in f (z ∷ zs) x y among there = elim (in_cases z x zs among) [
 ]
 
 -- what each two members of a list give for their images
-pub pairs_map : {A B : Type 0} (R : A → A → Type 0) (S : B → B → Type 0) (f : A → B) (xs : List A) → ((x y : A) → Contains xs x → Contains xs y → R x y → S (f x) (f y))
+pub pairs_map : {A B : Type 0} (R : A → A → Type 0) (S : B → B → Type 0) (f : A → B) (xs : List A) →
+    ((x y : A) → Contains xs x → Contains xs y → R x y → S (f x) (f y))
     → AllPairs R xs → AllPairs S (map f xs)
 pairs_map R S f [] h pairs = pairs_none S
 pairs_map R S f (x ∷ xs) h pairs =
@@ -71,7 +73,8 @@ pairs_map R S f (x ∷ xs) h pairs =
     subst (λ u. S (f x) u) e (h x z (first_in x xs) (later_in x z xs member) (pairs_head R x z xs pairs member)))
     (pairs_map R S f xs (λ y z p q. h y z (later_in x y xs p) (later_in x z xs q)) (pairs_tail R x xs pairs))
 
-pub pairs_append : {A : Type 0} (R : A → A → Type 0) (xs ys : List A) → AllPairs R xs → AllPairs R ys → ((x y : A) → Contains xs x → Contains ys y → R x y) → AllPairs R (xs ++ ys)
+pub pairs_append : {A : Type 0} (R : A → A → Type 0) (xs ys : List A) → AllPairs R xs → AllPairs R ys →
+    ((x y : A) → Contains xs x → Contains ys y → R x y) → AllPairs R (xs ++ ys)
 pairs_append R [] ys first second across = second
 pairs_append R (x ∷ xs) ys first second across =
     pairs_cons R x (xs ++ ys)
@@ -81,11 +84,14 @@ pairs_append R (x ∷ xs) ys first second across =
     ])
     (pairs_append R xs ys (pairs_tail R x xs first) second (λ u y p q. across u y (later_in x u xs p) q))
 
-pub pairs_flat : {A B : Type 0} (R : A → A → Type 0) (S : B → B → Type 0) (f : A → List B) (xs : List A) → AllPairs R xs → ((x : A) → Contains xs x → AllPairs S (f x))
-    → ((x y : A) (a b : B) → Contains xs x → Contains xs y → R x y → Contains (f x) a → Contains (f y) b → S a b) → AllPairs S (flat_map f xs)
+pub pairs_flat : {A B : Type 0} (R : A → A → Type 0) (S : B → B → Type 0) (f : A → List B) (xs : List A) → AllPairs R xs →
+    ((x : A) → Contains xs x → AllPairs S (f x))
+    → ((x y : A) (a b : B) → Contains xs x → Contains xs y → R x y → Contains (f x) a → Contains (f y) b → S a b) →
+    AllPairs S (flat_map f xs)
 pairs_flat R S f [] pairs each across = pairs_none S
 pairs_flat R S f (x ∷ xs) pairs each across =
     pairs_append S (f x) (flat_map f xs) (each x (first_in x xs))
-    (pairs_flat R S f xs (pairs_tail R x xs pairs) (λ y p. each y (later_in x y xs p)) (λ y z a b p q. across y z a b (later_in x y xs p) (later_in x z xs q)))
+    (pairs_flat R S f xs (pairs_tail R x xs pairs) (λ y p. each y (later_in x y xs p))
+    (λ y z a b p q. across y z a b (later_in x y xs p) (later_in x z xs q)))
     (λ a b p q. let (y, member, there) = flat_cases f xs b q in
     across x y a b (first_in x xs) (later_in x y xs member) (pairs_head R x y xs pairs member) p there)

@@ -7,7 +7,8 @@ use Rattle.pa_lists.proofs.Members.{not_in_none, first_in, later_in}
 pub pairs_none : {A : Type 0} (R : A → A → Type 0) → AllPairs R []
 pairs_none R i j d before below = absurd (omega arith)
 
-pub pairs_cons : {A : Type 0} (R : A → A → Type 0) (x : A) (xs : List A) → ((y : A) → Contains xs y → R x y) → AllPairs R xs → AllPairs R (x ∷ xs)
+pub pairs_cons : {A : Type 0} (R : A → A → Type 0) (x : A) (xs : List A) → ((y : A) → Contains xs y → R x y) → AllPairs R xs →
+    AllPairs R (x ∷ xs)
 pairs_cons R x xs h hs zero zero d before below = absurd (omega arith)
 pairs_cons R x xs h hs zero (suc j) d before below = h (get_or xs j d) (Contains-get_or xs j d (omega arith))
 pairs_cons R x xs h hs (suc i) zero d before below = absurd (omega arith)
@@ -20,7 +21,8 @@ pub pairs_head : {A : Type 0} (R : A → A → Type 0) (x y : A) (xs : List A) �
 pairs_head R x y xs h (k, below, e) = subst (λ z. R x z) e (h 0 (suc k) y (omega arith) (omega arith))
 
 -- one more at the end
-pub pairs_push : {A : Type 0} (R : A → A → Type 0) (xs : List A) (y : A) → AllPairs R xs → ((x : A) → Contains xs x → R x y) → AllPairs R (xs ++ y ∷ [])
+pub pairs_push : {A : Type 0} (R : A → A → Type 0) (xs : List A) (y : A) → AllPairs R xs → ((x : A) → Contains xs x → R x y) →
+    AllPairs R (xs ++ y ∷ [])
 pairs_push R [] y h hs = pairs_cons R y [] (λ z among. absurd (not_in_none z among)) (pairs_none R)
 pairs_push R (x ∷ xs) y h hs =
     pairs_cons R x (xs ++ y ∷ [])

@@ -5,7 +5,8 @@ use Rattle.std.proofs.lemmas.List.Elements.{Contains-append_right}
 use Rattle.pa_lists.proofs.Members.{not_in_none, in_cases}
 use Rattle.pa_lists.proofs.Pairs.{pairs_head, pairs_tail}
 
-pub pairs_across : {A : Type 0} (R : A → A → Type 0) (xs ys : List A) (x y : A) → AllPairs R (xs ++ ys) → Contains xs x → Contains ys y → R x y
+pub pairs_across : {A : Type 0} (R : A → A → Type 0) (xs ys : List A) (x y : A) → AllPairs R (xs ++ ys) → Contains xs x → Contains ys y →
+    R x y
 pairs_across R [] ys x y h first second = absurd (not_in_none x first)
 pairs_across R (z ∷ xs) ys x y h first second = elim (in_cases z x xs first) [
   | inl e ↦ subst (λ u. R u y) e (pairs_head R z y (xs ++ ys) h (Contains-append_right xs ys y second))

@@ -32,6 +32,7 @@ on_ok (Ok x) P Q p f = f p
 on_ok (Err e) P Q p f = tt
 
 -- what follows of an answer and of an error follows
-pub either : {A E : Type 0} (r : Result A E) (P : A → Type 0) (Q : E → Type 0) (T : Type 0) → IfOk r P → IfErr r Q → ((a : A) → P a → T) → ((e : E) → Q e → T) → T
+pub either : {A E : Type 0} (r : Result A E) (P : A → Type 0) (Q : E → Type 0) (T : Type 0) → IfOk r P → IfErr r Q → ((a : A) → P a → T) →
+    ((e : E) → Q e → T) → T
 either (Ok a) P Q T ok err f g = f a ok
 either (Err e) P Q T ok err f g = g e err

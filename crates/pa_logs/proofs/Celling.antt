@@ -20,14 +20,16 @@ record IsOfCell (swaps : List SwapMade) (k : ℕ) (e : CellEntry) (i : ℕ) (s :
   pub at_i : StandsAt swaps i e s
   pub cell : s.cell ≡ k
 
-of_cell : (swaps : List SwapMade) (k j : ℕ) (e : CellEntry) → slice_get (cell_list k swaps) j ≡ Some e → (i : ℕ) × (s : SwapMade) × IsOfCell swaps k e i s
+of_cell : (swaps : List SwapMade) (k j : ℕ) (e : CellEntry) → slice_get (cell_list k swaps) j ≡ Some e → (i : ℕ) × (s : SwapMade) ×
+    IsOfCell swaps k e i s
 of_cell swaps k j e at_j =
     let (s, member, is) = map_cases (λ (z : SwapMade). z.entry) _ e (get_in (cell_list k swaps) j e at_j) in
     let (among, cell) = filter_cases (is_of_cell k) swaps s member in
     let (i, at_i) = in_at swaps s among in
     (i, s, record { at_i = record { at_i = at_i; is = is }; cell = eqb-true s.cell k cell })
 
-module _ (list : List Made) (cells : ℕ → List CellEntry) (swaps : List SwapMade) (ts : List ToldRecord) (are : AreSwapped list cells swaps ts) (answered : AreAnswered cells swaps ts) where
+module _ (list : List Made) (cells : ℕ → List CellEntry) (swaps : List SwapMade) (ts : List ToldRecord)
+    (are : AreSwapped list cells swaps ts) (answered : AreAnswered cells swaps ts) where
   -- exchanges of one line are at one place
   one_cell : (k l i j : ℕ) (e f : CellEntry) → IsExchange cells k i e → IsExchange cells l j f → e.line ≡ f.line → k ≡ l
   one_cell k l i j e f at_i at_j same =
@@ -62,8 +64,13 @@ module _ (list : List Made) (cells : ℕ → List CellEntry) (swaps : List SwapM
     chain = answered.chain;
     lines = λ k j e at_j.
         let (i, s, here) = of_cell swaps k j e (in_cell list cells swaps ts are k j e at_j) in
-        let (x, reg, among, line, op) = answered.made s (get_in swaps i s here.at_i.at_i) in
-        (x.played, reg, (map_in (λ (z : ToldRecord). z.played) ts x among, line ∙ ap (λ (z : CellEntry). z.line) here.at_i.is), op ∙ ap (λ n. Swap n reg) here.cell);
+        let (x, reg, among, line, op) = answered.made s (get_in swaps i s here.at_i.at_i) in (
+          x.played,
+          reg,
+          (map_in (λ (z : ToldRecord). z.played) ts x among, line ∙ ap (λ (z : CellEntry). z.line) here.at_i.is),
+          op ∙
+              ap (λ n. Swap n reg) here.cell,
+        );
     different = one_place;
     answers = λ p k reg among op.
         let (x, there, e) = map_cases (λ (z : ToldRecord). z.played) ts p among in
@@ -72,7 +79,8 @@ module _ (list : List Made) (cells : ℕ → List CellEntry) (swaps : List SwapM
     order = λ k i j e f p q at_i at_j of other before.
         let (x, there, a) = map_cases (λ (z : ToldRecord). z.played) ts p of.0 in
         let (y, there', b) = map_cases (λ (z : ToldRecord). z.played) ts q other.0 in
-        order list cells swaps ts are k i j e f x y at_i at_j there there' (ap (λ (z : Played). z.line) a ∙ of.1) (ap (λ (z : Played). z.line) b ∙ other.1)
+        order list cells swaps ts are k i j e f x y at_i at_j there there' (ap (λ (z : Played). z.line) a ∙ of.1)
+        (ap (λ (z : Played). z.line) b ∙ other.1)
         (subst (λ (z : Played). StandsBefore z y.played) (sym a) (subst (λ (z : Played). StandsBefore p z) (sym b) before));
   }
 

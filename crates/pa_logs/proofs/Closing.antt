@@ -35,7 +35,8 @@ none_unclean v t clean =
     ]
 
 -- what the region says of a title's words is what is asked here
-ends_so : (words : List ℕ) (v : View) (t : Title) (history : List Done) → unclean_of v ≡ 0 → RegionEndsWith words v t history → EndsWith words t history
+ends_so : (words : List ℕ) (v : View) (t : Title) (history : List Done) → unclean_of v ≡ 0 → RegionEndsWith words v t history →
+    EndsWith words t history
 ends_so words v t history clean is = record {
   word = is.last;
   quarantined = λ freed i from below. is.poison freed i below;
@@ -43,13 +44,15 @@ ends_so words v t history clean is = record {
 }
 
 -- a title that exists is named, or held by the seat
-ends_told : (words : List ℕ) (v : View) (t : Title) → (end : IsEnd words v) → uncut_of v t ≡ 0 → (logged_of v (names t) ≡ 0 → HasTitle v t) → RegionEndsWith words v t (end.logs.history t)
+ends_told : (words : List ℕ) (v : View) (t : Title) → (end : IsEnd words v) → uncut_of v t ≡ 0 →
+    (logged_of v (names t) ≡ 0 → HasTitle v t) → RegionEndsWith words v t (end.logs.history t)
 ends_told words v t end cut kept = elim (cases_lt 0 (logged_of v (names t))) [
   | inl named ↦ end.named t named cut
   | inr none ↦ end.held t (kept (omega arith))
 ]
 
-ends_of : (sizes : SlotName → ℕ) (words : List ℕ) (r : Told) (v : View) → (end : IsEnd words v) → IsClosing sizes r v → AreEnds sizes words r end.logs.history
+ends_of : (sizes : SlotName → ℕ) (words : List ℕ) (r : Told) (v : View) → (end : IsEnd words v) → IsClosing sizes r v →
+    AreEnds sizes words r end.logs.history
 ends_of sizes words r v end closing p title stands =
     let told = ends_told words v title end (closing.cut p title stands) (closing.kept p title stands) in
     (closing.long p title stands, ends_so words v title (end.logs.history title) closing.clean told)

@@ -58,9 +58,11 @@ no_issue p e f = cc
 
 module _ (ps : List Played) (s : SlotName) (history : List Step_done) (steps : AreSteps ps s history) where
   -- the step at a number is the only one there
-  only : (k : ℕ) (x : Played) (d : StepMade) (step : Step) (value : ℕ) → IsStepAt ps s history k x d → StepsAt ps s k step value → d.step ≡ step
+  only : (k : ℕ) (x : Played) (d : StepMade) (step : Step) (value : ℕ) → IsStepAt ps s history k x d → StepsAt ps s k step value →
+      d.step ≡ step
   only k x d step value at other =
-      let same = same_step ps s history steps x other.by d other.made at.among other.among at.is other.is at.slot other.slot (at.number ∙ sym other.number) in
+      let same = same_step ps s history steps x other.by d other.made at.among other.among at.is other.is at.slot other.slot
+      (at.number ∙ sym other.number) in
       ap (λ (z : StepMade). z.step) same ∙ other.step_is
 
   made_here : (k : ℕ) (x : Played) (d : StepMade) → IsStepAt ps s history k x d → d.step ≡ Issue → IsMadeAt ps s k
@@ -75,10 +77,16 @@ module _ (ps : List Played) (s : SlotName) (history : List Step_done) (steps : A
       (x, is.seen, op.0, at.among, op.1, is.answer, is.slot ∙ at.slot, ap number_of is.found ∙ at.number)
 
   -- a step that neither makes nor writes leaves the content
-  stays : (k value : ℕ) → (IsMadeAt ps s k → ⊥) → ((other : ℕ) → IsWrittenAt ps s k other → ⊥) → IsContent ps s k value → IsContent ps s (k + 1) value
+  stays : (k value : ℕ) → (IsMadeAt ps s k → ⊥) → ((other : ℕ) → IsWrittenAt ps s k other → ⊥) → IsContent ps s k value →
+      IsContent ps s (k + 1) value
   stays k value none_made none_written (inl (n, (written, low, none), latest)) = inl (
     n,
-    (written, omega arith, λ m made after below. elim (cases_lt m k) [ inl y ↦ none m made after y | inr high ↦ none_made (subst (λ i. IsMadeAt ps s i) (at_end m high below) made) ]),
+    (
+      written,
+      omega arith,
+      λ m made after below. elim (cases_lt m k)
+          [ inl y ↦ none m made after y | inr high ↦ none_made (subst (λ i. IsMadeAt ps s i) (at_end m high below) made) ],
+    ),
     λ m other (written', low', none') after. elim (cases_lt m k) [
       | inl y ↦ latest m other (written', y, λ j made a b. none' j made a (omega arith)) after
       | inr high ↦ none_written other (subst (λ i. IsWrittenAt ps s i other) (at_end m high low') written')
@@ -98,12 +106,15 @@ module _ (ps : List Played) (s : SlotName) (history : List Step_done) (steps : A
       at_end : (m : ℕ) → k ≤ m → m < k + 1 → m ≡ k
       at_end m a b = omega arith
 
-  quiet : (k value : ℕ) (x : Played) (d : StepMade) → IsStepAt ps s history k x d → (d.step ≡ Issue → ⊥) → (d.step ≡ Write → ⊥) → IsContent ps s k value → IsContent ps s (k + 1) value
+  quiet : (k value : ℕ) (x : Played) (d : StepMade) → IsStepAt ps s history k x d → (d.step ≡ Issue → ⊥) → (d.step ≡ Write → ⊥) →
+      IsContent ps s k value → IsContent ps s (k + 1) value
   quiet k value x d at no_issue no_write is =
-      stays k value (λ made. no_issue (only k x d Issue 0 at (made_steps ps s k made))) (λ other written. no_write (only k x d Write other at (written_steps ps s k other written))) is
+      stays k value (λ made. no_issue (only k x d Issue 0 at (made_steps ps s k made)))
+      (λ other written. no_write (only k x d Write other at (written_steps ps s k other written))) is
 
   -- the content after a step
-  after : (k value : ℕ) (x : Played) (d : StepMade) (p : Step) → IsStepAt ps s history k x d → d.step ≡ p → IsContent ps s k value → IsContent ps s (k + 1) (content_by p d.value value)
+  after : (k value : ℕ) (x : Played) (d : StepMade) (p : Step) → IsStepAt ps s history k x d → d.step ≡ p → IsContent ps s k value →
+      IsContent ps s (k + 1) (content_by p d.value value)
   after k value x d Issue at e is = inr (
     refl,
     λ n other (written, low, between). elim (cases_lt n k) [
@@ -117,7 +128,11 @@ module _ (ps : List Played) (s : SlotName) (history : List Step_done) (steps : A
   after k value x d Reset at e is = quiet k value x d at (λ f. absurd cc) (λ f. absurd cc) is
   after k value x d Free at e is = quiet k value x d at (λ f. absurd cc) (λ f. absurd cc) is
   after k value x d Write at e is =
-      inl (k, (written_here k x d at e, omega arith, λ m made a b. absurd (omega arith)), λ m other (written, low, between) later. absurd (omega arith))
+      inl (
+        k,
+        (written_here k x d at e, omega arith, λ m made a b. absurd (omega arith)),
+        λ m other (written, low, between) later. absurd (omega arith),
+      )
 
   content_at : (k : ℕ) → k ≤ length history → IsContent ps s k (content_at_number k history)
   content_at zero within = inr (ap content_of (up_to_none history), λ n other (written, low, between). absurd (omega arith))

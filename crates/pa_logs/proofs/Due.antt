@@ -32,7 +32,8 @@ record IsDueIn (partitions threads phase later : ℕ) (a : OpLine) : Type 0 wher
 abbrev op_line : Rules → ℕ → ℕ → ℕ → Op → OpLine
 op_line rules n phase thread op = record { line = n; thread = thread; phase = phase; rules = rules; op = op }
 
-lines_due : (rules : Rules) (partitions threads n phase : ℕ) (ls : List Line) (a : OpLine) → Each (IsLineWithin partitions threads) ls → Contains (op_lines rules n phase ls) a →
+lines_due : (rules : Rules) (partitions threads n phase : ℕ) (ls : List Line) (a : OpLine) → Each (IsLineWithin partitions threads) ls →
+    Contains (op_lines rules n phase ls) a →
     IsDueIn partitions threads phase (count_by is_phase ls) a
 lines_due rules partitions threads n phase [] a within among = absurd (not_in_none a among)
 lines_due rules partitions threads n phase (Phase ∷ ls) a within among =
@@ -66,9 +67,11 @@ pub record IsWithin (t : Trace) (x : Played) : Type 0 where
   pub low : 1 ≤ x.phase
   pub high : x.phase ≤ phases_in t.lines
 
-pub records_due : (t : Trace) (ps : List Played) (x : Played) → IsWithinLimits t → AreLines (rules_of t) t.lines ps → Contains ps x → IsWithin t x
+pub records_due : (t : Trace) (ps : List Played) (x : Played) → IsWithinLimits t → AreLines (rules_of t) t.lines ps → Contains ps x →
+    IsWithin t x
 records_due t ps x limits are among =
-    let due = lines_due (rules_of t) t.partitions t.threads 2 1 t.lines (op_line_of x) limits.lines (subst (λ os. Contains os (op_line_of x)) are (map_in op_line_of ps x among)) in
+    let due = lines_due (rules_of t) t.partitions t.threads 2 1 t.lines (op_line_of x) limits.lines
+    (subst (λ os. Contains os (op_line_of x)) are (map_in op_line_of ps x among)) in
     let high = due.high in
     record { thread = due.thread; op = due.op; low = due.low; high = omega arith }
 
@@ -101,15 +104,16 @@ pub record IsPlace (partitions phase later : ℕ) (a : ℕ × ℕ) : Type 0 wher
 
 pub place_is : (partitions phase n : ℕ) (a : ℕ × ℕ) → Contains (phases_of partitions phase n) a → IsPlace partitions phase n a
 place_is partitions phase zero a among = absurd (not_in_none a among)
-place_is partitions phase (suc n) a among = elim (Contains-append_cases (partitions_of phase 0 partitions) (phases_of partitions (phase + 1) n) a among) [
-  | inl here ↦
-      let one = one_phase phase 0 partitions a here in
-      let at = one.0 in
-      let below = one.1 in
-      record { low = omega arith; high = omega arith; partition = omega arith }
-  | inr later ↦
-      let again = place_is partitions (phase + 1) n a later in
-      let low = again.low in
-      let high = again.high in
-      record { low = omega arith; high = omega arith; partition = again.partition }
-]
+place_is partitions phase (suc n) a among =
+    elim (Contains-append_cases (partitions_of phase 0 partitions) (phases_of partitions (phase + 1) n) a among) [
+      | inl here ↦
+          let one = one_phase phase 0 partitions a here in
+          let at = one.0 in
+          let below = one.1 in
+          record { low = omega arith; high = omega arith; partition = omega arith }
+      | inr later ↦
+          let again = place_is partitions (phase + 1) n a later in
+          let low = again.low in
+          let high = again.high in
+          record { low = omega arith; high = omega arith; partition = again.partition }
+    ]

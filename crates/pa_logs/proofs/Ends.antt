@@ -26,11 +26,13 @@ title_is sizes title e =
     let with_len : ℕ → Title = λ n. record { start = title.start; len = n; born = title.born } in
     ap with_len e
 
-has_slot : (words : List ℕ) (ps : List Played) (title : Title) (history : List Done) → AreSteps ps (name_of title) history → EndsWith words title history → HasSlot words ps title
+has_slot : (words : List ℕ) (ps : List Played) (title : Title) (history : List Done) → AreSteps ps (name_of title) history →
+    EndsWith words title history → HasSlot words ps title
 has_slot words ps title history steps ends =
     let n : number_of (count_word words title) ≡ length history = ap number_of ends.word ∙ reached_number history steps.legal in
     let content = content_follows ps (name_of title) history (length history) steps (omega arith) in
-    let here : IsContent ps (name_of title) (length history) (content_of history) = subst (λ z. IsContent ps (name_of title) (length history) z) (content_last history) content in
+    let here : IsContent ps (name_of title) (length history) (content_of history) =
+    subst (λ z. IsContent ps (name_of title) (length history) z) (content_last history) content in
     record {
       word = subst (λ w. HasWord ps (name_of title) w) (sym ends.word) (last_is ps (name_of title) history steps);
       quarantined = ends.quarantined;

@@ -29,7 +29,8 @@ module _ {A : Type 0} where
   -- if all members pass, and if none does
   pub filter_all : (test : A → Bool) (xs : List A) → ((x : A) → Contains xs x → test x ≡ true) → filter test xs ≡ xs
   filter_all test [] each = refl
-  filter_all test (x ∷ xs) each = rw (each x (first_in x xs)) (ap (λ ys. x ∷ ys) (filter_all test xs (λ y among. each y (later_in x y xs among))))
+  filter_all test (x ∷ xs) each =
+      rw (each x (first_in x xs)) (ap (λ ys. x ∷ ys) (filter_all test xs (λ y among. each y (later_in x y xs among))))
 
   pub filter_none : (test : A → Bool) (xs : List A) → ((x : A) → Contains xs x → test x ≡ true → ⊥) → filter test xs ≡ []
   filter_none test [] none = refl
@@ -39,7 +40,8 @@ module _ {A : Type 0} where
   ]
 
   -- what passes the one test passes the other
-  pub filter_within : (f g : A → Bool) (xs : List A) → ((x : A) → Contains xs x → f x ≡ true → g x ≡ true) → filter f (filter g xs) ≡ filter f xs
+  pub filter_within : (f g : A → Bool) (xs : List A) → ((x : A) → Contains xs x → f x ≡ true → g x ≡ true) →
+      filter f (filter g xs) ≡ filter f xs
   filter_within f g [] each = refl
   filter_within f g (x ∷ xs) each =
       let again = filter_within f g xs (λ y among. each y (later_in x y xs among)) in
@@ -60,14 +62,16 @@ module _ {A : Type 0} where
   get_in (y ∷ ys) zero x e = subst (λ z. Contains (y ∷ ys) z) (of_some y x e) (first_in y ys)
   get_in (y ∷ ys) (suc i) x e = later_in y x ys (get_in ys i x e)
 
-  pub get_pair : (R : A → A → Type 0) (xs : List A) (i j : ℕ) (x y : A) → AllPairs R xs → i < j → slice_get xs i ≡ Some x → slice_get xs j ≡ Some y → R x y
+  pub get_pair : (R : A → A → Type 0) (xs : List A) (i j : ℕ) (x y : A) → AllPairs R xs → i < j → slice_get xs i ≡ Some x →
+      slice_get xs j ≡ Some y → R x y
   get_pair R [] i j x y h less e f = absurd cc
   get_pair R (z ∷ zs) i zero x y h less e f = absurd (omega arith)
   get_pair R (z ∷ zs) zero (suc j) x y h less e f = subst (λ u. R u y) (of_some z x e) (pairs_head R z y zs h (get_in zs j y f))
   get_pair R (z ∷ zs) (suc i) (suc j) x y h less e f = get_pair R zs i j x y (pairs_tail R z zs h) (omega arith) e f
 
   -- a place of two lists is one of the first, or of the second
-  pub get_parts : (xs ys : List A) (i : ℕ) (x : A) → slice_get (xs ++ ys) i ≡ Some x → ((i < length xs) × Contains xs x) ⊎ ((length xs ≤ i) × Contains ys x)
+  pub get_parts : (xs ys : List A) (i : ℕ) (x : A) → slice_get (xs ++ ys) i ≡ Some x → ((i < length xs) × Contains xs x) ⊎
+      ((length xs ≤ i) × Contains ys x)
   get_parts [] ys i x e = inr (omega arith, get_in ys i x e)
   get_parts (z ∷ zs) ys zero x e = inl (omega arith, subst (λ u. Contains (z ∷ zs) u) (of_some z x e) (first_in z zs))
   get_parts (z ∷ zs) ys (suc i) x e = elim (get_parts zs ys i x e) [
@@ -88,7 +92,8 @@ module _ {A : Type 0} where
   only_one a x among = elim (in_cases a x [] among) [ inl same ↦ same | inr later ↦ absurd (not_in_none x later) ]
 
   -- if one member passes, one place has such a member
-  pub one_place : (test : A → Bool) (xs : List A) (a : A) (i k : ℕ) (x y : A) → filter test xs ≡ a ∷ [] → slice_get xs i ≡ Some x → slice_get xs k ≡ Some y →
+  pub one_place : (test : A → Bool) (xs : List A) (a : A) (i k : ℕ) (x y : A) → filter test xs ≡ a ∷ [] → slice_get xs i ≡ Some x →
+      slice_get xs k ≡ Some y →
       test x ≡ true → test y ≡ true → i ≡ k
   one_place test [] a i k x y e at_i at_k passes also = absurd cc
   one_place test (z ∷ zs) a zero zero x y e at_i at_k passes also = refl

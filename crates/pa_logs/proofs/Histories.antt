@@ -35,28 +35,34 @@ word_in k (d ∷ older) = elim (cases_lt (length older) k) [
   | inr n ↦ inr (subst (λ w. IsWordIn w older) (sym (word_within k d older n)) (word_in k older))
 ]
 
-module _ (sizes : SlotName → ℕ) (v : View) (ts : List ToldRecord) (history : Title → List Done) (logs : AreLogs v ts) (told : AreTold sizes ts)
+module _ (sizes : SlotName → ℕ) (v : View) (ts : List ToldRecord) (history : Title → List Done) (logs : AreLogs v ts)
+    (told : AreTold sizes ts)
     (chain : (t : Title) → IsChained (logged_of v) t (history t)) where
   -- the entry of a step that a record made
   step_entry : (y : ToldRecord) (d : StepMade) (s : SlotName) → Contains ts y → step_by y.played ≡ Some d → d.slot ≡ s →
       Contains y.stretch (Counted (title_of sizes s) d.step d.found d.value)
   step_entry y d s among is slot =
-      subst (λ u. Contains y.stretch (Counted (title_of sizes u) d.step d.found d.value)) slot ((tells_its_mark sizes y (told y among)).has_step d is)
+      subst (λ u. Contains y.stretch (Counted (title_of sizes u) d.step d.found d.value)) slot
+      ((tells_its_mark sizes y (told y among)).has_step d is)
 
-  stands : (y : ToldRecord) (d : StepMade) (s : SlotName) → Contains ts y → step_by y.played ≡ Some d → d.slot ≡ s → StandsIn (history (title_of sizes s)) d
+  stands : (y : ToldRecord) (d : StepMade) (s : SlotName) → Contains ts y → step_by y.played ≡ Some d → d.slot ≡ s →
+      StandsIn (history (title_of sizes s)) d
   stands y d s among is slot =
       let t = title_of sizes s in
-      let there = told_in ts y (Counted t d.step d.found d.value) (counted_as t d.step d.found d.value) among (step_entry y d s among is slot) in
+      let there = told_in ts y (Counted t d.step d.found d.value) (counted_as t d.step d.found d.value) among
+      (step_entry y d s among is slot) in
       let mine = counted_self t d.step d.found d.value in
       let same = logs_are_told v ts (counted_as t d.step d.found d.value) logs in
       let at = step_stands (logged_of v) t (history t) d.step d.found d.value (logged_two v) (chain t) (omega arith) in
       record { below = at.0; word = at.1; next = at.2 }
 
-  looked : (y : ToldRecord) (m : Mark) (s : SlotName) (o : Option Step) → Contains ts y → mark_of y.played ≡ Some m → m.slot ≡ s → m.step ≡ o → IsWordIn m.found (history (title_of sizes s))
+  looked : (y : ToldRecord) (m : Mark) (s : SlotName) (o : Option Step) → Contains ts y → mark_of y.played ≡ Some m → m.slot ≡ s →
+      m.step ≡ o → IsWordIn m.found (history (title_of sizes s))
   looked y m s None among is slot none =
       let t = title_of sizes s in
       let look = ((tells_its_mark sizes y (told y among)).has_look m is none).0 in
-      let there = told_in ts y (Looked t m.found) (looked_at t m.found) among (subst (λ u. Contains y.stretch (Looked (title_of sizes u) m.found)) slot look) in
+      let there = told_in ts y (Looked t m.found) (looked_at t m.found) among
+      (subst (λ u. Contains y.stretch (Looked (title_of sizes u) m.found)) slot look) in
       let mine = looked_self t m.found in
       let same = logs_are_told v ts (looked_at t m.found) logs in
       (chain t).looks m.found (omega arith)
@@ -67,7 +73,8 @@ module _ (sizes : SlotName → ℕ) (v : View) (ts : List ToldRecord) (history :
       subst (λ w. IsWordIn w (history (title_of sizes s))) word (word_in (number_of d.found) (history (title_of sizes s)))
 
   made_at : (s : SlotName) (k : ℕ) → k < length (history (title_of sizes s)) →
-      (x : Played) × (d : StepMade) × Contains (played_in ts) x × (step_by x ≡ Some d) × (d.slot ≡ s) × (d.found ≡ word_at_number k (history (title_of sizes s)))
+      (x : Played) × (d : StepMade) × Contains (played_in ts) x × (step_by x ≡ Some d) × (d.slot ≡ s) ×
+      (d.found ≡ word_at_number k (history (title_of sizes s)))
   made_at s k below =
       let t = title_of sizes s in
       let there = at_number (logged_of v) t (history t) k (chain t).steps below in
@@ -75,13 +82,15 @@ module _ (sizes : SlotName → ℕ) (v : View) (ts : List ToldRecord) (history :
       let same = logs_are_told v ts (counted_as t there.0.step word there.0.value) logs in
       let one_there = there.1.logged in
       let (y, e, among, within, some_e) = told_some ts (counted_as t there.0.step word there.0.value) (omega arith) in
-      let is : Contains y.stretch (Counted t there.0.step word there.0.value) = subst (λ u. Contains y.stretch u) (as_entry t there.0.step word there.0.value e some_e) within in
+      let is : Contains y.stretch (Counted t there.0.step word there.0.value) =
+      subst (λ u. Contains y.stretch u) (as_entry t there.0.step word there.0.value e some_e) within in
       let (d, made, equal) = (tells_its_mark sizes y (told y among)).step_is t there.0.step word there.0.value is in
       let of = entry_slot sizes s d.slot there.0.step d.step word d.found there.0.value d.value equal in
       let found = (entry_step t (title_of sizes d.slot) there.0.step d.step word d.found there.0.value d.value equal).1 in
       (y.played, d, map_in (λ (x : ToldRecord). x.played) ts y among, made, of, found)
 
-  one_at : (s : SlotName) (x y : ToldRecord) (d e : StepMade) → Contains ts x → Contains ts y → step_by x.played ≡ Some d → step_by y.played ≡ Some e → d.slot ≡ s → e.slot ≡ s →
+  one_at : (s : SlotName) (x y : ToldRecord) (d e : StepMade) → Contains ts x → Contains ts y → step_by x.played ≡ Some d →
+      step_by y.played ≡ Some e → d.slot ≡ s → e.slot ≡ s →
       number_of d.found ≡ number_of e.found → x ≡ y
   one_at s x y d e first second is other slot slot' same =
       let t = title_of sizes s in
@@ -106,7 +115,8 @@ module _ (sizes : SlotName → ℕ) (v : View) (ts : List ToldRecord) (history :
     one = λ x y d e first second is other slot slot' same.
         let (a, there, p) = map_cases (λ (z : ToldRecord). z.played) ts x first in
         let (b, there', q) = map_cases (λ (z : ToldRecord). z.played) ts y second in
-        sym p ∙ (ap (λ (z : ToldRecord). z.played) (one_at s a b d e there there' (ap step_by p ∙ is) (ap step_by q ∙ other) slot slot' same) ∙ q);
+        sym p ∙ (ap (λ (z : ToldRecord). z.played)
+        (one_at s a b d e there there' (ap step_by p ∙ is) (ap step_by q ∙ other) slot slot' same) ∙ q);
     looks = λ x m among is slot.
         let (y, there, e) = map_cases (λ (z : ToldRecord). z.played) ts x among in
         looked y m s m.step there (ap mark_of e ∙ is) slot refl;

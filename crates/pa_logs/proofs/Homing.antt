@@ -38,14 +38,16 @@ use Rattle.pa_logs.proofs.StepMarks.{mark_step, issue_is}
 -- ---- the partition of a name
 
 -- a list has a title of that name, or none
-pub named_there : (ts : List Title) (s : SlotName) → list_any (λ (t : Title). same_slot (name_of t) s) ts ≡ true → (t : Title) × Contains ts t × (name_of t ≡ s)
+pub named_there : (ts : List Title) (s : SlotName) → list_any (λ (t : Title). same_slot (name_of t) s) ts ≡ true → (t : Title) ×
+    Contains ts t × (name_of t ≡ s)
 named_there [] s h = absurd (true≢false (sym h))
 named_there (u ∷ us) s h = elim (or_cases (same_slot (name_of u) s) (list_any (λ (t : Title). same_slot (name_of t) s) us) h) [
   | inl here ↦ (u, first_in u us, same_slot_eq (name_of u) s here)
   | inr rest ↦ let (t, among, is) = named_there us s rest in (t, later_in u t us among, is)
 ]
 
-pub there_named : (ts : List Title) (s : SlotName) (t : Title) → Contains ts t → name_of t ≡ s → list_any (λ (t : Title). same_slot (name_of t) s) ts ≡ true
+pub there_named : (ts : List Title) (s : SlotName) (t : Title) → Contains ts t → name_of t ≡ s →
+    list_any (λ (t : Title). same_slot (name_of t) s) ts ≡ true
 there_named [] s t among is = absurd (not_in_none t among)
 there_named (u ∷ us) s t among is = elim (cases_Bool (same_slot (name_of u) s)) [
   | inl y ↦ rw y refl
@@ -60,21 +62,28 @@ module _ (pools : List PoolEntry) (roots : Journals) where
   pub home_is : (n p : ℕ) (s : SlotName) (t : Title) → p < n → IsMadeBy pools (roots p) t → name_of t ≡ s →
       ((q : ℕ) (u : Title) → IsMadeBy pools (roots q) u → name_of u ≡ s → q ≡ p) → homes_by n pools roots s ≡ p
   home_is zero p s t below made is only = absurd (omega arith)
-  home_is (suc n) p s t below made is only = elim (cases_Bool (list_any (λ (t : Title). same_slot (name_of t) s) (titles_by pools (roots n)))) [
-    | inl y ↦ let (u, among, named) = named_there (titles_by pools (roots n)) s y in rw y (only n u (listed_made pools (roots n) u among) named)
-    | inr none ↦ rw none (elim (cases_eq p n) [
-      | inl same ↦ absurd (both_ways _ none (there_named (titles_by pools (roots n)) s t (subst (λ q. Contains (titles_by pools (roots q)) t) same (made_listed pools (roots p) t made)) is))
-      | inr other ↦ home_is n p s t (omega arith) made is only
-    ])
-  ]
+  home_is (suc n) p s t below made is only =
+      elim (cases_Bool (list_any (λ (t : Title). same_slot (name_of t) s) (titles_by pools (roots n)))) [
+        | inl y ↦ let (u, among, named) = named_there (titles_by pools (roots n)) s y in
+            rw y (only n u (listed_made pools (roots n) u among) named)
+        | inr none ↦ rw none (elim (cases_eq p n) [
+          | inl same ↦ absurd (both_ways _ none
+              (there_named (titles_by pools (roots n)) s t
+              (subst (λ q. Contains (titles_by pools (roots q)) t) same (made_listed pools (roots p) t made)) is))
+          | inr other ↦ home_is n p s t (omega arith) made is only
+        ])
+      ]
 
-module _ (supers partitions : ℕ) (ps : List Played) (pools : List PoolEntry) (roots : Journals) (r : AreRoots partitions ps pools roots) (h : IsPoolOf supers ps pools roots) where
+module _ (supers partitions : ℕ) (ps : List Played) (pools : List PoolEntry) (roots : Journals) (r : AreRoots partitions ps pools roots)
+    (h : IsPoolOf supers ps pools roots) where
   pub has_title : (p len : ℕ) (s : SlotName) → HasSize roots p s len → (t : Title) × IsMadeBy pools (roots p) t × (name_of t ≡ s)
   has_title p len s (inl (class, (e, asked, slots, among, is, member), size)) =
-      let (t, by, name, sized) = title_of pools (roots p) e s (r.journals p) among (subst (λ act. Contains (leaves_by act) s) (sym is) member) in
+      let (t, by, name, sized) =
+      title_of pools (roots p) e s (r.journals p) among (subst (λ act. Contains (leaves_by act) s) (sym is) member) in
       (t, by, name)
   has_title p len s (inr (e, asked, among, is)) =
-      let (t, by, name, sized) = title_of pools (roots p) e s (r.journals p) among (subst (λ act. Contains (leaves_by act) s) (sym is) (first_in s [])) in
+      let (t, by, name, sized) =
+      title_of pools (roots p) e s (r.journals p) among (subst (λ act. Contains (leaves_by act) s) (sym is) (first_in s [])) in
       (t, by, name)
 
   pub home_named : (p len : ℕ) (s : SlotName) → HasSize roots p s len → homes_by partitions pools roots s ≡ p
@@ -90,7 +99,8 @@ module _ (supers partitions : ℕ) (ps : List Played) (pools : List PoolEntry) (
 abbrev HasSome : Journals → SlotName → Type 0
 HasSome roots s = (p len : ℕ) × HasSize roots p s len
 
-made_row : (roots : Journals) (x : Played) (seen : Seen) (cache after : Cache) → IsKnown roots cache → MadeRow roots x seen cache after → HasSome roots seen.slot
+made_row : (roots : Journals) (x : Played) (seen : Seen) (cache after : Cache) → IsKnown roots cache → MadeRow roots x seen cache after →
+    HasSome roots seen.slot
 made_row roots x seen cache after known (inl (p, class, xs, rest, asks, filled, front, becomes)) =
     let first = first_keeps seen.slot roots x.line p class (cache p class) xs (λ n. known p class n) filled in
     let head : Numbered = record { slot = seen.slot; number = number_of seen.found.0 } in
@@ -99,7 +109,8 @@ made_row roots x seen cache after known (inr (p, size, asked, len, asks, only, b
     let (e, among, act) = entry_of_act roots x.line p (Map asked seen.slot len) only.0 in
     (p, len, inr (e, asked, among, act))
 
-made_in : (partitions : ℕ) (roots : Journals) (xs : List Played) (all after : Caches) (x : Played) (seen : Seen) (usable : ℕ) → ((t : ℕ) → IsKnown roots (all t)) →
+made_in : (partitions : ℕ) (roots : Journals) (xs : List Played) (all after : Caches) (x : Played) (seen : Seen) (usable : ℕ) →
+    ((t : ℕ) → IsKnown roots (all t)) →
     CachesTo partitions roots all xs after → Contains xs x → x.answer ≡ answers.Made seen usable → HasSome roots seen.slot
 made_in partitions roots [] all after x seen usable known to among made = absurd (not_in_none x among)
 made_in partitions roots (y ∷ ys) all after x seen usable known (next, row, rest) among made = elim (in_cases y x ys among) [
@@ -108,10 +119,12 @@ made_in partitions roots (y ∷ ys) all after x seen usable known (next, row, re
       made_row roots y seen (all y.thread) next (known y.thread) (subst (λ a. CacheRow partitions roots y a (all y.thread) next) answer row)
   | inr later ↦
       made_in partitions roots ys (with_cache all y.thread next) after x seen usable
-      (known_with roots all y.thread next known (row_known partitions roots y y.answer (all y.thread) next (known y.thread) row)) rest later made
+      (known_with roots all y.thread next known (row_known partitions roots y y.answer (all y.thread) next (known y.thread) row)) rest later
+      made
 ]
 
-module _ (supers partitions : ℕ) (ps : List Played) (pools : List PoolEntry) (roots : Journals) (h : HaveSlots supers partitions ps pools roots) where
+module _ (supers partitions : ℕ) (ps : List Played) (pools : List PoolEntry) (roots : Journals)
+    (h : HaveSlots supers partitions ps pools roots) where
   -- the step at the word 0 is the issue of a slot that was made
   first_step : (s : SlotName) (m : Mark) (p : Step) → IsFirstAt (marks_of ps) s 0 m p → CanStep p 0 → HasSome roots s
   first_step s m p first can =
@@ -122,13 +135,15 @@ module _ (supers partitions : ℕ) (ps : List Played) (pools : List PoolEntry) (
       let issued = issue_is x.op x.answer d stepped step in
       let (after, to) = h.caches in
       subst (λ n. HasSome roots n) (issued.slot ∙ (sym (ap (λ (z : Mark). z.slot) is) ∙ first.slot))
-      (made_in partitions roots ps no_caches after x issued.seen issued.usable (λ t q c n none. absurd (not_in_none n none)) to among issued.answer)
+      (made_in partitions roots ps no_caches after x issued.seen issued.usable
+      (λ t q c n none. absurd (not_in_none n none)) to among issued.answer)
     where
       some_is : (a b : Step) → Some a ≡ Some b → a ≡ b
       some_is a b e = cc
 
   -- nothing finds the word 0 if no step is made there
-  no_step : (m : Mark) (o : Option Step) → m.step ≡ o → Contains (marks_of ps) m → IsRunFrom (marks_of ps) m.slot 0 [] → IsOneRun (marks_of ps) m.slot (0 ∷ []) → ⊥
+  no_step : (m : Mark) (o : Option Step) → m.step ≡ o → Contains (marks_of ps) m → IsRunFrom (marks_of ps) m.slot 0 [] →
+      IsOneRun (marks_of ps) m.slot (0 ∷ []) → ⊥
   no_step m None none among run one =
       let (x, member, marked) = mark_from ps m among in
       let some = h.used x member m marked none in
@@ -147,7 +162,8 @@ module _ (supers partitions : ℕ) (ps : List Played) (pools : List PoolEntry) (
       zero_is : Contains (0 ∷ []) m.found → m.found ≡ 0
       zero_is there = elim (in_cases 0 m.found [] there) [ inl e ↦ sym e | inr none ↦ absurd (not_in_none m.found none) ]
 
-  of_run : (m : Mark) (vs : List ℕ) → Contains (marks_of ps) m → IsRunFrom (marks_of ps) m.slot 0 vs → IsOneRun (marks_of ps) m.slot (0 ∷ vs) → HasSome roots m.slot
+  of_run : (m : Mark) (vs : List ℕ) → Contains (marks_of ps) m → IsRunFrom (marks_of ps) m.slot 0 vs →
+      IsOneRun (marks_of ps) m.slot (0 ∷ vs) → HasSome roots m.slot
   of_run m [] among run one = absurd (no_step m m.step refl among run one)
   of_run m (v ∷ vs) among (n, p, first, can, word, rest) one = first_step m.slot n p first can
 
@@ -157,7 +173,8 @@ module _ (supers partitions : ℕ) (ps : List Played) (pools : List PoolEntry) (
       let (p, len, has) = of_run m vs among run one in
       let home = home_named supers partitions ps pools roots h.journals h.pool p len m.slot has in
       let size = lengths_follow.named supers partitions p len ps pools roots m.slot h.journals h.pool has in
-      subst (λ q. HasSize roots q m.slot (lengths_by partitions pools roots m.slot)) (sym home) (subst (λ n. HasSize roots p m.slot n) (sym size) has)
+      subst (λ q. HasSize roots q m.slot (lengths_by partitions pools roots m.slot)) (sym home)
+      (subst (λ n. HasSize roots p m.slot n) (sym size) has)
 
 pub homes_follow : HomesFollow
 homes_follow = record {

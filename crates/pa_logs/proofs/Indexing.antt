@@ -33,7 +33,8 @@ stands_get list m j s =
     ∙ (ap (λ k. slice_get (s.older ++ m ∷ s.rest) k) (sym s.index_is) ∙ slice_get_at s.older s.rest m)
 
 -- the journal's entry at the place of a list's
-pub entry_there : {A : Type 0} (numbers : A → List ℕ) (list : List Made) (es : List A) (i : ℕ) (m : Made) → map (λ (n : Made). n.numbers) list ≡ map numbers es →
+pub entry_there : {A : Type 0} (numbers : A → List ℕ) (list : List Made) (es : List A) (i : ℕ) (m : Made) →
+    map (λ (n : Made). n.numbers) list ≡ map numbers es →
     slice_get list i ≡ Some m → (e : A) × (slice_get es i ≡ Some e) × (m.numbers ≡ numbers e)
 entry_there numbers [] es i m same at_i = absurd cc
 entry_there numbers (n ∷ list) [] i m same at_i = absurd cc
@@ -52,14 +53,16 @@ full p j list roots x journal is =
     (is.entry, subst (λ f. slice_get (roots p) j ≡ Some f) one at_j, is.line, is.full)
 
 -- an exchange in its cell's history
-swap_at : (swaps : List SwapMade) (x : ToldRecord) (k : ℕ) (s : IsSwapAt swaps x k) → filter (is_of_cell k) swaps ≡ filter (is_of_cell k) s.older ++ s.swap ∷ filter (is_of_cell k) s.rest
+swap_at : (swaps : List SwapMade) (x : ToldRecord) (k : ℕ) (s : IsSwapAt swaps x k) →
+    filter (is_of_cell k) swaps ≡ filter (is_of_cell k) s.older ++ s.swap ∷ filter (is_of_cell k) s.rest
 swap_at swaps x k s =
     let mine : is_of_cell k s.swap ≡ true = eq-eqb s.swap.cell k s.cell in
     let here : filter (is_of_cell k) (s.swap ∷ s.rest) ≡ s.swap ∷ filter (is_of_cell k) s.rest = rw mine refl in
     ap (λ es. filter (is_of_cell k) es) (s.begins ∙ append_assoc s.older (s.swap ∷ []) s.rest)
     ∙ (filter-append (is_of_cell k) s.older (s.swap ∷ s.rest) ∙ ap (λ es. filter (is_of_cell k) s.older ++ es) here)
 
-swapped : (list : List Made) (cells : ℕ → List CellEntry) (swaps : List SwapMade) (x : ToldRecord) (k : ℕ) → AreSwaps list cells swaps → IsSwapAt swaps x k →
+swapped : (list : List Made) (cells : ℕ → List CellEntry) (swaps : List SwapMade) (x : ToldRecord) (k : ℕ) → AreSwaps list cells swaps →
+    IsSwapAt swaps x k →
     (j : ℕ) × (e : CellEntry) × (x.played.answer ≡ Swapped j) × IsExchange cells k j e × (e.line ≡ x.played.line)
 swapped list cells swaps x k are s =
     let j = length (filter (is_of_cell k) s.older) in
@@ -85,17 +88,22 @@ asks_some e j named = ap is_asked named
 abbrev asks_on : ℕ → RootEntry → Bool
 asks_on line e = eqb e.line line && asks e
 
-module _ (lists : ℕ → List Made) (pools : List PoolEntry) (roots : Journals) (ts : List ToldRecord) (are : AreLists lists pools roots ts) where
+module _ (lists : ℕ → List Made) (pools : List PoolEntry) (roots : Journals) (ts : List ToldRecord)
+    (are : AreLists lists pools roots ts) where
   -- the journal entries of a record's line are those that it entered
-  of_line : (p : ℕ) → p < 4 → (x : ToldRecord) → Contains ts x → (it : Enters x) → filter (λ (e : RootEntry). eqb e.line x.played.line) (roots p) ≡ it.roots p
+  of_line : (p : ℕ) → p < 4 → (x : ToldRecord) → Contains ts x → (it : Enters x) →
+      filter (λ (e : RootEntry). eqb e.line x.played.line) (roots p) ≡ it.roots p
   of_line p small x among it =
       map_one root_numbers (filter (λ (e : RootEntry). eqb e.line x.played.line) (roots p)) (it.roots p) one_root
       (sym (on_line x.played.line (lists p) (roots p) (are.journals p small))
-      ∙ (ap (λ ms. map (λ (m : Made). m.numbers) ms) (lines_have_theirs.theirs p (lists p) ts x (are.is p (omega arith)) are.rising among) ∙ it.roots_are p small))
+      ∙ (ap (λ ms. map (λ (m : Made). m.numbers) ms) (lines_have_theirs.theirs p (lists p) ts x (are.is p (omega arith)) are.rising among) ∙
+      it.roots_are p small))
 
-  asked_of_line : (p : ℕ) → p < 4 → (x : ToldRecord) → Contains ts x → (it : Enters x) → filter (asks_on x.played.line) (roots p) ≡ filter asks (it.roots p)
+  asked_of_line : (p : ℕ) → p < 4 → (x : ToldRecord) → Contains ts x → (it : Enters x) →
+      filter (asks_on x.played.line) (roots p) ≡ filter asks (it.roots p)
   asked_of_line p small x among it =
-      sym (filter_both (λ (e : RootEntry). eqb e.line x.played.line) asks (roots p)) ∙ ap (λ es. filter asks es) (of_line p small x among it)
+      sym (filter_both (λ (e : RootEntry). eqb e.line x.played.line) asks (roots p)) ∙
+      ap (λ es. filter asks es) (of_line p small x among it)
 
   -- what a record that asked once made of the pool
   pool_is : (x : ToldRecord) (it : Enters x) (o : AskedOnce (lists 4) x it) → o.made.numbers ≡ pool_numbers o.pool
@@ -104,13 +112,15 @@ module _ (lists : ℕ → List Made) (pools : List PoolEntry) (roots : Journals)
       ap (λ ms. map (λ (m : Made). m.numbers) ms) (sym o.made_is) ∙ (it.pools_are ∙ ap (λ es. map pool_numbers es) o.pools) in cc
 
   -- it is at one place
-  index_is : (x : ToldRecord) (it : Enters x) (o : AskedOnce (lists 4) x it) (j : ℕ) (m : Made) → Contains ts x → slice_get (lists 4) j ≡ Some m → Contains (entered_in 4 x.stretch) m → j ≡ o.index
+  index_is : (x : ToldRecord) (it : Enters x) (o : AskedOnce (lists 4) x it) (j : ℕ) (m : Made) → Contains ts x →
+      slice_get (lists 4) j ≡ Some m → Contains (entered_in 4 x.stretch) m → j ≡ o.index
   index_is x it o j m among at_j within =
       let is = are.is 4 (omega arith) in
       let theirs = lines_have_theirs.theirs 4 (lists 4) ts x is are.rising among ∙ o.made_is in
       let there = stands_get (lists 4) o.made o.index o.stands in
       let first = eq-eqb (line_of m) x.played.line (is.lines x m among within) in
-      let second = eq-eqb (line_of o.made) x.played.line (is.lines x o.made among (subst (λ ms. Contains ms o.made) (sym o.made_is) (first_in o.made []))) in
+      let second = eq-eqb (line_of o.made) x.played.line
+      (is.lines x o.made among (subst (λ ms. Contains ms o.made) (sym o.made_is) (first_in o.made []))) in
       one_place (is_on x.played.line) (lists 4) o.made j o.index m o.made theirs at_j there first second
 
   module _ (asked : AreAsked (lists 4) ts) where
@@ -123,16 +133,19 @@ module _ (lists : ℕ → List Made) (pools : List PoolEntry) (roots : Journals)
         let (it, case) = asked x among in
         elim case [
           | inl n ↦
-              let none = map_none (λ (z : Made). z.numbers) (entered_in 4 x.stretch) (it.pools_are ∙ ap (λ es. map pool_numbers es) n.pools) in
+              let none = map_none (λ (z : Made). z.numbers) (entered_in 4 x.stretch)
+              (it.pools_are ∙ ap (λ es. map pool_numbers es) n.pools) in
               absurd (not_in_none m (subst (λ ms. Contains ms m) none within))
           | inr o ↦
               let made : o.made ≡ m = only_one o.made m (subst (λ ms. Contains ms m) o.made_is within) in
               let pool : o.pool ≡ e = one_pool o.pool e (sym (pool_is x it o) ∙ (ap (λ (z : Made). z.numbers) made ∙ says)) in
               let index = index_is x it o j m among at_m within in
-              let mine = subst (λ es. Contains es o.entry) (sym (asked_of_line o.pool.partition o.small x among it ∙ o.asked)) (first_in o.entry []) in
+              let mine = subst (λ es. Contains es o.entry) (sym (asked_of_line o.pool.partition o.small x among it ∙ o.asked))
+              (first_in o.entry []) in
               let (there, passes) = filter_cases (asks_on x.played.line) (roots o.pool.partition) o.entry mine in
               let (i, at_i) = place_at (roots o.pool.partition) o.entry there in
-              let line : o.entry.line ≡ x.played.line = eqb-true o.entry.line x.played.line (first_true (eqb o.entry.line x.played.line) (asks o.entry) passes) in (
+              let line : o.entry.line ≡ x.played.line =
+              eqb-true o.entry.line x.played.line (first_true (eqb o.entry.line x.played.line) (asks o.entry) passes) in (
                 i,
                 o.entry,
                 subst (λ (f : PoolEntry). slice_get (roots f.partition) i ≡ Some o.entry) pool at_i,
@@ -171,15 +184,18 @@ module _ (lists : ℕ → List Made) (pools : List PoolEntry) (roots : Journals)
             | inr o ↦ elim (cases_eq p o.pool.partition) [
               | inr apart ↦ absurd (not_in_none f (subst (λ es. Contains es f) (same ∙ o.others p apart) mine))
               | inl of ↦
-                  let alone : filter (asks_on x.played.line) (roots p) ≡ o.entry ∷ [] = same ∙ (ap (λ q. filter asks (it.roots q)) of ∙ o.asked) in
+                  let alone : filter (asks_on x.played.line) (roots p) ≡ o.entry ∷ [] = same ∙
+                  (ap (λ q. filter asks (it.roots q)) of ∙ o.asked) in
                   let entry : o.entry ≡ f = only_one o.entry f (subst (λ es. Contains es f) alone mine) in
                   let index : o.index ≡ j = some_same o.index j (sym o.names ∙ (ap (λ (z : RootEntry). asked_by z.act) entry ∙ names)) in
-                  let there = entry_there pool_numbers (lists 4) pools o.index o.made are.pool (stands_get (lists 4) o.made o.index o.stands) in
+                  let there = entry_there pool_numbers (lists 4) pools o.index o.made are.pool
+                  (stands_get (lists 4) o.made o.index o.stands) in
                   let at : slice_get pools j ≡ Some there.0 = subst (λ n. slice_get pools n ≡ Some there.0) index there.1 in
                   let e_is : e ≡ there.0 = of_some e there.0 (sym at_j ∙ at) in
                   let pool : o.pool ≡ e = one_pool o.pool e (sym (pool_is x it o) ∙ (there.2 ∙ ap pool_numbers (sym e_is))) in
                   let on : x.played.line ≡ e.line =
-                  sym ((are.is 4 (omega arith)).lines x o.made among (subst (λ ms. Contains ms o.made) (sym o.made_is) (first_in o.made [])))
+                  sym ((are.is 4 (omega arith)).lines x o.made among
+                  (subst (λ ms. Contains ms o.made) (sym o.made_is) (first_in o.made [])))
                   ∙ ap first_of (there.2 ∙ ap pool_numbers (sym e_is)) in
                   record {
                     of = of ∙ ap (λ (z : PoolEntry). z.partition) pool;
@@ -203,8 +219,11 @@ module _ (lists : ℕ → List Made) (pools : List PoolEntry) (roots : Journals)
     once j p q i k e at_j first second =
         let a = namer j p i e at_j first in
         let b = namer j q k e at_j second in
-        let same : p ≡ q = a.of ∙ sym b.of in
-        (same, one_place (asks_on e.line) (roots p) a.one i k a.entry b.entry a.alone a.at (subst (λ n. slice_get (roots n) k ≡ Some b.entry) (sym same) b.at) a.passes b.passes)
+        let same : p ≡ q = a.of ∙ sym b.of in (
+          same,
+          one_place (asks_on e.line) (roots p) a.one i k a.entry b.entry a.alone a.at
+              (subst (λ n. slice_get (roots n) k ≡ Some b.entry) (sym same) b.at) a.passes b.passes,
+        )
 
 pub indices_follow : IndicesFollow
 indices_follow = record {

@@ -64,7 +64,8 @@ unfolding listed_times
 listed_some s lists class zero more = absurd (omega arith)
 listed_some s lists class (suc n) more = elim (cases_lt 0 (times s (slot_names (lists class)))) [
   | inl here ↦
-      let (m, among, same) = map_cases (λ (k : Numbered). k.slot) (lists class) s (times_member s (slot_names (lists class)) (omega arith)) in
+      let (m, among, same) = map_cases (λ (k : Numbered). k.slot) (lists class) s
+      (times_member s (slot_names (lists class)) (omega arith)) in
       record { at = class; within = omega arith; slot = m; among = among; same = same }
   | inr none ↦
       let rest = listed_some s lists (class + 1) n (omega arith) in
@@ -79,8 +80,10 @@ cached_some s all p (suc n) more = elim (cases_lt 0 (listed_times s (all n p) 0 
   | inr none ↦ let (k, below, is) = cached_some s all p n (omega arith) in (k, omega arith, is)
 ]
 
-module _ (supers partitions threads p : ℕ) (sizes : SlotName → ℕ) (pools : List PoolEntry) (roots : Journals) (ts : List ToldRecord) (all : Caches) (v : View) (t : Title)
-    (h : HasFree supers partitions threads sizes pools roots ts all v) (size : sizes (name_of t) ≡ t.len) (unnamed : logged_of v (names t) ≡ 0) where
+module _ (supers partitions threads p : ℕ) (sizes : SlotName → ℕ) (pools : List PoolEntry) (roots : Journals) (ts : List ToldRecord)
+    (all : Caches) (v : View) (t : Title)
+    (h : HasFree supers partitions threads sizes pools roots ts all v) (size : sizes (name_of t) ≡ t.len)
+    (unnamed : logged_of v (names t) ≡ 0) where
   title_is : (s : SlotName) → s ≡ name_of t → title_of sizes s ≡ t
   title_is s same = ap (λ z. title_of sizes z) same ∙ with_length (sizes (name_of t)) size
     where
@@ -131,18 +134,21 @@ module _ (supers partitions threads p : ℕ) (sizes : SlotName → ℕ) (pools :
   held : IsStanding pools (roots p) t → HasTitle v t
   held stands =
       let j = h.journals.journals p in
-      let below = is_partition supers partitions (played_in ts) pools roots h.journals h.pool p t (stands_made pools (roots p) t j stands) in
+      let below = is_partition supers partitions (played_in ts) pools roots h.journals h.pool p t
+      (stands_made pools (roots p) t j stands) in
       elim (out_is_left pools (roots p) (name_of t) j) [
         | inr (inside, same) ↦ with_root stands inside
         | inl (out, more) ↦
             let (e, among, leaves) = left_by_some (name_of t) (roots p) (omega arith) in
             let (vs, run, found) = h.slots (name_of t) in
-            elim (slot_once supers partitions threads p (played_in ts) pools roots (played_in ts) (roots p) all (name_of t) 0 (given below) (e, among, leaves) (no_run vs run)) [
+            elim (slot_once supers partitions threads p (played_in ts) pools roots (played_in ts) (roots p) all (name_of t) 0 (given below)
+            (e, among, leaves) (no_run vs run)) [
               | inr (inside, none) ↦ absurd (inside out)
               | inl (still, once) ↦
                   let (k, few, is) = cached_some (name_of t) all p threads (in_lists (cached_times (name_of t) all p threads) once) in
                   let real = is.within in
-                  let some = subst (λ u. 0 < free_of v u) (title_is is.slot.slot is.same) (h.listed k p is.at is.slot few below (omega arith) is.among) in
+                  let some = subst (λ u. 0 < free_of v u) (title_is is.slot.slot is.same)
+                  (h.listed k p is.at is.slot few below (omega arith) is.among) in
                   omega arith
             ]
       ]

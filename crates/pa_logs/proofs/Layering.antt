@@ -35,7 +35,8 @@ use Rattle.pa_logs.proofs.Uncutting.{stands_uncut}
 told_there : (ts : List ToldRecord) (x : Played) → Contains (played_in ts) x → (y : ToldRecord) × Contains ts y × (y.played ≡ x)
 told_there ts x among = map_cases (λ (z : ToldRecord). z.played) ts x among
 
-pool : (supers : ℕ) (lists : ℕ → List Made) (pools : List PoolEntry) (roots : Journals) (ts : List ToldRecord) → PoolSays supers lists pools roots ts → IsPoolOf supers (played_in ts) pools roots
+pool : (supers : ℕ) (lists : ℕ → List Made) (pools : List PoolEntry) (roots : Journals) (ts : List ToldRecord) →
+    PoolSays supers lists pools roots ts → IsPoolOf supers (played_in ts) pools roots
 pool supers lists pools roots ts h = record {
   fits = h.fits;
   named = λ j e at. indices_follow.named lists pools roots ts j e h.lists_are h.asked at;
@@ -43,12 +44,14 @@ pool supers lists pools roots ts h = record {
   order = λ i j e f x y at_i at_j of_x of_y before.
       let (a, first, is_x) = told_there ts x of_x.0 in
       let (b, second, is_y) = told_there ts y of_y.0 in
-      orders_follow.pool (lists 4) pools ts a b i j e f (h.lists_are.is 4 (omega arith)) h.cuts h.lists_are.rising h.lists_are.pool first second at_i at_j
+      orders_follow.pool (lists 4) pools ts a b i j e f
+      (h.lists_are.is 4 (omega arith)) h.cuts h.lists_are.rising h.lists_are.pool first second at_i at_j
       (ap (λ (z : Played). z.line) is_x ∙ of_x.1) (ap (λ (z : Played). z.line) is_y ∙ of_y.1)
       (subst (λ z. StandsBefore a.played z) (sym is_y) (subst (λ z. StandsBefore z y) (sym is_x) before));
 }
 
-module _ (partitions : ℕ) (lists : ℕ → List Made) (pools : List PoolEntry) (roots : Journals) (ts : List ToldRecord) (h : RootsSay partitions lists pools roots ts) where
+module _ (partitions : ℕ) (lists : ℕ → List Made) (pools : List PoolEntry) (roots : Journals) (ts : List ToldRecord)
+    (h : RootsSay partitions lists pools roots ts) where
   -- a journal with an entry is that of one of the first four partitions
   first_four : (p j : ℕ) (e : RootEntry) → IsEntry roots p j e → p < 4
   first_four p j e at = elim (cases_lt p 4) [
@@ -64,15 +67,20 @@ module _ (partitions : ℕ) (lists : ℕ → List Made) (pools : List PoolEntry)
       let few = first_four p j e at in
       let is = h.lists_are.is p (omega arith) in
       let (m, at_m, says) = place_in root_numbers (lists p) (roots p) j e (h.lists_are.journals p few) at in
-      let (x, among, thread, within) = lines_have_theirs.each p (lists p) ts m is (get_in (lists p) j m at_m) in
-      (x.played, (map_in (λ (z : ToldRecord). z.played) ts x among, sym (is.lines x m among within) ∙ ap first_of says), h.makes x p m e few among within says)
+      let (x, among, thread, within) = lines_have_theirs.each p (lists p) ts m is (get_in (lists p) j m at_m) in (
+        x.played,
+        (map_in (λ (z : ToldRecord). z.played) ts x among, sym (is.lines x m among within) ∙ ap first_of says),
+        h.makes x p m e few among within says,
+      )
 
-  order : (p i j : ℕ) (e f : RootEntry) (x y : Played) → IsEntry roots p i e → IsEntry roots p j f → IsOfLine (played_in ts) e.line x → IsOfLine (played_in ts) f.line y → StandsBefore x y → i < j
+  order : (p i j : ℕ) (e f : RootEntry) (x y : Played) → IsEntry roots p i e → IsEntry roots p j f → IsOfLine (played_in ts) e.line x →
+      IsOfLine (played_in ts) f.line y → StandsBefore x y → i < j
   order p i j e f x y at_i at_j of_x of_y before =
       let few = first_four p i e at_i in
       let (a, first, is_x) = told_there ts x of_x.0 in
       let (b, second, is_y) = told_there ts y of_y.0 in
-      orders_follow.journal p (lists p) (roots p) ts a b i j e f (h.lists_are.is p (omega arith)) (h.cuts p few) h.lists_are.rising (h.lists_are.journals p few) first second at_i at_j
+      orders_follow.journal p (lists p) (roots p) ts a b i j e f (h.lists_are.is p (omega arith)) (h.cuts p few) h.lists_are.rising
+      (h.lists_are.journals p few) first second at_i at_j
       (ap (λ (z : Played). z.line) is_x ∙ of_x.1) (ap (λ (z : Played). z.line) is_y ∙ of_y.1)
       (subst (λ z. StandsBefore a.played z) (sym is_y) (subst (λ z. StandsBefore z y) (sym is_x) before))
 
@@ -87,15 +95,19 @@ module _ (partitions : ℕ) (lists : ℕ → List Made) (pools : List PoolEntry)
   are_roots : AreRoots partitions (played_in ts) pools roots
   are_roots = record { one = h.one; journals = h.journals; lines = lines; order = order; none_past = h.none_past; refusals = refusals }
 
-closing : (supers partitions threads : ℕ) (sizes : SlotName → ℕ) (lists : ℕ → List Made) (r : Told) (ts : List ToldRecord) (all : Caches) (v : View) →
+closing : (supers partitions threads : ℕ) (sizes : SlotName → ℕ) (lists : ℕ → List Made) (r : Told) (ts : List ToldRecord) (all : Caches)
+    (v : View) →
     SeatSays supers partitions threads sizes lists r ts all v → IsClosing sizes r v
 closing supers partitions threads sizes lists r ts all v h =
     let long : (p : ℕ) (title : Title) → IsStanding r.pools (r.roots p) title → sizes (name_of title) ≡ title.len = λ p title stands.
-    h.lengths (name_of title) ∙ lengths_follow.stands supers partitions p (played_in ts) r.pools r.roots title h.has.journals h.has.pool stands in
+    h.lengths (name_of title) ∙
+    lengths_follow.stands supers partitions p (played_in ts) r.pools r.roots title h.has.journals h.has.pool stands in
     record {
       long = long;
-      cut = λ p title stands. stands_uncut supers partitions p lists r.pools r.roots ts v title h.lists_are h.has.journals h.has.pool h.has.logs h.unmaps stands;
-      kept = λ p title stands unnamed. stands_held supers partitions threads p sizes r.pools r.roots ts all v title h.has stands (long p title stands) unnamed;
+      cut = λ p title stands. stands_uncut supers partitions p lists r.pools r.roots ts v title h.lists_are h.has.journals h.has.pool
+          h.has.logs h.unmaps stands;
+      kept = λ p title stands unnamed. stands_held supers partitions threads p sizes r.pools r.roots ts all v title h.has stands
+          (long p title stands) unnamed;
       clean = h.clean;
     }
 

@@ -34,7 +34,8 @@ made_filter k (m ∷ ms) = elim (cases_Bool (is_by k m)) [
 -- what a thread's log entered is what its records did, in order
 pub entered_append : (q : ℕ) (a b : List Entry) → entered_in q (a ++ b) ≡ entered_in q a ++ entered_in q b
 entered_append q [] b = refl
-entered_append q (e ∷ a) b = ap (λ xs. entry_in q e ++ xs) (entered_append q a b) ∙ sym (append_assoc (entry_in q e) (entered_in q a) (entered_in q b))
+entered_append q (e ∷ a) b = ap (λ xs. entry_in q e ++ xs) (entered_append q a b) ∙
+    sym (append_assoc (entry_in q e) (entered_in q a) (entered_in q b))
 
 entered_flat : (q : ℕ) (xs : List ToldRecord) → entered_in q (flat_map (λ (x : ToldRecord). x.stretch) xs) ≡ flat_map (entered_by q) xs
 entered_flat q [] = refl
@@ -42,9 +43,11 @@ entered_flat q (x ∷ xs) =
     entered_append q x.stretch (flat_map (λ (y : ToldRecord). y.stretch) xs) ∙ ap (λ ms. entered_in q x.stretch ++ ms) (entered_flat q xs)
 
 -- two records on one line are one
-pub one_record : (ts : List ToldRecord) (x y : ToldRecord) → AreRising ts → Contains ts x → Contains ts y → x.played.line ≡ y.played.line → x ≡ y
+pub one_record : (ts : List ToldRecord) (x y : ToldRecord) → AreRising ts → Contains ts x → Contains ts y → x.played.line ≡ y.played.line →
+    x ≡ y
 one_record ts x y rising first second same =
-    one_by (λ (z : ToldRecord). z.played.line) ts x y (λ i j d before below e. let up = rising i j d before below in omega arith) first second same
+    one_by (λ (z : ToldRecord). z.played.line) ts x y (λ i j d before below e. let up = rising i j d before below in
+    omega arith) first second same
 
 module _ (q : ℕ) (list : List Made) (ts : List ToldRecord) (is : IsListOf q list ts) where
   -- what a stake made is what the records of its thread entered
@@ -68,7 +71,8 @@ module _ (q : ℕ) (list : List Made) (ts : List ToldRecord) (is : IsListOf q li
         sym thread ∙ ap (λ (z : ToldRecord). z.played.thread) same
 
   -- of a thread's records one has the entries of its line
-  none_on : (line k : ℕ) (xs : List ToldRecord) → ((x : ToldRecord) → Contains xs x → Contains ts x) → ((x : ToldRecord) → Contains xs x → x.played.line ≡ line → ⊥) →
+  none_on : (line k : ℕ) (xs : List ToldRecord) → ((x : ToldRecord) → Contains xs x → Contains ts x) →
+      ((x : ToldRecord) → Contains xs x → x.played.line ≡ line → ⊥) →
       filter (is_on line) (flat_map (entered_by q) (filter (is_of_thread k) xs)) ≡ []
   none_on line k xs within apart = filter_none (is_on line) (flat_map (entered_by q) (filter (is_of_thread k) xs)) (λ m among passes.
       let (x, member, there) = flat_cases (entered_by q) (filter (is_of_thread k) xs) m among in
@@ -76,10 +80,13 @@ module _ (q : ℕ) (list : List Made) (ts : List ToldRecord) (is : IsListOf q li
       apart x of (sym (is.lines x m (within x of) there) ∙ eqb-true (line_of m) line passes))
 
   own_on : (x : ToldRecord) → Contains ts x → filter (is_on x.played.line) (entered_by q x) ≡ entered_by q x
-  own_on x among = filter_all (is_on x.played.line) (entered_by q x) (λ m there. eq-eqb (line_of m) x.played.line (is.lines x m among there))
+  own_on x among = filter_all (is_on x.played.line) (entered_by q x)
+      (λ m there. eq-eqb (line_of m) x.played.line (is.lines x m among there))
 
   other_on : (x y : ToldRecord) → Contains ts y → (y.played.line ≡ x.played.line → ⊥) → filter (is_on x.played.line) (entered_by q y) ≡ []
-  other_on x y among apart = filter_none (is_on x.played.line) (entered_by q y) (λ m there passes. apart (sym (is.lines y m among there) ∙ eqb-true (line_of m) x.played.line passes))
+  other_on x y among apart =
+      filter_none (is_on x.played.line) (entered_by q y)
+      (λ m there passes. apart (sym (is.lines y m among there) ∙ eqb-true (line_of m) x.played.line passes))
 
   one_of : (x : ToldRecord) (xs : List ToldRecord) → AreRising xs → ((y : ToldRecord) → Contains xs y → Contains ts y) → Contains xs x →
       filter (is_on x.played.line) (flat_map (entered_by q) (filter (is_of_thread x.played.thread) xs)) ≡ entered_by q x
@@ -98,7 +105,8 @@ module _ (q : ℕ) (list : List Made) (ts : List ToldRecord) (is : IsListOf q li
             let up = pairs_head less y z ys rising member in
             let at : y.played.line ≡ line = ap (λ (u : ToldRecord). u.played.line) e in
             absurd (omega arith)) in
-            rw mine (filter-append (is_on line) (entered_by q y) rest ∙ (ap (λ ms. ms ++ filter (is_on line) rest) here ∙ (ap (λ ms. entered_by q x ++ ms) none ∙ append_none (entered_by q x))))
+            rw mine (filter-append (is_on line) (entered_by q y) rest ∙
+            (ap (λ ms. ms ++ filter (is_on line) rest) here ∙ (ap (λ ms. entered_by q x ++ ms) none ∙ append_none (entered_by q x))))
         | inr later ↦
             let again = one_of x ys (pairs_tail less y ys rising) (λ z member. within z (later_in y z ys member)) later in
             let up : y.played.line < line = pairs_head less y x ys rising later in
@@ -150,14 +158,18 @@ by_stakes (m ∷ ms) each =
 in_threads : (q : ℕ) (list : List Made) (ts : List ToldRecord) → IsListOf q list ts → AreRising ts → AllPairs IfOneStake list
 in_threads q list ts is rising = by_stakes list (λ k.
     let less : ToldRecord → ToldRecord → Type 0 = λ a b. a.played.line < b.played.line in
-    let of : (x : ToldRecord) → Contains (filter (is_of_thread k) ts) x → Contains ts x = λ x among. (filter_cases (is_of_thread k) ts x among).0 in
+    let of : (x : ToldRecord) → Contains (filter (is_of_thread k) ts) x →
+    Contains ts x = λ x among. (filter_cases (is_of_thread k) ts x among).0 in
     subst (λ ms. AllPairs InOrder ms) (sym (made_by q list ts is k))
     (pairs_flat less InOrder (entered_by q) (filter (is_of_thread k) ts) (pairs_filter less (is_of_thread k) ts rising)
-    (λ x among. pairs_all InOrder (entered_by q x) (λ m n p r. let a = is.lines x m (of x among) p in let b = is.lines x n (of x among) r in omega arith))
+    (λ x among. pairs_all InOrder (entered_by q x) (λ m n p r. let a = is.lines x m (of x among) p in let b = is.lines x n (of x among) r in
+    omega arith))
     (λ x y m n first second up p r. let a = is.lines x m (of x first) p in let b = is.lines y n (of y second) r in omega arith)))
 
-module _ (q : ℕ) (list : List Made) (ts : List ToldRecord) (is : IsListOf q list ts) (cuts : HasCuts q list ts) (rising : AreRising ts) where
-  in_phases : (x y : ToldRecord) (i j : ℕ) (m n : Made) → Contains ts x → Contains ts y → slice_get list i ≡ Some m → slice_get list j ≡ Some n →
+module _ (q : ℕ) (list : List Made) (ts : List ToldRecord) (is : IsListOf q list ts) (cuts : HasCuts q list ts)
+    (rising : AreRising ts) where
+  in_phases : (x y : ToldRecord) (i j : ℕ) (m n : Made) → Contains ts x → Contains ts y → slice_get list i ≡ Some m →
+      slice_get list j ≡ Some n →
       line_of m ≡ x.played.line → line_of n ≡ y.played.line → x.played.phase < y.played.phase → i < j
   in_phases x y i j m n first second at_i at_j line line' late =
       let (older, rest, parts, was) = cuts x first in
@@ -172,7 +184,8 @@ module _ (q : ℕ) (list : List Made) (ts : List ToldRecord) (is : IsListOf q li
       let none = nothing_more (filter (is_on x.played.line) older) (filter (is_on x.played.line) rest) (sym split ∙ (now ∙ sym before)) in
       let low : i < length older = elim (get_parts older rest i m (subst (λ ms. slice_get ms i ≡ Some m) parts at_i)) [
         | inl here ↦ here.0
-        | inr there ↦ absurd (not_in_none m (subst (λ ms. Contains ms m) none (filter_in (is_on x.played.line) rest m there.1 (eq-eqb (line_of m) x.played.line line))))
+        | inr there ↦ absurd (not_in_none m
+            (subst (λ ms. Contains ms m) none (filter_in (is_on x.played.line) rest m there.1 (eq-eqb (line_of m) x.played.line line))))
       ] in
       let high : length older ≤ j = elim (get_parts older rest j n (subst (λ ms. slice_get ms j ≡ Some n) parts at_j)) [
         | inl here ↦
@@ -186,7 +199,8 @@ module _ (q : ℕ) (list : List Made) (ts : List ToldRecord) (is : IsListOf q li
       ] in
       omega arith
 
-  in_thread : (x y : ToldRecord) (i j : ℕ) (m n : Made) → Contains ts x → Contains ts y → slice_get list i ≡ Some m → slice_get list j ≡ Some n →
+  in_thread : (x y : ToldRecord) (i j : ℕ) (m n : Made) → Contains ts x → Contains ts y → slice_get list i ≡ Some m →
+      slice_get list j ≡ Some n →
       line_of m ≡ x.played.line → line_of n ≡ y.played.line → x.played.thread ≡ y.played.thread → x.played.line < y.played.line → i < j
   in_thread x y i j m n first second at_i at_j line line' thread up = elim (cases_lt i j) [
     | inl less ↦ less
@@ -198,7 +212,8 @@ module _ (q : ℕ) (list : List Made) (ts : List ToldRecord) (is : IsListOf q li
       | inr other ↦
           let a = stake_is q list ts is rising x m first (get_in list i m at_i) line in
           let b = stake_is q list ts is rising y n second (get_in list j n at_j) line' in
-          let back = get_pair IfOneStake list j i n m (in_threads q list ts is rising) (below j i more other) at_j at_i (b ∙ (sym thread ∙ sym a)) in
+          let back = get_pair IfOneStake list j i n m (in_threads q list ts is rising) (below j i more other) at_j at_i
+          (b ∙ (sym thread ∙ sym a)) in
           absurd (omega arith)
     ]
   ]
@@ -241,4 +256,5 @@ acts_are_theirs p list roots ts x entries is journal rising among same =
     let numbers : List Made → List (List ℕ) = λ ms. map (λ (m : Made). m.numbers) ms in
     let both : map root_numbers (filter (λ (e : RootEntry). eqb e.line line) (roots p)) ≡ map root_numbers entries =
     sym (on_line line list (roots p) journal) ∙ (ap numbers (theirs p list ts is x rising among) ∙ same) in
-    ap (λ es. map (λ (e : RootEntry). e.act) es) (map_one root_numbers (filter (λ (e : RootEntry). eqb e.line line) (roots p)) entries one_root both)
+    ap (λ es. map (λ (e : RootEntry). e.act) es)
+    (map_one root_numbers (filter (λ (e : RootEntry). eqb e.line line) (roots p)) entries one_root both)

@@ -26,7 +26,8 @@ log_sum weight k x ts = elim (cases_Bool (is_of_thread k x)) [
 ]
 
 -- one stake of a thread has the amount once
-part_once : (thread amount : ℕ) (ss : List Stake) → sum_by (λ (s : Stake). one (eqb s.number thread)) ss ≡ 0 → sum_by (λ (s : Stake). part thread amount s.number) ss ≡ 0
+part_once : (thread amount : ℕ) (ss : List Stake) → sum_by (λ (s : Stake). one (eqb s.number thread)) ss ≡ 0 →
+    sum_by (λ (s : Stake). part thread amount s.number) ss ≡ 0
 part_once thread amount [] none = refl
 part_once thread amount (s ∷ ss) none =
     let c = sum_by-cons (λ (x : Stake). one (eqb x.number thread)) s ss in
@@ -35,11 +36,13 @@ part_once thread amount (s ∷ ss) none =
       | inl y ↦ let z : one (eqb s.number thread) ≡ 1 = ap one y.0 in absurd (omega arith)
       | inr n ↦
           let again = part_once thread amount ss (omega arith) in
-          let here : part thread amount s.number ≡ 0 = elim (eqb_tells thread s.number) [ inl y ↦ absurd (n.1 (sym y.1)) | inr m ↦ rw m.0 refl ] in
+          let here : part thread amount s.number ≡ 0 =
+          elim (eqb_tells thread s.number) [ inl y ↦ absurd (n.1 (sym y.1)) | inr m ↦ rw m.0 refl ] in
           omega arith
     ]
 
-part_sum : (thread amount : ℕ) (ss : List Stake) → sum_by (λ (s : Stake). one (eqb s.number thread)) ss ≡ 1 → sum_by (λ (s : Stake). part thread amount s.number) ss ≡ amount
+part_sum : (thread amount : ℕ) (ss : List Stake) → sum_by (λ (s : Stake). one (eqb s.number thread)) ss ≡ 1 →
+    sum_by (λ (s : Stake). part thread amount s.number) ss ≡ amount
 part_sum thread amount [] e = absurd (omega arith)
 part_sum thread amount (s ∷ ss) e =
     let c = sum_by-cons (λ (x : Stake). one (eqb x.number thread)) s ss in
@@ -48,12 +51,14 @@ part_sum thread amount (s ∷ ss) e =
       | inl y ↦
           let z : one (eqb s.number thread) ≡ 1 = ap one y.0 in
           let none = part_once thread amount ss (omega arith) in
-          let here : part thread amount s.number ≡ amount = elim (eqb_tells thread s.number) [ inl m ↦ rw m.0 refl | inr n ↦ absurd (n.1 (sym y.1)) ] in
+          let here : part thread amount s.number ≡ amount =
+          elim (eqb_tells thread s.number) [ inl m ↦ rw m.0 refl | inr n ↦ absurd (n.1 (sym y.1)) ] in
           omega arith
       | inr n ↦
           let z : one (eqb s.number thread) ≡ 0 = ap one n.0 in
           let again = part_sum thread amount ss (omega arith) in
-          let here : part thread amount s.number ≡ 0 = elim (eqb_tells thread s.number) [ inl y ↦ absurd (n.1 (sym y.1)) | inr m ↦ rw m.0 refl ] in
+          let here : part thread amount s.number ≡ 0 =
+          elim (eqb_tells thread s.number) [ inl y ↦ absurd (n.1 (sym y.1)) | inr m ↦ rw m.0 refl ] in
           omega arith
     ]
 
@@ -85,4 +90,5 @@ own_logs weight ts (s ∷ ss) each =
 pub logs_are_told : LogsAreTold
 logs_are_told v ts weight are =
     own_logs weight ts v.stakes are.logs
-    ∙ stakes_sum weight v.stakes ts (λ x among. let some_stake = are.every x.played.thread (are.threads x among) in let few = are.once x.played.thread in omega arith)
+    ∙ stakes_sum weight v.stakes ts (λ x among. let some_stake = are.every x.played.thread (are.threads x among) in
+    let few = are.once x.played.thread in omega arith)

@@ -14,7 +14,8 @@ own_first k p ps e = rw (eq-eqb p.thread k e) refl
 pub other_first : (k : ℕ) (p : Played) (ps : List Played) → (p.thread ≡ k → ⊥) → records_by k (p ∷ ps) ≡ records_by k ps
 other_first k p ps e = rw (ne_eqb p.thread k e) refl
 
-registers : (facts : Facts) (all : AllRegs) (ps : List Played) → ((k : ℕ) → HasRows facts (all k) (records_by k ps)) → (after : AllRegs) × RowsTo facts all ps after
+registers : (facts : Facts) (all : AllRegs) (ps : List Played) → ((k : ℕ) → HasRows facts (all k) (records_by k ps)) → (after : AllRegs) ×
+    RowsTo facts all ps after
 registers facts all [] each = (all, refl)
 registers facts all (p ∷ ps) each =
     let (next, row, rest) = subst (λ xs. HasRows facts (all p.thread) xs) (own_first p.thread p ps refl) (each p.thread) in
@@ -24,14 +25,16 @@ registers facts all (p ∷ ps) each =
     ]) in
     (after, (next, row, rows))
 
-caches : (partitions : ℕ) (roots : Journals) (all : Caches) (ps : List Played) → ((k : ℕ) → HasCacheRows partitions roots (all k) (records_by k ps)) →
+caches : (partitions : ℕ) (roots : Journals) (all : Caches) (ps : List Played) →
+    ((k : ℕ) → HasCacheRows partitions roots (all k) (records_by k ps)) →
     (after : Caches) × CachesTo partitions roots all ps after
 caches partitions roots all [] each = (all, refl)
 caches partitions roots all (p ∷ ps) each =
     let (next, row, rest) = subst (λ xs. HasCacheRows partitions roots (all p.thread) xs) (own_first p.thread p ps refl) (each p.thread) in
     let (after, rows) = caches partitions roots (with_cache all p.thread next) ps (λ k. elim (cases_eq k p.thread) [
       | inl e ↦ rw (eq-eqb k p.thread e) (subst (λ n. HasCacheRows partitions roots next (records_by n ps)) (sym e) rest)
-      | inr ne ↦ rw (ne_eqb k p.thread ne) (subst (λ xs. HasCacheRows partitions roots (all k) xs) (other_first k p ps (λ e. ne (sym e))) (each k))
+      | inr ne ↦ rw (ne_eqb k p.thread ne)
+          (subst (λ xs. HasCacheRows partitions roots (all k) xs) (other_first k p ps (λ e. ne (sym e))) (each k))
     ]) in
     (after, (next, row, rows))
 

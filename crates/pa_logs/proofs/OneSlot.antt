@@ -53,7 +53,8 @@ module _ (ps : List Played) (s : SlotName) (history : List Done) (steps : AreSte
       let at = steps.stand x d among is slot in
       let n : number_of d.found ≡ k = ap number_of found ∙ number_at k (omega arith) in
       let there : Done = record { step = d.step; value = d.value } in
-      let stands : up_to (k + 1) history ≡ there ∷ up_to k history = subst (λ j. up_to (j + 1) history ≡ there ∷ up_to j history) n at.next in
+      let stands : up_to (k + 1) history ≡ there ∷ up_to k history =
+      subst (λ j. up_to (j + 1) history ≡ there ∷ up_to j history) n at.next in
       (x, d, record { among = among; is = is; slot = slot; found = found; number = n; stands = stands; can = can_at k there stands })
 
   -- a step that a record made could be made
@@ -63,25 +64,29 @@ module _ (ps : List Played) (s : SlotName) (history : List Done) (steps : AreSte
       subst (λ w. CanStep d.step w) at.word (can_at (number_of d.found) (record { step = d.step; value = d.value }) at.next)
 
   -- two steps at one number are one
-  pub same_step : (x y : Played) (d e : StepMade) → Contains ps x → Contains ps y → step_by x ≡ Some d → step_by y ≡ Some e → d.slot ≡ s → e.slot ≡ s →
+  pub same_step : (x y : Played) (d e : StepMade) → Contains ps x → Contains ps y → step_by x ≡ Some d → step_by y ≡ Some e → d.slot ≡ s →
+      e.slot ≡ s →
       number_of d.found ≡ number_of e.found → d ≡ e
   same_step x y d e first second is other slot slot' same =
       of_some d e (sym is ∙ (ap step_by (steps.one x y d e first second is other slot slot' same) ∙ other))
 
   -- no mark of the slot at the step's number is on an earlier line
-  least_at : (x : Played) (d : StepMade) → Contains ps x → step_by x ≡ Some d → d.slot ≡ s → (n : Mark) → Contains (marks_of ps) n → n.slot ≡ s → n.found ≡ d.found →
+  least_at : (x : Played) (d : StepMade) → Contains ps x → step_by x ≡ Some d → d.slot ≡ s → (n : Mark) → Contains (marks_of ps) n →
+      n.slot ≡ s → n.found ≡ d.found →
       IsSome n.step → x.line ≤ n.line
   least_at x d among is slot n member of found some_made =
       let (p, step) = some_step n.step some_made in
       let (y, there, marked) = mark_from ps n member in
       let (e, made, same) = mark_step y.line y.op y.answer n p marked step in
-      let one : x ≡ y = steps.one x y d e among there is made slot (sym (ap (λ (z : Mark). z.slot) same) ∙ of) (ap number_of (sym found ∙ ap (λ (z : Mark). z.found) same)) in
+      let one : x ≡ y = steps.one x y d e among there is made slot (sym (ap (λ (z : Mark). z.slot) same) ∙ of)
+      (ap number_of (sym found ∙ ap (λ (z : Mark). z.found) same)) in
       let line : n.line ≡ y.line = ap (λ (z : Mark). z.line) same in
       let lines : x.line ≡ y.line = ap (λ (z : Played). z.line) one in
       omega arith
 
   -- the mark of a step is the first at its word
-  pub first_made : (x : Played) (d : StepMade) → Contains ps x → step_by x ≡ Some d → d.slot ≡ s → IsFirstAt (marks_of ps) s d.found (mark_made x.line d) d.step
+  pub first_made : (x : Played) (d : StepMade) → Contains ps x → step_by x ≡ Some d → d.slot ≡ s →
+      IsFirstAt (marks_of ps) s d.found (mark_made x.line d) d.step
   first_made x d among is slot = record {
     among = mark_in ps x (mark_made x.line d) among (step_mark x.line x.op x.answer d is);
     slot = slot;

@@ -12,7 +12,8 @@ use Rattle.pa_logs.specs.Listed.{first_of, IsListOf, AreRising, HasCuts, OrdersF
 use Rattle.pa_logs.proofs.Listing.{entries_in_order}
 
 -- the entry of a list at a place, by its numbers
-pub place_in : {A : Type 0} (numbers : A → List ℕ) (list : List Made) (es : List A) (i : ℕ) (e : A) → map (λ (m : Made). m.numbers) list ≡ map numbers es → slice_get es i ≡ Some e →
+pub place_in : {A : Type 0} (numbers : A → List ℕ) (list : List Made) (es : List A) (i : ℕ) (e : A) →
+    map (λ (m : Made). m.numbers) list ≡ map numbers es → slice_get es i ≡ Some e →
     (m : Made) × (slice_get list i ≡ Some m) × (m.numbers ≡ numbers e)
 place_in numbers list [] i e same at_i = absurd cc
 place_in numbers [] (f ∷ es) i e same at_i = absurd cc
@@ -23,9 +24,12 @@ place_in numbers (m ∷ ms) (f ∷ es) (suc i) e same at_i =
     let tail : map (λ (n : Made). n.numbers) ms ≡ map numbers es = cc in
     place_in numbers ms es i e tail at_i
 
-in_order : {A : Type 0} (numbers : A → List ℕ) (line : A → ℕ) (q : ℕ) (list : List Made) (es : List A) (ts : List ToldRecord) (x y : ToldRecord) (i j : ℕ) (e f : A) →
-    ((a : A) → first_of (numbers a) ≡ line a) → IsListOf q list ts → HasCuts q list ts → AreRising ts → map (λ (m : Made). m.numbers) list ≡ map numbers es →
-    Contains ts x → Contains ts y → slice_get es i ≡ Some e → slice_get es j ≡ Some f → x.played.line ≡ line e → y.played.line ≡ line f → StandsBefore x.played y.played → i < j
+in_order : {A : Type 0} (numbers : A → List ℕ) (line : A → ℕ) (q : ℕ) (list : List Made) (es : List A) (ts : List ToldRecord)
+    (x y : ToldRecord) (i j : ℕ) (e f : A) →
+    ((a : A) → first_of (numbers a) ≡ line a) → IsListOf q list ts → HasCuts q list ts → AreRising ts →
+    map (λ (m : Made). m.numbers) list ≡ map numbers es →
+    Contains ts x → Contains ts y → slice_get es i ≡ Some e → slice_get es j ≡ Some f → x.played.line ≡ line e → y.played.line ≡ line f →
+    StandsBefore x.played y.played → i < j
 in_order numbers line q list es ts x y i j e f first is cuts rising same among member at_i at_j on on' before =
     let (m, here, m_is) = place_in numbers list es i e same at_i in
     let (n, there, n_is) = place_in numbers list es j f same at_j in
@@ -35,7 +39,9 @@ in_order numbers line q list es ts x y i j e f first is cuts rising same among m
 pub orders_follow : OrdersFollow
 orders_follow = record {
   journal = λ p list journal ts x y i j e f is cuts rising same among member at_i at_j on on' before.
-      in_order root_numbers (λ (z : RootEntry). z.line) p list journal ts x y i j e f (λ a. refl) is cuts rising same among member at_i at_j on on' before;
+      in_order root_numbers (λ (z : RootEntry). z.line) p list journal ts x y i j e f
+      (λ a. refl) is cuts rising same among member at_i at_j on on' before;
   pool = λ list pools ts x y i j e f is cuts rising same among member at_i at_j on on' before.
-      in_order pool_numbers (λ (z : PoolEntry). z.line) 4 list pools ts x y i j e f (λ a. refl) is cuts rising same among member at_i at_j on on' before;
+      in_order pool_numbers (λ (z : PoolEntry). z.line) 4 list pools ts x y i j e f
+      (λ a. refl) is cuts rising same among member at_i at_j on on' before;
 }

@@ -41,18 +41,21 @@ module _ {A : Type 0} where
 log_append : (k : ℕ) (xs ys : List ToldRecord) → log_of k (xs ++ ys) ≡ log_of k xs ++ log_of k ys
 log_append k xs ys =
     let stretch : ToldRecord → List Entry = λ x. x.stretch in
-    ap (λ zs. flat_map stretch zs) (filter-append (is_of_thread k) xs ys) ∙ flat_map-append stretch (filter (is_of_thread k) xs) (filter (is_of_thread k) ys)
+    ap (λ zs. flat_map stretch zs) (filter-append (is_of_thread k) xs ys) ∙
+    flat_map-append stretch (filter (is_of_thread k) xs) (filter (is_of_thread k) ys)
 
 log_first : (k : ℕ) (x : ToldRecord) (ts : List ToldRecord) → is_of_thread k x ≡ true → log_of k (x ∷ ts) ≡ x.stretch ++ log_of k ts
 log_first k x ts mine = rw mine refl
 
 -- a record's log segment is in its thread's log
-pub stretch_at : (k : ℕ) (ts : List ToldRecord) (x : ToldRecord) → Contains ts x → x.played.thread ≡ k → (before later : List Entry) × (log_of k ts ≡ before ++ (x.stretch ++ later))
+pub stretch_at : (k : ℕ) (ts : List ToldRecord) (x : ToldRecord) → Contains ts x → x.played.thread ≡ k → (before later : List Entry) ×
+    (log_of k ts ≡ before ++ (x.stretch ++ later))
 stretch_at k ts x among mine =
     let (front, rest, parts) = parts_at ts x among in (
       log_of k front,
       log_of k rest,
-      ap (log_of k) parts ∙ (log_append k front (x ∷ rest) ∙ ap (λ es. log_of k front ++ es) (log_first k x rest (eq-eqb x.played.thread k mine))),
+      ap (log_of k) parts ∙ (log_append k front (x ∷ rest) ∙
+          ap (λ es. log_of k front ++ es) (log_first k x rest (eq-eqb x.played.thread k mine))),
     )
 
 -- an entry of a thread's log is of one of its records
@@ -65,7 +68,8 @@ log_from k ts weight some_weight =
     (x, e, there, eqb-true x.played.thread k mine, within, here)
 
 -- the stake of a thread, at its place
-pub stake_at : (v : View) (ts : List ToldRecord) (k : ℕ) → AreLogs v ts → k < 16 → (i : ℕ) × (s : Stake) × (get_elem? v.stakes i ≡ some s) × (s.number ≡ k) × (s.log ≡ log_of k ts)
+pub stake_at : (v : View) (ts : List ToldRecord) (k : ℕ) → AreLogs v ts → k < 16 → (i : ℕ) × (s : Stake) × (get_elem? v.stakes i ≡ some s) ×
+    (s.number ≡ k) × (s.log ≡ log_of k ts)
 stake_at v ts k are low =
     let (i, s, at_i, is) = some_member _ v.stakes (are.every k low) in
     let mine : s.number ≡ k = eqb-true s.number k (one_true _ is) in

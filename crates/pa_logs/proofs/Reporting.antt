@@ -43,7 +43,8 @@ abbrev numbers : List Made → List (List ℕ)
 numbers ms = map (λ (m : Made). m.numbers) ms
 
 -- if a list's images begin with another's, so does the list
-begin_map : {A B : Type 0} (f : A → B) (xs ys : List A) (zs : List B) → ((x y : A) → f x ≡ f y → x ≡ y) → map f xs ≡ map f ys ++ zs → (ws : List A) × (xs ≡ ys ++ ws)
+begin_map : {A B : Type 0} (f : A → B) (xs ys : List A) (zs : List B) → ((x y : A) → f x ≡ f y → x ≡ y) → map f xs ≡ map f ys ++ zs →
+    (ws : List A) × (xs ≡ ys ++ ws)
 begin_map f xs [] zs one e = (xs, refl)
 begin_map f [] (y ∷ ys) zs one e = absurd cc
 begin_map f (x ∷ xs) (y ∷ ys) zs one e =
@@ -58,10 +59,12 @@ map_append f [] ys = refl
 map_append f (x ∷ xs) ys = ap (λ zs. f x ∷ zs) (map_append f xs ys)
 
 -- the list's entry of a journal's
-made_of : (list : List Made) (es : List RootEntry) (e : RootEntry) → map (λ (m : Made). m.numbers) list ≡ map root_numbers es → Contains es e →
+made_of : (list : List Made) (es : List RootEntry) (e : RootEntry) → map (λ (m : Made). m.numbers) list ≡ map root_numbers es →
+    Contains es e →
     (m : Made) × Contains list m × (m.numbers ≡ root_numbers e)
 made_of list es e same among =
-    map_cases (λ (m : Made). m.numbers) list (root_numbers e) (subst (λ ns. Contains ns (root_numbers e)) (sym same) (map_in root_numbers es e among))
+    map_cases (λ (m : Made). m.numbers) list (root_numbers e)
+    (subst (λ ns. Contains ns (root_numbers e)) (sym same) (map_in root_numbers es e among))
 
 module _ (p phase : ℕ) (lists : ℕ → List Made) (pools : List PoolEntry) (roots : Journals) (ts : List ToldRecord) (c : Census)
     (are : AreLists lists pools roots ts) (small : p < 4) (h : TakenAt p phase lists ts c) where
@@ -72,13 +75,15 @@ module _ (p phase : ℕ) (lists : ℕ → List Made) (pools : List PoolEntry) (r
 
   pool_on : (more : List PoolEntry) × (pools ≡ h.pool ++ more)
   pool_on = begin_map pool_numbers pools h.pool (numbers h.unseen) one_pool
-      (sym are.pool ∙ (ap numbers h.begins ∙ (map_append (λ (m : Made). m.numbers) h.seen h.unseen ∙ ap (λ ns. ns ++ numbers h.unseen) h.pool_is)))
+      (sym are.pool ∙ (ap numbers h.begins ∙
+      (map_append (λ (m : Made). m.numbers) h.seen h.unseen ∙ ap (λ ns. ns ++ numbers h.unseen) h.pool_is)))
 
   -- the rest of the journal is the rest of the list
   rest_is : numbers h.cut.rest ≡ map root_numbers goes_on.0
   rest_is = cancel (numbers h.cut.older) (numbers h.cut.rest) (map root_numbers goes_on.0)
       (sym (map_append (λ (m : Made). m.numbers) h.cut.older h.cut.rest) ∙ (sym (ap numbers h.cut.begins) ∙ (are.journals p small
-      ∙ (ap (λ es. map root_numbers es) goes_on.1 ∙ (map_append root_numbers h.journal goes_on.0 ∙ ap (λ ns. ns ++ map root_numbers goes_on.0) (sym h.journal_is))))))
+      ∙ (ap (λ es. map root_numbers es) goes_on.1 ∙
+      (map_append root_numbers h.journal goes_on.0 ∙ ap (λ ns. ns ++ map root_numbers goes_on.0) (sym h.journal_is))))))
     where
       cancel : {A : Type 0} (xs ys zs : List A) → xs ++ ys ≡ xs ++ zs → ys ≡ zs
       cancel [] ys zs e = e
@@ -108,11 +113,13 @@ module _ (p phase : ℕ) (lists : ℕ → List Made) (pools : List PoolEntry) (r
             let until_in = filter_in (is_until phase) ts x member (le-leb x.played.phase phase soon) in
             let less : ToldRecord → ToldRecord → Type 0 = λ a b. a.played.line < b.played.line in
             let now = lines_have_theirs.theirs p (lists p) ts x is are.rising member in
-            let was = lines_have_theirs.theirs p h.cut.older (told_until phase ts) x h.cut.is (pairs_filter less (is_until phase) ts are.rising) until_in in
+            let was = lines_have_theirs.theirs p h.cut.older (told_until phase ts) x h.cut.is
+            (pairs_filter less (is_until phase) ts are.rising) until_in in
             let split : filter on (lists p) ≡ filter on h.cut.older ++ filter on h.cut.rest =
             ap (λ ms. filter on ms) h.cut.begins ∙ filter-append on h.cut.older h.cut.rest in
             let none = nothing_more (filter on h.cut.older) (filter on h.cut.rest) (sym split ∙ (now ∙ sym was)) in
-            absurd (not_in_none m (subst (λ ms. Contains ms m) none (filter_in on h.cut.rest m there (eq-eqb (line_of m) x.played.line line))))
+            absurd (not_in_none m (subst (λ ms. Contains ms m) none
+            (filter_in on h.cut.rest m there (eq-eqb (line_of m) x.played.line line))))
       ] in
       (x.played, (played_there x member, sym line ∙ ap first_of says), late)
 
@@ -125,7 +132,8 @@ module _ (p phase : ℕ) (lists : ℕ → List Made) (pools : List PoolEntry) (r
       in_phases = all_from_members (InPhases (played_in ts) phase) h.journal before_end;
       past_phases = all_from_members (PastPhases (played_in ts) phase) goes_on.0 after_end;
     },
-    h.taken ∙ ap census (sym (ap (λ ps. root_replayed ps h.journal new_root) pool_on.1 ∙ journal_grows.pool_same h.pool pool_on.0 h.journal h.replays)),
+    h.taken ∙ ap census (sym (ap (λ ps. root_replayed ps h.journal new_root) pool_on.1 ∙
+        journal_grows.pool_same h.pool pool_on.0 h.journal h.replays)),
   )
 
 -- what the threads count is what all records count
@@ -135,9 +143,12 @@ count_first : (test : Step → ℕ → Bool) (weight : SlotName → ℕ) (x : Pl
 count_first test weight x xs zero = (λ below. absurd (omega arith), λ past. refl)
 count_first test weight x xs (suc n) =
     let again = count_first test weight x xs n in
-    let own : x.thread ≡ n → weight_of test weight (marks_of (records_by n (x ∷ xs))) ≡ one_weight test weight (mark_of x) + weight_of test weight (marks_of (records_by n xs)) =
+    let own : x.thread ≡ n →
+    weight_of test weight (marks_of (records_by n (x ∷ xs))) ≡ one_weight test weight (mark_of x) + weight_of test weight
+    (marks_of (records_by n xs)) =
     λ e. ap (λ ys. weight_of test weight (marks_of ys)) (own_first n x xs e) ∙ weight_first test weight x (records_by n xs) in
-    let other : (x.thread ≡ n → ⊥) → weight_of test weight (marks_of (records_by n (x ∷ xs))) ≡ weight_of test weight (marks_of (records_by n xs)) =
+    let other : (x.thread ≡ n → ⊥) →
+    weight_of test weight (marks_of (records_by n (x ∷ xs))) ≡ weight_of test weight (marks_of (records_by n xs)) =
     λ ne. ap (λ ys. weight_of test weight (marks_of ys)) (other_first n x xs ne) in (
       λ below. elim (cases_eq x.thread n) [
         | inl e ↦ let a = own e in let b = again.1 (omega arith) in omega arith
@@ -159,8 +170,10 @@ counts_add test weight (x ∷ xs) n few =
     let again = counts_add test weight xs n (λ y among. few y (later_in x y xs among)) in
     omega arith
 
-left_by : (into out : Step → ℕ → Bool) (home size : SlotName → ℕ) (p threads : ℕ) (xs : List Played) (tally : Tally) → ((x : Played) → Contains xs x → x.thread < threads) →
-    WentIn into out home size p (marks_of xs) → IsLeftBy into out home size p threads xs tally → IsLeft into out home size p (marks_of xs) tally
+left_by : (into out : Step → ℕ → Bool) (home size : SlotName → ℕ) (p threads : ℕ) (xs : List Played) (tally : Tally) →
+    ((x : Played) → Contains xs x → x.thread < threads) →
+    WentIn into out home size p (marks_of xs) → IsLeftBy into out home size p threads xs tally →
+    IsLeft into out home size p (marks_of xs) tally
 left_by into out home size p threads xs tally few went h =
     let first = went.slots in
     let second = went.bytes in
@@ -173,14 +186,17 @@ left_by into out home size p threads xs tally few went h =
     record { slots = omega arith; bytes = omega arith }
 
 -- the lists of all threads, from those of each
-pub leads : (partitions : ℕ) (roots : Journals) (all : Caches) (ps : List Played) (ends : Caches) → ((k : ℕ) → CacheLeadsTo partitions roots (all k) (records_by k ps) (ends k)) →
+pub leads : (partitions : ℕ) (roots : Journals) (all : Caches) (ps : List Played) (ends : Caches) →
+    ((k : ℕ) → CacheLeadsTo partitions roots (all k) (records_by k ps) (ends k)) →
     (after : Caches) × CachesTo partitions roots all ps after × ((k : ℕ) → after k ≡ ends k)
 leads partitions roots all [] ends each = (all, refl, λ k. sym (each k))
 leads partitions roots all (x ∷ xs) ends each =
-    let (next, row, rest) = subst (λ ys. CacheLeadsTo partitions roots (all x.thread) ys (ends x.thread)) (own_first x.thread x xs refl) (each x.thread) in
+    let (next, row, rest) = subst (λ ys. CacheLeadsTo partitions roots (all x.thread) ys (ends x.thread)) (own_first x.thread x xs refl)
+    (each x.thread) in
     let (after, rows, same) = leads partitions roots (with_cache all x.thread next) xs ends (λ k. elim (cases_eq k x.thread) [
       | inl e ↦ rw (eq-eqb k x.thread e) (subst (λ n. CacheLeadsTo partitions roots next (records_by n xs) (ends n)) (sym e) rest)
-      | inr ne ↦ rw (ne_eqb k x.thread ne) (subst (λ ys. CacheLeadsTo partitions roots (all k) ys (ends k)) (other_first k x xs (λ e. ne (sym e))) (each k))
+      | inr ne ↦ rw (ne_eqb k x.thread ne)
+          (subst (λ ys. CacheLeadsTo partitions roots (all k) ys (ends k)) (other_first k x xs (λ e. ne (sym e))) (each k))
     ]) in
     (after, (next, row, rows), same)
 
@@ -197,7 +213,8 @@ same_bytes all ends p (suc n) same =
     ap (λ (c : Cache). listed_bytes (λ class. length (c p class)) 0 170) (same n) in
     let again = same_bytes all ends p n same in omega arith
 
-cached : (partitions threads : ℕ) (roots : Journals) (xs : List Played) (p : ℕ) (tally : Tally) → AreListed partitions threads roots xs p tally → IsCached partitions threads roots xs p tally
+cached : (partitions threads : ℕ) (roots : Journals) (xs : List Played) (p : ℕ) (tally : Tally) →
+    AreListed partitions threads roots xs p tally → IsCached partitions threads roots xs p tally
 cached partitions threads roots xs p tally h =
     let (after, rows, same) = leads partitions roots no_caches xs h.all h.each in
     (after, rows, h.slots ∙ sym (same_slots after h.all p threads same), h.bytes ∙ sym (same_bytes after h.all p threads same))
@@ -217,7 +234,8 @@ lines_differ (t ∷ ts) h =
 
 module _ (supers partitions threads : ℕ) (home size : SlotName → ℕ) (lists : ℕ → List Made) (pools : List PoolEntry) (roots : Journals)
     (ts : List ToldRecord) (all : AreReported supers partitions threads home size lists pools roots ts) where
-  right : (l : ReportLine) → IsLineTold partitions threads home size lists roots ts l → IsReportLine partitions threads (played_in ts) pools roots l
+  right : (l : ReportLine) → IsLineTold partitions threads home size lists roots ts l →
+      IsReportLine partitions threads (played_in ts) pools roots l
   right l h =
       let ps = played_in ts in
       let xs = until l.phase ps in
@@ -238,7 +256,8 @@ module _ (supers partitions threads : ℕ) (home size : SlotName → ℕ) (lists
             (left_by issues frees home size l.partition threads xs l.live few
             (tallies_follow.freed supers partitions l.partition ps xs pools roots home size tallied) h.live);
         quarantined = tallies_follow.quarantined supers partitions l.partition ps xs pools roots home size l.quarantined tallied homes
-            (left_by enters leaves home size l.partition threads xs l.quarantined few (tallies_follow.left supers partitions l.partition ps xs pools roots home size tallied) h.quarantined);
+            (left_by enters leaves home size l.partition threads xs l.quarantined few
+            (tallies_follow.left supers partitions l.partition ps xs pools roots home size tallied) h.quarantined);
         cached = cached partitions threads roots xs l.partition l.cached h.cached;
         root = has_census l.partition l.phase lists pools roots ts (census_of l) all.lists_are h.partition h.root;
       }
@@ -246,7 +265,8 @@ module _ (supers partitions threads : ℕ) (home size : SlotName → ℕ) (lists
 pub report_follows : ReportFollows
 report_follows = record {
   census = λ p phase lists pools roots ts c are small h. has_census p phase lists pools roots ts c are small h;
-  line = λ supers partitions threads home size lists pools roots ts l all h. right supers partitions threads home size lists pools roots ts all l h;
+  line = λ supers partitions threads home size lists pools roots ts l all h. right supers partitions threads home size lists pools roots ts
+      all l h;
   report = λ supers phases partitions threads home size lists pools roots ts lines all places each. record {
     places = places;
     right = all_from_members (IsReportLine partitions threads (played_in ts) pools roots) lines

@@ -64,13 +64,19 @@ module _ (t : Trace) (r : Told) (v : View) (ts : List ToldRecord) (says : Layers
 
   pool : IsPoolOf t.region ps r.pools r.roots
   pool = layers_follow.pool t.region (λ q. list_of q v) r.pools r.roots ts
-      (record { lists_are = are_lists t r v ts says; asked = says.pool.asked; fits = says.pool.fits; cuts = cuts t r v ts says 4 (omega arith) })
+      (record {
+        lists_are = are_lists t r v ts says;
+        asked = says.pool.asked;
+        fits = says.pool.fits;
+        cuts = cuts t r v ts says 4 (omega arith);
+      })
 
   -- the partition of a request is one of the first four
   partition_small : (x : ToldRecord) (reg p size : ℕ) → Contains ts x → x.played.op ≡ ops.Alloc reg p size → p < 4
   partition_small x reg p size among op =
       let most = says.runner.limits.head.1.1 in
-      let is : IsOpWithin t.partitions (ops.Alloc reg p size) = subst (λ o. IsOpWithin t.partitions o) op (within t r v ts says x among).op in
+      let is : IsOpWithin t.partitions (ops.Alloc reg p size) =
+      subst (λ o. IsOpWithin t.partitions o) op (within t r v ts says x among).op in
       let below = is.1 in
       omega arith
 
@@ -100,8 +106,10 @@ module _ (t : Trace) (r : Told) (v : View) (ts : List ToldRecord) (says : Layers
   caches_to : CachesTo t.partitions r.roots no_caches ps (says.lists (phases_in t.lines))
   caches_to =
       let last = phases_in t.lines in
-      let (after, to, same) = leads t.partitions r.roots no_caches (until last ps) (says.lists last) (λ k. says.heap.caches last k (omega arith) (omega arith)) in
-      subst (λ (c : Caches). CachesTo t.partitions r.roots no_caches ps c) (λ n k. same k n) (subst (λ xs. CachesTo t.partitions r.roots no_caches xs after) until_last to)
+      let (after, to, same) = leads t.partitions r.roots no_caches (until last ps) (says.lists last)
+      (λ k. says.heap.caches last k (omega arith) (omega arith)) in
+      subst (λ (c : Caches). CachesTo t.partitions r.roots no_caches ps c) (λ n k. same k n)
+      (subst (λ xs. CachesTo t.partitions r.roots no_caches xs after) until_last to)
 
   caches : AreCaches t.partitions r.roots ps
   caches = (says.lists (phases_in t.lines), caches_to)
@@ -111,7 +119,8 @@ module _ (t : Trace) (r : Told) (v : View) (ts : List ToldRecord) (says : Layers
   slots : Slots (marks_of ps)
   slots =
       let all = knows t r v ts says in
-      slots_follow ps (λ s. all.all.history (title_of sizes s)) (histories_follow sizes v ts all.all.history all.logs says.heap.told all.all.chain)
+      slots_follow ps (λ s. all.all.history (title_of sizes s))
+      (histories_follow sizes v ts all.all.history all.logs says.heap.told all.all.chain)
 
   -- what a seat had seen was stepped on
   usable_there : (x : ToldRecord) (s : SlotName) → Contains ts x → 1 ≤ x.saw (title_of sizes s) → usable_in ps s ≡ sizes s - 8
@@ -123,11 +132,13 @@ module _ (t : Trace) (r : Told) (v : View) (ts : List ToldRecord) (says : Layers
       let heard = says.runner.heard x u among in
       let logged = says.runner.has.aware.all_seen says.runner.has.every u in
       let long : 0 < length (all.all.history u) = omega arith in
-      let is = usable_follows sizes ts s (all.all.history u) says.heap.told (histories_follow sizes v ts all.all.history all.logs says.heap.told all.all.chain s) long in
+      let is = usable_follows sizes ts s (all.all.history u) says.heap.told
+      (histories_follow sizes v ts all.all.history all.logs says.heap.told all.all.chain s) long in
       omega arith
 
   rows : (k : ℕ) → HasToldRows sizes (by_records t.version ps r.cells) (no_regs k) (filter (is_of_thread k) ts)
-  rows k = rows_same t.version sizes ps r.cells (no_regs k) (filter (is_of_thread k) ts) (λ x s among some. usable_there x s (filter_cases (is_of_thread k) ts x among).0 some) (says.heap.rows k)
+  rows k = rows_same t.version sizes ps r.cells (no_regs k) (filter (is_of_thread k) ts)
+      (λ x s among some. usable_there x s (filter_cases (is_of_thread k) ts x among).0 some) (says.heap.rows k)
 
   registers : AreRegisters (usable_of t.version) r.cells ps
   registers = merged sizes (by_records t.version ps r.cells) no_regs ts rows
@@ -146,7 +157,8 @@ module _ (t : Trace) (r : Told) (v : View) (ts : List ToldRecord) (says : Layers
     lines = lines_differ (rules_of t) t.lines ps (are_lines t r v ts says);
     phases = phases_rise (rules_of t) t.lines ps (are_lines t r v ts says);
     handed = λ x y hands. swaps_follow.handed (list_of 5 v) r.cells says.swaps ts x y (swapped t r v ts says) hands;
-    threads = λ x y first second one other thread less. swaps_follow.threads (list_of 5 v) r.cells says.swaps ts x y (swapped t r v ts says) first second one other thread less;
+    threads = λ x y first second one other thread less. swaps_follow.threads (list_of 5 v) r.cells says.swaps ts x y
+        (swapped t r v ts says) first second one other thread less;
   }
 
   seen : IsSeenInOrder r.cells ps
@@ -169,10 +181,12 @@ module _ (t : Trace) (r : Told) (v : View) (ts : List ToldRecord) (says : Layers
     few = λ x among. (within t r v ts says x among).thread;
   }
 
-  line_told : (l : ReportLine) → Contains r.report l → IsLineTold t.partitions t.threads (homes_in t r) sizes (λ q. list_of q v) r.roots ts l
+  line_told : (l : ReportLine) → Contains r.report l →
+      IsLineTold t.partitions t.threads (homes_in t r) sizes (λ q. list_of q v) r.roots ts l
   line_told l among =
       let at : ℕ × ℕ = (l.phase, l.partition) in
-      let is = place_is t.partitions 1 (phases_in t.lines) at (subst (λ ns. Contains ns at) says.runner.places (map_in (λ (z : ReportLine). (z.phase, z.partition)) r.report l among)) in
+      let is = place_is t.partitions 1 (phases_in t.lines) at
+      (subst (λ ns. Contains ns at) says.runner.places (map_in (λ (z : ReportLine). (z.phase, z.partition)) r.report l among)) in
       let low : 1 ≤ l.phase = is.low in
       let high = is.high in
       let within_all : l.phase ≤ phases_in t.lines = omega arith in
@@ -185,9 +199,19 @@ module _ (t : Trace) (r : Told) (v : View) (ts : List ToldRecord) (says : Layers
         partition = small;
         live = said.live;
         quarantined = said.quarantined;
-        cached = record { all = says.lists l.phase; each = λ k. says.heap.caches l.phase k low within_all; slots = said.cached.0; bytes = said.cached.1 };
+        cached = record {
+          all = says.lists l.phase;
+          each = λ k. says.heap.caches l.phase k low within_all;
+          slots = said.cached.0;
+          bytes = said.cached.1;
+        };
         root = record {
-          cut = record { older = list_of l.partition (says.seats l.phase); rest = rest; begins = begins; is = cut_at t r v ts says l.partition l.phase (omega arith) low within_all };
+          cut = record {
+            older = list_of l.partition (says.seats l.phase);
+            rest = rest;
+            begins = begins;
+            is = cut_at t r v ts says l.partition l.phase (omega arith) low within_all;
+          };
           journal = said.root.journal;
           journal_is = said.root.journal_is;
           seen = said.root.seen;
@@ -201,7 +225,8 @@ module _ (t : Trace) (r : Told) (v : View) (ts : List ToldRecord) (says : Layers
       }
 
   report : IsReport (phases_in t.lines) t.partitions t.threads ps r.pools r.roots r.report
-  report = report_follows.report t.region (phases_in t.lines) t.partitions t.threads (homes_in t r) sizes (λ q. list_of q v) r.pools r.roots ts r.report reported says.runner.places line_told
+  report = report_follows.report t.region (phases_in t.lines) t.partitions t.threads (homes_in t r) sizes
+      (λ q. list_of q v) r.pools r.roots ts r.report reported says.runner.places line_told
 
   -- ---- all of it
 
@@ -255,4 +280,8 @@ module _ (t : Trace) (r : Told) (v : View) (ts : List ToldRecord) (says : Layers
       }))
 
 pub layers_tell_all : LayersTellAll
-layers_tell_all = record { played = played_out; legal = legal; held = λ words t r v ts says closes end. held t r v ts says words closes end }
+layers_tell_all = record {
+  played = played_out;
+  legal = legal;
+  held = λ words t r v ts says closes end. held t r v ts says words closes end;
+}

@@ -32,7 +32,8 @@ use Rattle.pa_logs.proofs.Seating.{seats_know}
 use Rattle.pa_logs.proofs.Swapping.{Apart, apart, swaps_follow}
 
 -- exchanges with entries on different lines
-swaps_apart : (ss : List SwapMade) → AllPairs Apart (map (λ (s : SwapMade). s.made) ss) → AllPairs (λ (a b : SwapMade). line_of a.made ≢ line_of b.made) ss
+swaps_apart : (ss : List SwapMade) → AllPairs Apart (map (λ (s : SwapMade). s.made) ss) →
+    AllPairs (λ (a b : SwapMade). line_of a.made ≢ line_of b.made) ss
 swaps_apart [] h = pairs_none (λ (a b : SwapMade). line_of a.made ≢ line_of b.made)
 swaps_apart (s ∷ ss) h =
     let all = map (λ (z : SwapMade). z.made) ss in
@@ -42,7 +43,8 @@ swaps_apart (s ∷ ss) h =
 
 module _ (t : Trace) (r : Told) (v : View) (ts : List ToldRecord) (says : LayersSay t r v ts) where
   pub are_lines : AreLines (rules_of t) t.lines (played_in ts)
-  are_lines = subst (λ ps. AreLines (rules_of t) t.lines ps) (sym says.runner.records) (records_are_lines.lines (rules_of t) t.lines r.entries says.runner.due)
+  are_lines = subst (λ ps. AreLines (rules_of t) t.lines ps) (sym says.runner.records)
+      (records_are_lines.lines (rules_of t) t.lines r.entries says.runner.due)
 
   pub rising : AreRising ts
   rising = told_rise t ts are_lines
@@ -83,7 +85,8 @@ module _ (t : Trace) (r : Told) (v : View) (ts : List ToldRecord) (says : Layers
   pub cut_at : (q n : ℕ) → q < 6 → 1 ≤ n → n ≤ phases_in t.lines → IsListOf q (list_of q (says.seats n)) (told_until n ts)
   cut_at q n few low high =
       let end = says.runner.ends n low high in
-      seats_know.lists q (says.seats n) (told_until n ts) end.has.aware (phase_knows n (says.seats n) end).logs (λ x m among. says.heap.lines q few x m (before n x among))
+      seats_know.lists q (says.seats n) (told_until n ts) end.has.aware (phase_knows n (says.seats n) end).logs
+      (λ x m among. says.heap.lines q few x m (before n x among))
 
   pub cuts : (q : ℕ) → q < 6 → HasCuts q (list_of q v) ts
   cuts q few x among =
@@ -109,7 +112,8 @@ module _ (t : Trace) (r : Told) (v : View) (ts : List ToldRecord) (says : Layers
       (Contains-append_right at.older (at.swap ∷ []) at.swap (first_in at.swap [])))
 
   made_in : (s : SwapMade) → Contains says.swaps s → Contains (list_of 5 v) s.made
-  made_in s among = subst (λ ms. Contains ms s.made) (sym says.cells.swaps_are.list_is) (map_in (λ (z : SwapMade). z.made) says.swaps s among)
+  made_in s among = subst (λ ms. Contains ms s.made) (sym says.cells.swaps_are.list_is)
+      (map_in (λ (z : SwapMade). z.made) says.swaps s among)
 
   pub swapped : AreSwapped (list_of 5 v) r.cells says.swaps ts
   swapped = record {
@@ -136,11 +140,14 @@ module _ (t : Trace) (r : Told) (v : View) (ts : List ToldRecord) (says : Layers
         let (k, reg, op) = says.cells.only x s.made there entered in
         let at = says.cells.answers x k reg there op in
         let line : line_of s.made ≡ x.played.line = is.lines x s.made there entered in
-        let differ = swaps_apart says.swaps (subst (λ ms. AllPairs Apart ms) says.cells.swaps_are.list_is (apart (list_of 5 v) r.cells says.swaps ts swapped)) in
-        let one : at.swap ≡ s = one_by (λ (z : SwapMade). line_of z.made) says.swaps at.swap s differ (swap_in x k at) among (at.line ∙ sym line) in
+        let differ = swaps_apart says.swaps
+        (subst (λ ms. AllPairs Apart ms) says.cells.swaps_are.list_is (apart (list_of 5 v) r.cells says.swaps ts swapped)) in
+        let one : at.swap ≡ s = one_by (λ (z : SwapMade). line_of z.made) says.swaps at.swap s differ (swap_in x k at) among
+        (at.line ∙ sym line) in
         let cell : k ≡ s.cell = sym at.cell ∙ ap (λ (z : SwapMade). z.cell) one in
         (x, reg, there, sym line ∙ says.cells.swaps_are.lines s among, op ∙ ap (λ n. ops.Swap n reg) cell);
-    answers = λ x k reg among op. indices_follow.swapped (list_of 5 v) r.cells says.swaps x k says.cells.swaps_are (says.cells.answers x k reg among op);
+    answers = λ x k reg among op. indices_follow.swapped (list_of 5 v) r.cells says.swaps x k says.cells.swaps_are
+        (says.cells.answers x k reg among op);
   }
 
   -- ---- what was seen

@@ -35,7 +35,8 @@ none_logged k ts high low =
     let same = eqb-true x.played.thread k mine in
     absurd (omega arith)))
 
-made_by_thread : (q : ℕ) (v : View) (ts : List ToldRecord) (k : ℕ) → IsAware v → AreLogs v ts → made_with k (list_of q v) ≡ entered_in q (log_of k ts)
+made_by_thread : (q : ℕ) (v : View) (ts : List ToldRecord) (k : ℕ) → IsAware v → AreLogs v ts →
+    made_with k (list_of q v) ≡ entered_in q (log_of k ts)
 made_by_thread q v ts k aware logs = elim (cases_lt k 16) [
   | inl low ↦
       let (i, s, at_i, mine, log) = stake_at v ts k logs low in
@@ -46,6 +47,9 @@ made_by_thread q v ts k aware logs = elim (cases_lt k 16) [
 
 pub seats_know : SeatsKnow
 seats_know = record {
-  logs = λ v ts aware every threads logs. record { logs = record { every = every; once = aware.stake_once; threads = threads; logs = logs }; all = aware.all_logs every };
+  logs = λ v ts aware every threads logs. record {
+    logs = record { every = every; once = aware.stake_once; threads = threads; logs = logs };
+    all = aware.all_logs every;
+  };
   lists = λ q v ts aware logs lines. record { made = λ k. made_by_thread q v ts k aware logs; lines = lines };
 }

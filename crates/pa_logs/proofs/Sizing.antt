@@ -40,7 +40,8 @@ use Rattle.pa_logs.specs.Lengths.{slots_cut, maps_by, titles_by, titles_of, leng
 use Rattle.pa_lists.specs.Numbers.{numbers}
 
 -- a title among others that agree with it has the length of its name
-pub length_is : (ts : List Title) (t : Title) → Contains ts t → ((u : Title) → Contains ts u → name_of u ≡ name_of t → u.len ≡ t.len) → length_among ts (name_of t) ≡ t.len
+pub length_is : (ts : List Title) (t : Title) → Contains ts t → ((u : Title) → Contains ts u → name_of u ≡ name_of t → u.len ≡ t.len) →
+    length_among ts (name_of t) ≡ t.len
 length_is [] t among same = absurd (not_in_none t among)
 length_is (u ∷ us) t among same = elim (cases_Bool (same_slot (name_of u) (name_of t))) [
   | inl y ↦ rw y (same u (first_in u us) (same_slot_eq (name_of u) (name_of t) y))
@@ -51,19 +52,23 @@ length_is (u ∷ us) t among same = elim (cases_Bool (same_slot (name_of u) (nam
 ]
 
 -- a journal's titles are those that it makes
-pub made_listed : (pools : List PoolEntry) (journal : List RootEntry) (t : Title) → IsMadeBy pools journal t → Contains (titles_by pools journal) t
+pub made_listed : (pools : List PoolEntry) (journal : List RootEntry) (t : Title) → IsMadeBy pools journal t →
+    Contains (titles_by pools journal) t
 made_listed pools journal t (inl (s, among, number, below, is)) =
     let spans = (root_replayed pools journal new_root).spans in
     Contains-append_left (flat_map slots_cut spans) (flat_map (λ (e : RootEntry). maps_by e.act) journal) t
     (flat_in slots_cut spans s t among
-    (subst (λ u. Contains (slots_cut s) u) (sym is) (map_in (title_at s) (numbers 0 s.made) number (numbers_has 0 s.made number (omega arith) (omega arith)))))
+    (subst (λ u. Contains (slots_cut s) u) (sym is)
+    (map_in (title_at s) (numbers 0 s.made) number (numbers_has 0 s.made number (omega arith) (omega arith)))))
 made_listed pools journal t (inr (e, asked, len, slot, among, act, is)) =
     let spans = (root_replayed pools journal new_root).spans in
     Contains-append_right (flat_map slots_cut spans) (flat_map (λ (f : RootEntry). maps_by f.act) journal) t
     (flat_in (λ (f : RootEntry). maps_by f.act) journal e t among
-    (subst (λ a. Contains (maps_by a) t) (sym act) (subst (λ u. Contains (map_title slot len ∷ []) u) (sym is) (first_in (map_title slot len) []))))
+    (subst (λ a. Contains (maps_by a) t) (sym act)
+    (subst (λ u. Contains (map_title slot len ∷ []) u) (sym is) (first_in (map_title slot len) []))))
 
-map_listed : (act : RootAct) (t : Title) → Contains (maps_by act) t → (asked len : ℕ) × (slot : SlotName) × (act ≡ Map asked slot len) × (t ≡ map_title slot len)
+map_listed : (act : RootAct) (t : Title) → Contains (maps_by act) t → (asked len : ℕ) × (slot : SlotName) × (act ≡ Map asked slot len) ×
+    (t ≡ map_title slot len)
 map_listed (Fill class asked slots) t among = absurd (not_in_none t among)
 map_listed (Map asked slot len) t among = elim (in_cases (map_title slot len) t [] among) [
   | inl e ↦ (asked, len, slot, refl, sym e)
@@ -74,7 +79,8 @@ map_listed (Give slots) t among = absurd (not_in_none t among)
 map_listed (Unmap asked slot) t among = absurd (not_in_none t among)
 map_listed Purge t among = absurd (not_in_none t among)
 
-pub listed_made : (pools : List PoolEntry) (journal : List RootEntry) (t : Title) → Contains (titles_by pools journal) t → IsMadeBy pools journal t
+pub listed_made : (pools : List PoolEntry) (journal : List RootEntry) (t : Title) → Contains (titles_by pools journal) t →
+    IsMadeBy pools journal t
 listed_made pools journal t among =
     let spans = (root_replayed pools journal new_root).spans in
     elim (Contains-append_cases (flat_map slots_cut spans) (flat_map (λ (e : RootEntry). maps_by e.act) journal) t among) [
@@ -93,7 +99,8 @@ module _ (pools : List PoolEntry) (roots : Journals) where
   all_listed : (n p : ℕ) (t : Title) → p < n → IsMadeBy pools (roots p) t → Contains (titles_of pools roots n) t
   all_listed zero p t below made = absurd (omega arith)
   all_listed (suc n) p t below made = elim (cases_eq p n) [
-    | inl same ↦ Contains-append_left (titles_by pools (roots n)) (titles_of pools roots n) t (subst (λ q. Contains (titles_by pools (roots q)) t) same (made_listed pools (roots p) t made))
+    | inl same ↦ Contains-append_left (titles_by pools (roots n)) (titles_of pools roots n) t
+        (subst (λ q. Contains (titles_by pools (roots q)) t) same (made_listed pools (roots p) t made))
     | inr other ↦ Contains-append_right (titles_by pools (roots n)) (titles_of pools roots n) t (all_listed n p t (omega arith) made)
   ]
 
@@ -111,13 +118,16 @@ record IsGoing (n : ℕ) (r : Root) : Type 0 where
   born : IsBornBelow n r
 
 -- the direct maps after an entry: those before, and the one that it makes
-next_maps : (pools : List PoolEntry) (act : RootAct) (n : ℕ) (r : Root) → IsGoing n r → AsksFrom n (asked_by act) → RootActFits pools act r →
+next_maps : (pools : List PoolEntry) (act : RootAct) (n : ℕ) (r : Root) → IsGoing n r → AsksFrom n (asked_by act) →
+    RootActFits pools act r →
     (t : Title) → Contains (root_next pools act r).maps t → Contains r.maps t ⊎ Contains (maps_by act) t
 next_maps pools (Fill class None slots) n r good asks fits t among =
     inl (subst (λ ts. Contains ts t) (takes_filled class (fill_of class) r good.sound fits.0).maps among)
 next_maps pools (Fill class (Some j) slots) n r good asks fits t among =
     let number = super_of (act_at pools j) in
-    inl (subst (λ ts. Contains ts t) (takes_filled class (fill_of class) (opened number j r) (opened_sound number j r good.sound (born_more n j r asks good.born)) fits.0).maps among)
+    inl (subst (λ ts. Contains ts t)
+    (takes_filled class (fill_of class) (opened number j r)
+    (opened_sound number j r good.sound (born_more n j r asks good.born)) fits.0).maps among)
 next_maps pools (Map asked slot len) n r good asks fits t among = elim (Contains-push_cases r.maps (map_title slot len) t among) [
   | inl old ↦ inl old
   | inr e ↦ inr (subst (λ u. Contains (map_title slot len ∷ []) u) e (first_in (map_title slot len) []))
@@ -129,13 +139,16 @@ next_maps pools (Unmap asked slot) n r good asks fits t among = inl (without_map
 next_maps pools Purge n r good asks fits t among = inl (subst (λ ts. Contains ts t) (times_is (empties r) r good.sound).kept.maps among)
 
 -- the direct maps of a journal were made by it
-all_maps : (pools : List PoolEntry) (es : List RootEntry) (n : ℕ) (r : Root) → IsGoing n r → RootReplays pools es r → RiseFrom n (all_asked es) →
-    (t : Title) → Contains (root_replayed pools es r).maps t → Contains r.maps t ⊎ Contains (flat_map (λ (e : RootEntry). maps_by e.act) es) t
+all_maps : (pools : List PoolEntry) (es : List RootEntry) (n : ℕ) (r : Root) → IsGoing n r → RootReplays pools es r →
+    RiseFrom n (all_asked es) →
+    (t : Title) → Contains (root_replayed pools es r).maps t → Contains r.maps t ⊎
+    Contains (flat_map (λ (e : RootEntry). maps_by e.act) es) t
 all_maps pools [] n r good replays rise t among = inl among
 all_maps pools (e ∷ es) n r good replays rise t among =
     let (asks, more) = rise_parts n (asked_by e.act) (all_asked es) rise in
     let next = next_is pools e.act n r good.sound good.settled good.born asks replays.0 in
-    let then : IsGoing (least_after n (asked_by e.act)) (root_next pools e.act r) = record { sound = next.sound; settled = next.settled; born = next.born } in
+    let then : IsGoing (least_after n (asked_by e.act)) (root_next pools e.act r) =
+    record { sound = next.sound; settled = next.settled; born = next.born } in
     elim (all_maps pools es (least_after n (asked_by e.act)) (root_next pools e.act r) then replays.1 more t among) [
       | inl before ↦ elim (next_maps pools e.act n r good asks replays.0 t before) [
         | inl old ↦ inl old
@@ -145,24 +158,30 @@ all_maps pools (e ∷ es) n r good replays rise t among =
     ]
 
 -- a title that exists was made
-pub stands_made : (pools : List PoolEntry) (journal : List RootEntry) (t : Title) → IsJournal pools journal → IsStanding pools journal t → IsMadeBy pools journal t
+pub stands_made : (pools : List PoolEntry) (journal : List RootEntry) (t : Title) → IsJournal pools journal → IsStanding pools journal t →
+    IsMadeBy pools journal t
 stands_made pools journal t j (inl slot) = inl slot
 stands_made pools journal t j (inr mapped) =
-    elim (all_maps pools journal 0 new_root (record { sound = new_sound; settled = omega arith; born = new_born }) j.replays j.rise t mapped) [
+    elim (all_maps pools journal 0 new_root
+    (record { sound = new_sound; settled = omega arith; born = new_born }) j.replays j.rise t mapped) [
       | inl none ↦ absurd (not_in_none t none)
       | inr there ↦
           listed_made pools journal t
-          (Contains-append_right (flat_map slots_cut (root_replayed pools journal new_root).spans) (flat_map (λ (e : RootEntry). maps_by e.act) journal) t there)
+          (Contains-append_right (flat_map slots_cut (root_replayed pools journal new_root).spans)
+          (flat_map (λ (e : RootEntry). maps_by e.act) journal) t there)
     ]
 
 -- a direct map that an entry gives back was made by the journal
-map_here : (pools : List PoolEntry) (es : List RootEntry) (n : ℕ) (r : Root) (e : RootEntry) (asked : ℕ) (slot : Numbered) → IsGoing n r → RootReplays pools es r → RiseFrom n (all_asked es) →
-    Contains es e → e.act ≡ Unmap asked slot → (t : Title) × (Contains r.maps t ⊎ Contains (flat_map (λ (f : RootEntry). maps_by f.act) es) t) × (t.born ≡ slot.slot.born)
+map_here : (pools : List PoolEntry) (es : List RootEntry) (n : ℕ) (r : Root) (e : RootEntry) (asked : ℕ) (slot : Numbered) → IsGoing n r →
+    RootReplays pools es r → RiseFrom n (all_asked es) →
+    Contains es e → e.act ≡ Unmap asked slot → (t : Title) ×
+    (Contains r.maps t ⊎ Contains (flat_map (λ (f : RootEntry). maps_by f.act) es) t) × (t.born ≡ slot.slot.born)
 map_here pools [] n r e asked slot good replays rise among is = absurd (not_in_none e among)
 map_here pools (x ∷ xs) n r e asked slot good replays rise among is =
     let (asks, more) = rise_parts n (asked_by x.act) (all_asked xs) rise in
     let next = next_is pools x.act n r good.sound good.settled good.born asks replays.0 in
-    let then : IsGoing (least_after n (asked_by x.act)) (root_next pools x.act r) = record { sound = next.sound; settled = next.settled; born = next.born } in
+    let then : IsGoing (least_after n (asked_by x.act)) (root_next pools x.act r) =
+    record { sound = next.sound; settled = next.settled; born = next.born } in
     elim (in_cases x e xs among) [
       | inl same ↦
           let act : RootAct = Unmap asked slot in
@@ -170,7 +189,8 @@ map_here pools (x ∷ xs) n r e asked slot good replays rise among is =
           let (len, first, member, start, gave) = subst (λ a. RootActFits pools a r) named replays.0 in
           (map_title slot.slot len, inl member, refl)
       | inr later ↦
-          let (t, found, born) = map_here pools xs (least_after n (asked_by x.act)) (root_next pools x.act r) e asked slot then replays.1 more later is in (
+          let (t, found, born) = map_here pools xs (least_after n (asked_by x.act))
+          (root_next pools x.act r) e asked slot then replays.1 more later is in (
             t,
             elim found [
               | inl before ↦ elim (next_maps pools x.act n r good asks replays.0 t before) [
@@ -183,21 +203,25 @@ map_here pools (x ∷ xs) n r e asked slot good replays rise among is =
           )
     ]
 
-pub map_made : (pools : List PoolEntry) (journal : List RootEntry) (e : RootEntry) (asked : ℕ) (slot : Numbered) → IsJournal pools journal → Contains journal e → e.act ≡ Unmap asked slot →
+pub map_made : (pools : List PoolEntry) (journal : List RootEntry) (e : RootEntry) (asked : ℕ) (slot : Numbered) → IsJournal pools journal →
+    Contains journal e → e.act ≡ Unmap asked slot →
     (t : Title) × IsMadeBy pools journal t × (t.born ≡ slot.slot.born)
 map_made pools journal e asked slot j among is =
-    let (t, found, born) = map_here pools journal 0 new_root e asked slot (record { sound = new_sound; settled = omega arith; born = new_born }) j.replays j.rise among is in
+    let (t, found, born) = map_here pools journal 0 new_root e asked slot
+    (record { sound = new_sound; settled = omega arith; born = new_born }) j.replays j.rise among is in
     elim found [
       | inl none ↦ absurd (not_in_none t none)
       | inr there ↦ (
         t,
         listed_made pools journal t
-            (Contains-append_right (flat_map slots_cut (root_replayed pools journal new_root).spans) (flat_map (λ (f : RootEntry). maps_by f.act) journal) t there),
+            (Contains-append_right (flat_map slots_cut (root_replayed pools journal new_root).spans)
+            (flat_map (λ (f : RootEntry). maps_by f.act) journal) t there),
         born,
       )
     ]
 
-module _ (supers partitions : ℕ) (ps : List Played) (pools : List PoolEntry) (roots : Journals) (r : AreRoots partitions ps pools roots) (h : IsPoolOf supers ps pools roots) where
+module _ (supers partitions : ℕ) (ps : List Played) (pools : List PoolEntry) (roots : Journals) (r : AreRoots partitions ps pools roots)
+    (h : IsPoolOf supers ps pools roots) where
   -- a title that was made isn't empty
   map_some : (p asked len : ℕ) (s : SlotName) (x : Played) → MakesEntry pools p (Map asked s len) x → 1 ≤ len
   map_some p asked len s x (size, (reg, is, direct), same) = let large = direct.0 in omega arith
@@ -250,11 +274,13 @@ module _ (supers partitions : ℕ) (ps : List Played) (pools : List PoolEntry) (
 
   named : (p len : ℕ) (s : SlotName) → HasSize roots p s len → lengths_by partitions pools roots s ≡ len
   named p len s (inl (class, (e, asked, slots, among, is, member), size)) =
-      let (t, by, name, sized) = title_of pools (roots p) e s (r.journals p) among (subst (λ act. Contains (leaves_by act) s) (sym is) member) in
+      let (t, by, name, sized) =
+      title_of pools (roots p) e s (r.journals p) among (subst (λ act. Contains (leaves_by act) s) (sym is) member) in
       let (real, long) = subst (λ act. HasLen act t) is sized in
       ap (λ n. lengths_by partitions pools roots n) (sym name) ∙ (made p t by ∙ (long ∙ sym size))
   named p len s (inr (e, asked, among, is)) =
-      let (t, by, name, sized) = title_of pools (roots p) e s (r.journals p) among (subst (λ act. Contains (leaves_by act) s) (sym is) (first_in s [])) in
+      let (t, by, name, sized) =
+      title_of pools (roots p) e s (r.journals p) among (subst (λ act. Contains (leaves_by act) s) (sym is) (first_in s [])) in
       let long : t.len ≡ len = subst (λ act. HasLen act t) is sized in
       ap (λ n. lengths_by partitions pools roots n) (sym name) ∙ (made p t by ∙ long)
 

@@ -32,12 +32,20 @@ module _ (ps : List Played) (s : SlotName) (history : List Done) (steps : AreSte
   first_word : word_at_number 0 history ≡ 0
   first_word = ap reached (up_to_none history)
 
-  first_step : (k : ℕ) (x : Played) (d : StepMade) → IsStepAt ps s history k x d → IsFirstAt (marks_of ps) s (word_at_number k history) (mark_made x.line d) d.step
-  first_step k x d at = subst (λ w. IsFirstAt (marks_of ps) s w (mark_made x.line d) d.step) at.found (first_made ps s history steps x d at.among at.is at.slot)
+  first_step : (k : ℕ) (x : Played) (d : StepMade) → IsStepAt ps s history k x d →
+      IsFirstAt (marks_of ps) s (word_at_number k history) (mark_made x.line d) d.step
+  first_step k x d at = subst (λ w. IsFirstAt (marks_of ps) s w (mark_made x.line d) d.step) at.found
+      (first_made ps s history steps x d at.among at.is at.slot)
 
   path : (k : ℕ) → k ≤ length history → (vs : List ℕ) × HasWords ps s history k vs
-  path zero within =
-      ([], (sym first_word, λ j low. let e : j ≡ 0 = omega arith in (0, omega arith, sym (ap (λ i. word_at_number i history) e ∙ first_word))))
+  path zero within = (
+    [],
+    (
+      sym first_word,
+      λ j low. let e : j ≡ 0 = omega arith in
+          (0, omega arith, sym (ap (λ i. word_at_number i history) e ∙ first_word)),
+    ),
+  )
   path (suc k) within =
       let (vs, words) = path k (omega arith) in
       let (x, d, at) = step_at ps s history steps k (omega arith) in
@@ -59,14 +67,16 @@ module _ (ps : List Played) (s : SlotName) (history : List Done) (steps : AreSte
       )
 
   -- no step was made at the last word
-  ends : (m : Mark) (p : Step) → IsFirstAt (marks_of ps) s (word_at_number (length history) history) m p → CanStep p (word_at_number (length history) history) → ⊥
+  ends : (m : Mark) (p : Step) → IsFirstAt (marks_of ps) s (word_at_number (length history) history) m p →
+      CanStep p (word_at_number (length history) history) → ⊥
   ends m p first can =
       let (y, member, marked) = mark_from ps m first.among in
       let (e, made, same) = mark_step y.line y.op y.answer m p marked first.step in
       let at = steps.stand y e member made (sym (ap (λ (z : Mark). z.slot) same) ∙ first.slot) in
       let below = at.below in
       let last = number_at ps s history steps (length history) (omega arith) in
-      let n : number_of e.found ≡ number_of (word_at_number (length history) history) = ap number_of (sym (ap (λ (z : Mark). z.found) same) ∙ first.found) in
+      let n : number_of e.found ≡ number_of (word_at_number (length history) history) =
+      ap number_of (sym (ap (λ (z : Mark). z.found) same) ∙ first.found) in
       absurd (omega arith)
 
   one_run : (vs : List ℕ) → HasWords ps s history (length history) vs → IsOneRun (marks_of ps) s (0 ∷ vs)
@@ -96,5 +106,8 @@ last_is ps s history steps =
 
 pub slots_follow : SlotsFollow
 slots_follow ps history steps s =
-    let (vs, words) = path ps s (history s) (steps s) (length (history s)) (omega arith) in
-    (vs, run_of_path (marks_of ps) s 0 vs (word_at_number (length (history s)) (history s)) (ends ps s (history s) (steps s)) words.0, one_run ps s (history s) (steps s) vs words)
+    let (vs, words) = path ps s (history s) (steps s) (length (history s)) (omega arith) in (
+      vs,
+      run_of_path (marks_of ps) s 0 vs (word_at_number (length (history s)) (history s)) (ends ps s (history s) (steps s)) words.0,
+      one_run ps s (history s) (steps s) vs words,
+    )

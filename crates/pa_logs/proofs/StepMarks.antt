@@ -22,11 +22,13 @@ abbrev made_of : Step → ℕ → Seen → StepMade
 made_of step value seen = record { slot = seen.slot; step = step; found = seen.found.0; value = value }
 
 -- a step has its mark
-done_mark : (line value : ℕ) (seen : Seen) (o : Option Step) (d : StepMade) → done_step o value seen ≡ Some d → Some (mark_at line seen o) ≡ Some (mark_made line d)
+done_mark : (line value : ℕ) (seen : Seen) (o : Option Step) (d : StepMade) → done_step o value seen ≡ Some d →
+    Some (mark_at line seen o) ≡ Some (mark_made line d)
 done_mark line value seen None d e = absurd (not_some d e)
 done_mark line value seen (Some p) d e = ap (λ (x : StepMade). Some (mark_made line x)) (of_some (made_of p value seen) d e)
 
-pub step_mark : (line : ℕ) (op : Op) (a : Answer) (d : StepMade) → step_in op a ≡ Some d → mark_of_answer line op a ≡ Some (mark_made line d)
+pub step_mark : (line : ℕ) (op : Op) (a : Answer) (d : StepMade) → step_in op a ≡ Some d →
+    mark_of_answer line op a ≡ Some (mark_made line d)
 step_mark line op (answers.Made seen usable) d e = ap (λ (x : StepMade). Some (mark_made line x)) (of_some (made_of steps.Issue 0 seen) d e)
 step_mark line op (answers.Done seen) d e = done_mark line (value_by op) seen (step_of op) d e
 step_mark line op a d e = absurd (not_some d e)
@@ -35,15 +37,22 @@ step_mark line op a d e = absurd (not_some d e)
 abbrev IsMarkOf : ℕ → Op → Answer → Mark → Type 0
 IsMarkOf line op a m = (d : StepMade) × (step_in op a ≡ Some d) × (m ≡ mark_made line d)
 
-mark_done : (line : ℕ) (op : Op) (seen : Seen) (m : Mark) (p : Step) (o : Option Step) → step_of op ≡ o → Some (mark_at line seen (step_of op)) ≡ Some m → m.step ≡ Some p →
+mark_done : (line : ℕ) (op : Op) (seen : Seen) (m : Mark) (p : Step) (o : Option Step) → step_of op ≡ o →
+    Some (mark_at line seen (step_of op)) ≡ Some m → m.step ≡ Some p →
     IsMarkOf line op (answers.Done seen) m
 mark_done line op seen m p None e marked step =
     absurd (none_some p (sym e ∙ (ap (λ (x : Mark). x.step) (of_some (mark_at line seen (step_of op)) m marked) ∙ step)))
-mark_done line op seen m p (Some q) e marked step =
-    (made_of q (value_by op) seen, ap (λ o. done_step o (value_by op) seen) e, sym (of_some (mark_at line seen (step_of op)) m marked) ∙ ap (mark_at line seen) e)
+mark_done line op seen m p (Some q) e marked step = (
+  made_of q (value_by op) seen,
+  ap (λ o. done_step o (value_by op) seen) e,
+  sym (of_some (mark_at line seen (step_of op)) m marked) ∙
+      ap (mark_at line seen) e,
+)
 
-pub mark_step : (line : ℕ) (op : Op) (a : Answer) (m : Mark) (p : Step) → mark_of_answer line op a ≡ Some m → m.step ≡ Some p → IsMarkOf line op a m
-mark_step line op (answers.Made seen usable) m p marked step = (made_of steps.Issue 0 seen, refl, sym (of_some (mark_at line seen (Some steps.Issue)) m marked))
+pub mark_step : (line : ℕ) (op : Op) (a : Answer) (m : Mark) (p : Step) → mark_of_answer line op a ≡ Some m → m.step ≡ Some p →
+    IsMarkOf line op a m
+mark_step line op (answers.Made seen usable) m p marked step =
+    (made_of steps.Issue 0 seen, refl, sym (of_some (mark_at line seen (Some steps.Issue)) m marked))
 mark_step line op (answers.Done seen) m p marked step = mark_done line op seen m p (step_of op) refl marked step
 mark_step line op (answers.Value seen value) m p marked step = absurd (not_look line (Some seen) m p marked step)
 mark_step line op (answers.Dangling seen value) m p marked step = absurd (not_look line (Some seen) m p marked step)
@@ -66,11 +75,17 @@ done_op : (op : Op) (seen : Seen) (d : StepMade) → step_in op (answers.Done se
     (step_of op ≡ Some d.step) × (value_by op ≡ d.value) × (seen.slot ≡ d.slot) × (seen.found.0 ≡ d.found)
 done_op op seen d e = go (step_of op) refl
   where
-    go : (o : Option Step) → step_of op ≡ o → (step_of op ≡ Some d.step) × (value_by op ≡ d.value) × (seen.slot ≡ d.slot) × (seen.found.0 ≡ d.found)
+    go : (o : Option Step) → step_of op ≡ o → (step_of op ≡ Some d.step) × (value_by op ≡ d.value) × (seen.slot ≡ d.slot) ×
+        (seen.found.0 ≡ d.found)
     go None is = absurd (not_some d (ap (λ x. done_step x (value_by op) seen) (sym is) ∙ e))
     go (Some p) is =
-        let same : made_of p (value_by op) seen ≡ d = of_some (made_of p (value_by op) seen) d (ap (λ x. done_step x (value_by op) seen) (sym is) ∙ e) in
-        (is ∙ ap (λ (x : StepMade). Some x.step) same, ap (λ (x : StepMade). x.value) same, ap (λ (x : StepMade). x.slot) same, ap (λ (x : StepMade). x.found) same)
+        let same : made_of p (value_by op) seen ≡ d =
+        of_some (made_of p (value_by op) seen) d (ap (λ x. done_step x (value_by op) seen) (sym is) ∙ e) in (
+          is ∙ ap (λ (x : StepMade). Some x.step) same,
+          ap (λ (x : StepMade). x.value) same,
+          ap (λ (x : StepMade). x.slot) same,
+          ap (λ (x : StepMade). x.found) same,
+        )
 
 no_issue : (op : Op) (p : Step) → step_of op ≡ Some p → p ≡ steps.Issue → ⊥
 no_issue (ops.Alloc reg partition size) p e f = cc
@@ -85,7 +100,13 @@ no_issue ops.Purge p e f = cc
 pub issue_is : (op : Op) (a : Answer) (d : StepMade) → step_in op a ≡ Some d → d.step ≡ steps.Issue → IsIssued a d
 issue_is op (answers.Made seen usable) d e f =
     let same : made_of steps.Issue 0 seen ≡ d = of_some (made_of steps.Issue 0 seen) d e in
-    record { seen = seen; usable = usable; answer = refl; slot = ap (λ (x : StepMade). x.slot) same; found = ap (λ (x : StepMade). x.found) same }
+    record {
+      seen = seen;
+      usable = usable;
+      answer = refl;
+      slot = ap (λ (x : StepMade). x.slot) same;
+      found = ap (λ (x : StepMade). x.found) same;
+    }
 issue_is op (answers.Done seen) d e f = absurd (no_issue op d.step (done_op op seen d e).0 f)
 issue_is op a d e f = absurd (not_some d e)
 

@@ -58,14 +58,16 @@ module _ {A : Type 0} where
       ]
 
 -- an entry of a record's log segment is weighed
-pub told_in : (ts : List ToldRecord) (x : ToldRecord) (e : Entry) (weight : Entry → ℕ) → Contains ts x → Contains x.stretch e → weight e ≤ told_of ts weight
+pub told_in : (ts : List ToldRecord) (x : ToldRecord) (e : Entry) (weight : Entry → ℕ) → Contains ts x → Contains x.stretch e →
+    weight e ≤ told_of ts weight
 told_in ts x e weight among there =
     let a = sum_in weight x.stretch e there in
     let b = sum_in (λ (y : ToldRecord). sum_by weight y.stretch) ts x among in
     omega arith
 
 -- if the records' entries weigh something, one that weighs something is in a record's log segment
-pub told_some : (ts : List ToldRecord) (weight : Entry → ℕ) → 0 < told_of ts weight → (x : ToldRecord) × (e : Entry) × Contains ts x × Contains x.stretch e × (0 < weight e)
+pub told_some : (ts : List ToldRecord) (weight : Entry → ℕ) → 0 < told_of ts weight → (x : ToldRecord) × (e : Entry) × Contains ts x ×
+    Contains x.stretch e × (0 < weight e)
 told_some ts weight h =
     let (x, among, more) = sum_some (λ (y : ToldRecord). sum_by weight y.stretch) ts h in
     let (e, there, here) = sum_some weight x.stretch more in
@@ -109,7 +111,8 @@ title_same a b p q w u x z e = cc
 abbrev slot_name : Title → SlotName
 slot_name t = record { start = t.start; born = t.born }
 
-pub entry_slot : (sizes : SlotName → ℕ) (s r : SlotName) (p q : Step) (w u x z : ℕ) → Counted (title_of sizes s) p w x ≡ Counted (title_of sizes r) q u z → r ≡ s
+pub entry_slot : (sizes : SlotName → ℕ) (s r : SlotName) (p q : Step) (w u x z : ℕ) →
+    Counted (title_of sizes s) p w x ≡ Counted (title_of sizes r) q u z → r ≡ s
 entry_slot sizes s r p q w u x z e = ap slot_name (sym (title_same (title_of sizes s) (title_of sizes r) p q w u x z e))
 
 pub entry_step : (a b : Title) (p q : Step) (w u x z : ℕ) → Counted a p w x ≡ Counted b q u z → (q ≡ p) × (u ≡ w)

@@ -122,7 +122,8 @@ first_two k s ss zero (suc j) e f rest low at_i at_j =
     }
 first_two k s ss (suc i) (suc j) e f rest low at_i at_j = later_two s ss e f (rest i j (omega arith) at_i at_j)
 
-pub two_places : (k : ℕ) (swaps : List SwapMade) (i j : ℕ) (e f : CellEntry) → i < j → slice_get (cell_list k swaps) i ≡ Some e → slice_get (cell_list k swaps) j ≡ Some f → StandTwo swaps e f
+pub two_places : (k : ℕ) (swaps : List SwapMade) (i j : ℕ) (e f : CellEntry) → i < j → slice_get (cell_list k swaps) i ≡ Some e →
+    slice_get (cell_list k swaps) j ≡ Some f → StandTwo swaps e f
 two_places k [] i j e f less at_i at_j = absurd cc
 two_places k (s ∷ ss) i j e f less at_i at_j = elim (cases_Bool (is_of_cell k s)) [
   | inl y ↦ first_two k s ss i j e f (λ a b up at_a at_b. two_places k ss a b e f up at_a at_b) less (rw y at at_i) (rw y at at_j)
@@ -135,26 +136,30 @@ each_get P [] i m each at_i = absurd cc
 each_get P (n ∷ ns) zero m each at_i = subst P (of_some n m at_i) each.0
 each_get P (n ∷ ns) (suc i) m each at_i = each_get P ns i m each.1 at_i
 
-rises_at : (list : List Made) (i j : ℕ) (m n : Made) → Rises list → i < j → slice_get list i ≡ Some m → slice_get list j ≡ Some n → IsKnownTo n.seen m
+rises_at : (list : List Made) (i j : ℕ) (m n : Made) → Rises list → i < j → slice_get list i ≡ Some m → slice_get list j ≡ Some n →
+    IsKnownTo n.seen m
 rises_at [] i j m n rises less at_i at_j = absurd cc
 rises_at (h ∷ hs) i zero m n rises less at_i at_j = absurd (omega arith)
 rises_at (h ∷ hs) zero (suc j) m n rises less at_i at_j =
     subst (λ (z : Made). IsKnownTo n.seen z) (of_some h m at_i) (each_get (λ later. IsKnownTo later.seen h) hs j n rises.0 at_j)
 rises_at (h ∷ hs) (suc i) (suc j) m n rises less at_i at_j = rises_at hs i j m n rises.1 (omega arith) at_i at_j
 
-module _ (list : List Made) (cells : ℕ → List CellEntry) (swaps : List SwapMade) (ts : List ToldRecord) (are : AreSwapped list cells swaps ts) where
+module _ (list : List Made) (cells : ℕ → List CellEntry) (swaps : List SwapMade) (ts : List ToldRecord)
+    (are : AreSwapped list cells swaps ts) where
   pub apart : AllPairs Apart list
   apart = few_apart list (λ m among.
       let (x, there, thread, within) = lines_have_theirs.each 5 list ts m are.is among in
       let line = are.is.lines x m there within in
       let theirs = lines_have_theirs.theirs 5 list ts x are.is are.rising there in
       let few = are.one_each x there in
-      let same : length (filter (is_on (line_of m)) list) ≡ length (entered_in 5 x.stretch) = ap (λ n. length (entries_on n list)) line ∙ ap length theirs in
+      let same : length (filter (is_on (line_of m)) list) ≡ length (entered_in 5 x.stretch) = ap (λ n. length (entries_on n list)) line ∙
+      ap length theirs in
       omega arith)
 
   -- an exchange's entry in the list, and its place by its line
   made_at : (i : ℕ) (e : CellEntry) (s : SwapMade) → StandsAt swaps i e s → slice_get list i ≡ Some s.made
-  made_at i e s at_s = subst (λ ms. slice_get ms i ≡ Some s.made) (sym are.swaps_are.list_is) (at_map (λ (z : SwapMade). z.made) swaps i s at_s.at_i)
+  made_at i e s at_s = subst (λ ms. slice_get ms i ≡ Some s.made) (sym are.swaps_are.list_is)
+      (at_map (λ (z : SwapMade). z.made) swaps i s at_s.at_i)
 
   line_at : (i : ℕ) (e : CellEntry) (s : SwapMade) → StandsAt swaps i e s → line_of s.made ≡ e.line
   line_at i e s at_s = are.swaps_are.lines s (get_in swaps i s at_s.at_i) ∙ ap (λ (z : CellEntry). z.line) at_s.is
@@ -177,7 +182,8 @@ module _ (list : List Made) (cells : ℕ → List CellEntry) (swaps : List SwapM
       omega arith
 
   -- what an exchange hands on is what its entry carries
-  carried : (x : ToldRecord) (i : ℕ) (e : CellEntry) (s : SwapMade) (t : Title) → Contains ts x → StandsAt swaps i e s → e.line ≡ x.played.line → x.gives t ≡ seen_among t s.made.seen
+  carried : (x : ToldRecord) (i : ℕ) (e : CellEntry) (s : SwapMade) (t : Title) → Contains ts x → StandsAt swaps i e s →
+      e.line ≡ x.played.line → x.gives t ≡ seen_among t s.made.seen
   carried x i e s t among at_s same =
       let (z, there, thread, within) = lines_have_theirs.each 5 list ts s.made are.is (get_in list i s.made (made_at i e s at_s)) in
       let one : z ≡ x = one_record ts z x are.rising there among (sym (are.is.lines z s.made there within) ∙ (line_at i e s at_s ∙ same)) in
@@ -188,10 +194,12 @@ module _ (list : List Made) (cells : ℕ → List CellEntry) (swaps : List SwapM
       let two = handed_two k j e f at_j next in
       let a = carried x two.first e two.one t first two.here line in
       let b = carried y two.second f two.other t second two.there line' in
-      let c = rises_at list two.first two.second two.one.made two.other.made are.rises two.less (made_at two.first e two.one two.here) (made_at two.second f two.other two.there) t in
+      let c = rises_at list two.first two.second two.one.made two.other.made are.rises two.less (made_at two.first e two.one two.here)
+      (made_at two.second f two.other two.there) t in
       omega arith
 
-  threads : (x y : Played) → Contains (played_in ts) x → Contains (played_in ts) y → IsExchanged x → IsExchanged y → x.thread ≡ y.thread → x.line < y.line → place_of list x.line < place_of list y.line
+  threads : (x y : Played) → Contains (played_in ts) x → Contains (played_in ts) y → IsExchanged x → IsExchanged y → x.thread ≡ y.thread →
+      x.line < y.line → place_of list x.line < place_of list y.line
   threads x y first second is other thread less =
       let (u, among, p) = map_cases (λ (z : ToldRecord). z.played) ts x first in
       let (v, member, q) = map_cases (λ (z : ToldRecord). z.played) ts y second in
@@ -215,7 +223,8 @@ module _ (list : List Made) (cells : ℕ → List CellEntry) (swaps : List SwapM
       let e : x.played.phase ≡ y.played.phase = ap (λ (z : ToldRecord). z.played.phase) (one_record ts x y are.rising first second same) in
       absurd (omega arith)
 
-  pub order : (k i j : ℕ) (e f : CellEntry) (x y : ToldRecord) → IsExchange cells k i e → IsExchange cells k j f → Contains ts x → Contains ts y → x.played.line ≡ e.line → y.played.line ≡ f.line →
+  pub order : (k i j : ℕ) (e f : CellEntry) (x y : ToldRecord) → IsExchange cells k i e → IsExchange cells k j f → Contains ts x →
+      Contains ts y → x.played.line ≡ e.line → y.played.line ≡ f.line →
       StandsBefore x.played y.played → i < j
   order k i j e f x y at_i at_j first second line line' before = elim (cases_lt i j) [
     | inl less ↦ less
@@ -239,7 +248,9 @@ module _ (list : List Made) (cells : ℕ → List CellEntry) (swaps : List SwapM
 pub swaps_follow : SwapsFollow
 swaps_follow = record {
   handed = λ list cells swaps ts x y are h. handed list cells swaps ts are x y h;
-  threads = λ list cells swaps ts x y are first second is other thread less. threads list cells swaps ts are x y first second is other thread less;
+  threads = λ list cells swaps ts x y are first second is other thread less. threads list cells swaps ts are x y first second is other
+      thread less;
   hands = λ list cells swaps ts x y t are first second h. hands list cells swaps ts are x y t first second h;
-  order = λ list cells swaps ts k i j e f x y are at_i at_j first second line line' before. order list cells swaps ts are k i j e f x y at_i at_j first second line line' before;
+  order = λ list cells swaps ts k i j e f x y are at_i at_j first second line line' before. order list cells swaps ts are k i j e f x y at_i
+      at_j first second line line' before;
 }

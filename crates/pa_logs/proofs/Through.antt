@@ -39,10 +39,12 @@ module _ (version : ℕ) (sizes : SlotName → ℕ) (ps : List Played) (cells : 
   alloc_row Freed regs reg size a after h = h
   alloc_row Cleared regs reg size a after h = h
 
-  from_row : (s : SlotName) (regs : Regs) (place : ℕ) (a : Answer) (after : Regs) → usable_in ps s ≡ sizes s - 8 → ReadFromRow s (by_length version sizes cells) regs place a after →
+  from_row : (s : SlotName) (regs : Regs) (place : ℕ) (a : Answer) (after : Regs) → usable_in ps s ≡ sizes s - 8 →
+      ReadFromRow s (by_length version sizes cells) regs place a after →
       ReadFromRow s (by_records version ps cells) regs place a after
   from_row s regs place a after same (becomes, inl (past, is)) = (becomes, inl (subst (λ n. n ≤ 8 * place) (sym same) past, is))
-  from_row s regs place a after same (becomes, inr (inside, seen, value, slot, is)) = (becomes, inr (subst (λ n. 8 * place < n) (sym same) inside, seen, value, slot, is))
+  from_row s regs place a after same (becomes, inr (inside, seen, value, slot, is)) =
+      (becomes, inr (subst (λ n. 8 * place < n) (sym same) inside, seen, value, slot, is))
 
   read_row : (r : Reg) (regs : Regs) (place : ℕ) (a : Answer) (after : Regs)
       → ((s : SlotName) → HoldsHandle r s → usable_in ps s ≡ sizes s - 8) → ReadRow r (by_length version sizes cells) regs place a after →
@@ -53,7 +55,8 @@ module _ (version : ℕ) (sizes : SlotName → ℕ) (ps : List Played) (cells : 
   read_row Freed regs place a after same h = h
   read_row Cleared regs place a after same h = h
 
-  one_row : (op : Op) (x : ToldRecord) (regs : Regs) (a : Answer) (after : Regs) → ((s : SlotName) → 1 ≤ x.saw (title_of sizes s) → usable_in ps s ≡ sizes s - 8) →
+  one_row : (op : Op) (x : ToldRecord) (regs : Regs) (a : Answer) (after : Regs) →
+      ((s : SlotName) → 1 ≤ x.saw (title_of sizes s) → usable_in ps s ≡ sizes s - 8) →
       Row (by_length version sizes cells) op regs a after → ReadsIts sizes regs op x → Row (by_records version ps cells) op regs a after
   one_row (ops.Alloc reg partition size) x regs a after same h reads = alloc_row (regs reg) regs reg size a after h
   one_row (ops.Copy from to) x regs a after same h reads = h
@@ -64,7 +67,8 @@ module _ (version : ℕ) (sizes : SlotName → ℕ) (ps : List Played) (cells : 
   one_row (ops.Swap cell reg) x regs a after same h reads = h
   one_row ops.Purge x regs a after same h reads = h
 
-  pub rows_same : (regs : Regs) (xs : List ToldRecord) → ((x : ToldRecord) (s : SlotName) → Contains xs x → 1 ≤ x.saw (title_of sizes s) → usable_in ps s ≡ sizes s - 8) →
+  pub rows_same : (regs : Regs) (xs : List ToldRecord) →
+      ((x : ToldRecord) (s : SlotName) → Contains xs x → 1 ≤ x.saw (title_of sizes s) → usable_in ps s ≡ sizes s - 8) →
       HasToldRows sizes (by_length version sizes cells) regs xs → HasToldRows sizes (by_records version ps cells) regs xs
   rows_same regs [] same h = tt
   rows_same regs (x ∷ xs) same (next, row, reads, rest) = (
@@ -76,10 +80,12 @@ module _ (version : ℕ) (sizes : SlotName → ℕ) (ps : List Played) (cells : 
 
 -- ---- the threads' rows are those of the run
 
-own_told : (k : ℕ) (x : ToldRecord) (xs : List ToldRecord) → x.played.thread ≡ k → filter (is_of_thread k) (x ∷ xs) ≡ x ∷ filter (is_of_thread k) xs
+own_told : (k : ℕ) (x : ToldRecord) (xs : List ToldRecord) → x.played.thread ≡ k →
+    filter (is_of_thread k) (x ∷ xs) ≡ x ∷ filter (is_of_thread k) xs
 own_told k x xs e = rw (eq-eqb x.played.thread k e) refl
 
-other_told : (k : ℕ) (x : ToldRecord) (xs : List ToldRecord) → (x.played.thread ≡ k → ⊥) → filter (is_of_thread k) (x ∷ xs) ≡ filter (is_of_thread k) xs
+other_told : (k : ℕ) (x : ToldRecord) (xs : List ToldRecord) → (x.played.thread ≡ k → ⊥) →
+    filter (is_of_thread k) (x ∷ xs) ≡ filter (is_of_thread k) xs
 other_told k x xs e = rw (ne_eqb x.played.thread k e) refl
 
 -- the registers just before a record, and what its row and its read say of them
@@ -95,25 +101,32 @@ pub record StandsAfter (sizes : SlotName → ℕ) (facts : Facts) (all : AllRegs
 
 module _ (sizes : SlotName → ℕ) (facts : Facts) where
   -- one record less
-  go_on : (all : AllRegs) (x : ToldRecord) (xs : List ToldRecord) (next : Regs) → ((k : ℕ) → HasToldRows sizes facts (all k) (filter (is_of_thread k) (x ∷ xs))) →
-      HasToldRows sizes facts next (filter (is_of_thread x.played.thread) xs) → (k : ℕ) → HasToldRows sizes facts (with_thread all x.played.thread next k) (filter (is_of_thread k) xs)
+  go_on : (all : AllRegs) (x : ToldRecord) (xs : List ToldRecord) (next : Regs) →
+      ((k : ℕ) → HasToldRows sizes facts (all k) (filter (is_of_thread k) (x ∷ xs))) →
+      HasToldRows sizes facts next (filter (is_of_thread x.played.thread) xs) → (k : ℕ) →
+      HasToldRows sizes facts (with_thread all x.played.thread next k) (filter (is_of_thread k) xs)
   go_on all x xs next each rest k = elim (cases_eq k x.played.thread) [
     | inl e ↦ rw (eq-eqb k x.played.thread e) (subst (λ n. HasToldRows sizes facts next (filter (is_of_thread n) xs)) (sym e) rest)
-    | inr ne ↦ rw (ne_eqb k x.played.thread ne) (subst (λ ys. HasToldRows sizes facts (all k) ys) (other_told k x xs (λ e. ne (sym e))) (each k))
+    | inr ne ↦ rw (ne_eqb k x.played.thread ne)
+        (subst (λ ys. HasToldRows sizes facts (all k) ys) (other_told k x xs (λ e. ne (sym e))) (each k))
   ]
 
-  pub merged : (all : AllRegs) (ts : List ToldRecord) → ((k : ℕ) → HasToldRows sizes facts (all k) (filter (is_of_thread k) ts)) → (after : AllRegs) × RowsTo facts all (played_in ts) after
+  pub merged : (all : AllRegs) (ts : List ToldRecord) → ((k : ℕ) → HasToldRows sizes facts (all k) (filter (is_of_thread k) ts)) →
+      (after : AllRegs) × RowsTo facts all (played_in ts) after
   merged all [] each = (all, refl)
   merged all (x ∷ xs) each =
-      let (next, row, reads, rest) = subst (λ ys. HasToldRows sizes facts (all x.played.thread) ys) (own_told x.played.thread x xs refl) (each x.played.thread) in
+      let (next, row, reads, rest) =
+      subst (λ ys. HasToldRows sizes facts (all x.played.thread) ys) (own_told x.played.thread x xs refl) (each x.played.thread) in
       let (after, rows) = merged (with_thread all x.played.thread next) xs (go_on all x xs next each rest) in
       (after, (next, row, rows))
 
-  pub stands_at : (all : AllRegs) (ts : List ToldRecord) (x : ToldRecord) → ((k : ℕ) → HasToldRows sizes facts (all k) (filter (is_of_thread k) ts)) → Contains ts x →
+  pub stands_at : (all : AllRegs) (ts : List ToldRecord) (x : ToldRecord) →
+      ((k : ℕ) → HasToldRows sizes facts (all k) (filter (is_of_thread k) ts)) → Contains ts x →
       StandsAfter sizes facts all (played_in ts) x
   stands_at all [] x each among = absurd (not_in_none x among)
   stands_at all (y ∷ ys) x each among =
-      let (next, row, reads, rest) = subst (λ zs. HasToldRows sizes facts (all y.played.thread) zs) (own_told y.played.thread y ys refl) (each y.played.thread) in
+      let (next, row, reads, rest) =
+      subst (λ zs. HasToldRows sizes facts (all y.played.thread) zs) (own_told y.played.thread y ys refl) (each y.played.thread) in
       elim (in_cases y x ys among) [
         | inl e ↦ subst (λ (z : ToldRecord). StandsAfter sizes facts all (played_in (y ∷ ys)) z) e
             (record { before = []; after = played_in ys; regs = all; next = next; parts = refl; rows = refl; row = row; reads = reads })
@@ -137,28 +150,37 @@ value_is : (a b : Seen) (v w : ℕ) → answers.Value a v ≡ answers.Value b w 
 value_is a b v w e = cc
 
 -- the read of a log segment through an Own is an owner's
-owned_read : (sizes : SlotName → ℕ) (s : SlotName) (seen : Seen) (place value : ℕ) (owned : Bool) (x : ToldRecord) (r : Reg) → IsReadThrough sizes r x → r ≡ Own s →
-    IsReadTold (title_of sizes seen.slot) place seen.found.0 value owned x.stretch → IsReadTold (title_of sizes seen.slot) place seen.found.0 value true x.stretch
+owned_read : (sizes : SlotName → ℕ) (s : SlotName) (seen : Seen) (place value : ℕ) (owned : Bool) (x : ToldRecord) (r : Reg) →
+    IsReadThrough sizes r x → r ≡ Own s →
+    IsReadTold (title_of sizes seen.slot) place seen.found.0 value owned x.stretch →
+    IsReadTold (title_of sizes seen.slot) place seen.found.0 value true x.stretch
 owned_read sizes s seen place value owned x r reads own told =
     let t = title_of sizes seen.slot in
     let looked : Entry = Looked t seen.found.0 in
     let read : Entry = Read t place value told.since owned told.unclean in
-    let there : Contains x.stretch read = subst (λ es. Contains es read) (sym told.pair) (later_in looked read (read ∷ told.rest) (first_in read told.rest)) in
-    subst (λ b. IsReadTold t place seen.found.0 value b x.stretch) (reads.owned s t place value told.since owned told.unclean own there) told
+    let there : Contains x.stretch read =
+    subst (λ es. Contains es read) (sym told.pair) (later_in looked read (read ∷ told.rest) (first_in read told.rest)) in
+    subst (λ b. IsReadTold t place seen.found.0 value b x.stretch)
+    (reads.owned s t place value told.since owned told.unclean own there) told
 
-through : (sizes : SlotName → ℕ) (facts : Facts) (r : Reg) (regs after : Regs) (seen : Seen) (place value : ℕ) (owned : Bool) (x : ToldRecord) → IsReadThrough sizes r x →
-    ReadRow r facts regs place (answers.Value seen value) after → IsReadTold (title_of sizes seen.slot) place seen.found.0 value owned x.stretch → ReadsThrough sizes r seen place value x
+through : (sizes : SlotName → ℕ) (facts : Facts) (r : Reg) (regs after : Regs) (seen : Seen) (place value : ℕ) (owned : Bool)
+    (x : ToldRecord) → IsReadThrough sizes r x →
+    ReadRow r facts regs place (answers.Value seen value) after →
+    IsReadTold (title_of sizes seen.slot) place seen.found.0 value owned x.stretch → ReadsThrough sizes r seen place value x
 through sizes facts Empty regs after seen place value owned x reads row told = absurd cc
-through sizes facts (Own s) regs after seen place value owned x reads row told = owned_read sizes s seen place value owned x (Own s) reads refl told
+through sizes facts (Own s) regs after seen place value owned x reads row told =
+    owned_read sizes s seen place value owned x (Own s) reads refl told
 through sizes facts (Ref s) regs after seen place value owned x reads (becomes, inl (past, is)) told = absurd cc
 through sizes facts (Ref s) regs after seen place value owned x reads (becomes, inr (inside, other, given, slot, inl (held, is))) told =
     (sym slot ∙ ap (λ (z : Seen). z.slot) (sym (value_is seen other value given is)), owned, told)
-through sizes facts (Ref s) regs after seen place value owned x reads (becomes, inr (inside, other, given, slot, inr (freed, is))) told = absurd cc
+through sizes facts (Ref s) regs after seen place value owned x reads (becomes, inr (inside, other, given, slot, inr (freed, is))) told =
+    absurd cc
 through sizes facts Freed regs after seen place value owned x reads row told = absurd cc
 through sizes facts Cleared regs after seen place value owned x reads row told = absurd cc
 
 pub have_readers : (version : ℕ) (sizes : SlotName → ℕ) (cells : ℕ → List CellEntry) (ts : List ToldRecord) → AreTold sizes ts →
-    ((k : ℕ) → HasToldRows sizes (by_records version (played_in ts) cells) (no_regs k) (filter (is_of_thread k) ts)) → HaveReaders version sizes cells ts
+    ((k : ℕ) → HasToldRows sizes (by_records version (played_in ts) cells) (no_regs k) (filter (is_of_thread k) ts)) →
+    HaveReaders version sizes cells ts
 have_readers version sizes cells ts told each x seen value among answer =
     let facts = by_records version (played_in ts) cells in
     let at = stands_at sizes facts no_regs ts x each among in
@@ -167,5 +189,11 @@ have_readers version sizes cells ts told each x seen value among answer =
     let row : ReadRow (regs reg) facts regs place (answers.Value seen value) at.next = subst
     (λ o. Row facts o regs (answers.Value seen value) at.next) op
     (subst (λ a. Row facts x.played.op regs a at.next) answer at.row) in
-    let reads : IsReadThrough sizes (regs reg) x = subst (λ o. ReadsIts sizes regs o x) op at.reads in
-    (reg, place, regs, op, (at.before, at.after, at.regs, at.parts, at.rows, refl), through sizes facts (regs reg) regs at.next seen place value owned x reads row read)
+    let reads : IsReadThrough sizes (regs reg) x = subst (λ o. ReadsIts sizes regs o x) op at.reads in (
+      reg,
+      place,
+      regs,
+      op,
+      (at.before, at.after, at.regs, at.parts, at.rows, refl),
+      through sizes facts (regs reg) regs at.next seen place value owned x reads row read,
+    )

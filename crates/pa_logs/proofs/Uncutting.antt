@@ -38,15 +38,18 @@ use Rattle.pa_logs.proofs.Sizing.{map_made, stands_made}
 use Rattle.pa_logs.proofs.Sums.{told_some}
 
 -- a title of an entry of the pool that is gone doesn't come back
-gone_rest : (pools : List PoolEntry) (es : List RootEntry) (b n : ℕ) (r : Root) → IsGood n r → RootReplays pools es r → RiseFrom n (all_asked es) → IsGone b n r →
+gone_rest : (pools : List PoolEntry) (es : List RootEntry) (b n : ℕ) (r : Root) → IsGood n r → RootReplays pools es r →
+    RiseFrom n (all_asked es) → IsGone b n r →
     (m : ℕ) × IsGone b m (root_replayed pools es r)
 gone_rest pools [] b n r good fits rise gone = (n, gone)
 gone_rest pools (e ∷ es) b n r good fits rise gone =
     let (asks, rest) = rise_parts n (asked_by e.act) (all_asked es) rise in
-    gone_rest pools es b (least_after n (asked_by e.act)) (root_next pools e.act r) (good_next pools e.act b n r good asks fits.0) fits.1 rest (gone_next pools e.act b n r good asks fits.0 gone)
+    gone_rest pools es b (least_after n (asked_by e.act)) (root_next pools e.act r)
+    (good_next pools e.act b n r good asks fits.0) fits.1 rest (gone_next pools e.act b n r good asks fits.0 gone)
 
 -- a direct map that an entry gives back is gone at the end
-gone_end : (pools : List PoolEntry) (es : List RootEntry) (n : ℕ) (r : Root) (e : RootEntry) (asked : ℕ) (slot : Numbered) → IsGood n r → RootReplays pools es r → RiseFrom n (all_asked es) →
+gone_end : (pools : List PoolEntry) (es : List RootEntry) (n : ℕ) (r : Root) (e : RootEntry) (asked : ℕ) (slot : Numbered) → IsGood n r →
+    RootReplays pools es r → RiseFrom n (all_asked es) →
     Contains es e → e.act ≡ Unmap asked slot → (m : ℕ) × IsGone slot.slot.born m (root_replayed pools es r)
 gone_end pools [] n r e asked slot good fits rise among is = absurd (not_in_none e among)
 gone_end pools (x ∷ xs) n r e asked slot good fits rise among is =
@@ -59,11 +62,13 @@ gone_end pools (x ∷ xs) n r e asked slot good fits rise among is =
           let here = subst (λ a. RootActFits pools a r) named fits.0 in
           let gone = unmap_gone pools asked n slot r good low here in
           let then = good_next pools act 0 n r good low here in
-          let (m, end) = gone_rest pools xs slot.slot.born (asked + 1) (root_next pools act r) then (subst (λ a. RootReplays pools xs (root_next pools a r)) named fits.1)
+          let (m, end) = gone_rest pools xs slot.slot.born (asked + 1)
+          (root_next pools act r) then (subst (λ a. RootReplays pools xs (root_next pools a r)) named fits.1)
           (subst (λ a. RiseFrom (least_after n (asked_by a)) (all_asked xs)) named rest) gone in
           (m, subst (λ a. IsGone slot.slot.born m (root_replayed pools xs (root_next pools a r))) (sym named) end)
       | inr later ↦
-          gone_end pools xs (least_after n (asked_by x.act)) (root_next pools x.act r) e asked slot (good_next pools x.act 0 n r good asks fits.0) fits.1 rest later is
+          gone_end pools xs (least_after n (asked_by x.act)) (root_next pools x.act r) e asked slot
+          (good_next pools x.act 0 n r good asks fits.0) fits.1 rest later is
     ]
 
 -- what is gone doesn't exist
@@ -83,7 +88,8 @@ uncut_is t (Entered keeper made) some_entry = absurd (omega arith)
 uncut_is t (Uncut u) some_entry = elim (title_one u t) [ inl y ↦ ap Uncut y.1 | inr n ↦ let none = n.0 in absurd (omega arith) ]
 
 module _ (supers partitions p : ℕ) (lists : ℕ → List Made) (pools : List PoolEntry) (roots : Journals) (ts : List ToldRecord) (t : Title)
-    (are : AreLists lists pools roots ts) (r : AreRoots partitions (played_in ts) pools roots) (h : IsPoolOf supers (played_in ts) pools roots)
+    (are : AreLists lists pools roots ts) (r : AreRoots partitions (played_in ts) pools roots)
+    (h : IsPoolOf supers (played_in ts) pools roots)
     (only : OnlyUnmapsUncut ts) (stands : IsStanding pools (roots p) t) where
   -- the entry is one of its partition's journal
   in_journal : (x : ToldRecord) → Contains ts x → (u : Unmaps x t) → Contains (roots u.partition) u.entry
@@ -109,8 +115,10 @@ module _ (supers partitions p : ℕ) (lists : ℕ → List Made) (pools : List P
       let born : t.born ≡ u.slot.slot.born = ap (λ (s : SlotName). s.born) (sym u.names) in
       let made = stands_made pools (roots p) t (r.journals p) stands in
       let (w, mapped, other_born) = map_made pools (roots q) u.entry u.asked u.slot j inside u.act in
-      let same : p ≡ q = (titles_follow.titles supers partitions (played_in ts) pools roots r h).owned p q t w made mapped (born ∙ sym other_born) in
-      not_standing pools (roots q) t u.slot.slot.born m (journal_leaves pools (roots q) j).sound gone (subst (λ k. IsStanding pools (roots k) t) same stands) born
+      let same : p ≡ q = (titles_follow.titles supers partitions (played_in ts) pools roots r h).owned p q t w made mapped
+      (born ∙ sym other_born) in
+      not_standing pools (roots q) t u.slot.slot.born m (journal_leaves pools (roots q) j).sound gone
+      (subst (λ k. IsStanding pools (roots k) t) same stands) born
 
 pub stands_uncut : StandsUncut
 stands_uncut supers partitions p lists pools roots ts v t are r h logs only stands =
@@ -118,6 +126,7 @@ stands_uncut supers partitions p lists pools roots ts v t are r h logs only stan
       | inl more ↦
           let told : uncut_of v t ≡ told_of ts (uncuts t) = logs_are_told v ts (uncuts t) logs in
           let (x, e, among, there, some_entry) = told_some ts (uncuts t) (omega arith) in
-          absurd (none supers partitions p lists pools roots ts t are r h only stands x among (subst (λ z. Contains x.stretch z) (uncut_is t e some_entry) there))
+          absurd (none supers partitions p lists pools roots ts t are r h only stands x among
+          (subst (λ z. Contains x.stretch z) (uncut_is t e some_entry) there))
       | inr few ↦ omega arith
     ]

@@ -36,7 +36,8 @@ made_here : (sizes : SlotName → ℕ) (s : SlotName) (op : Op) (a : Answer) (es
     usable_or (made_of a) s other + 8 ≡ sizes s
 made_here sizes s op a es other seen usable told e slot =
     let made = subst (λ b. IsToldBy sizes op b es) e told in
-    let same : usable_or (made_of a) s other ≡ usable = ap (λ b. usable_or (made_of b) s other) e ∙ rw (same_slot_yes seen.slot s slot) refl in
+    let same : usable_or (made_of a) s other ≡ usable = ap (λ b. usable_or (made_of b) s other) e ∙
+    rw (same_slot_yes seen.slot s slot) refl in
     let size : usable + 8 ≡ sizes s = made.1 ∙ ap sizes slot in
     omega arith
 
@@ -46,7 +47,8 @@ first_made : (sizes : SlotName → ℕ) (s : SlotName) (ts : List ToldRecord) (x
     usable_in (played_in ts) s + 8 ≡ sizes s
 first_made sizes s [] x seen usable told among e slot = absurd (not_in_none x among)
 first_made sizes s (y ∷ ys) x seen usable told among e slot = elim (in_cases y.played x (played_in ys) among) [
-  | inl same ↦ made_here sizes s y.played.op y.played.answer y.stretch (usable_in (played_in ys) s) seen usable (told y (first_in y ys)) (ap (λ (z : Played). z.answer) same ∙ e) slot
+  | inl same ↦ made_here sizes s y.played.op y.played.answer y.stretch (usable_in (played_in ys) s) seen usable (told y (first_in y ys))
+      (ap (λ (z : Played). z.answer) same ∙ e) slot
   | inr rest ↦
       let again = first_made sizes s ys x seen usable (λ z member. told z (later_in y z ys member)) rest e slot in
       elim (said sizes s y.played.op y.played.answer y.stretch (usable_in (played_in ys) s) (told y (first_in y ys))) [

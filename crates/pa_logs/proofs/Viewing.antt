@@ -48,7 +48,8 @@ module _ (cells : ℕ → List CellEntry) (place : ℕ → ℕ) (ps : List Playe
       (k, reg, ap (λ (z : Played). z.op) (sym (same_record ps p x order.lines of.0 among (of.1 ∙ line))) ∙ op)
 
   -- of one thread, an exchange that isn't on a later line isn't at a later place
-  in_thread : (a b : Played) → Contains ps a → Contains ps b → IsExchanged a → IsExchanged b → a.thread ≡ b.thread → a.line ≤ b.line → place a.line ≤ place b.line
+  in_thread : (a b : Played) → Contains ps a → Contains ps b → IsExchanged a → IsExchanged b → a.thread ≡ b.thread → a.line ≤ b.line →
+      place a.line ≤ place b.line
   in_thread a b first second is other thread low = elim (cases_lt a.line b.line) [
     | inl less ↦ let up = order.threads a b first second is other thread less in omega arith
     | inr more ↦ let same : a.line ≡ b.line = omega arith in let equal : place a.line ≡ place b.line = ap place same in omega arith
@@ -69,7 +70,8 @@ module _ (cells : ℕ → List CellEntry) (place : ℕ → ℕ) (ps : List Playe
       elim (cases_lt x.phase y.phase) [
         | inl up ↦ inl up
         | inr low ↦ elim (cases_lt y.phase x.phase) [
-          | inl down ↦ let back = order.cells_are.order k (j + 1) j f e y x next at (second, sym line') (first, sym line) (inr down) in absurd (omega arith)
+          | inl down ↦ let back = order.cells_are.order k (j + 1) j f e y x next at (second, sym line') (first, sym line) (inr down) in
+              absurd (omega arith)
           | inr same ↦ inr (
             omega arith,
             inr (record {
@@ -170,8 +172,10 @@ module _ (cells : ℕ → List CellEntry) (place : ℕ → ℕ) (ps : List Playe
       absurd (omega arith)
 
 -- what a record's mark says of what its seat had seen, and of what it hands on
-found_by : (sizes : SlotName → ℕ) (cells : ℕ → List CellEntry) (ts : List ToldRecord) (x : ToldRecord) (m : Mark) (o : Option Step) → AreTold sizes ts → AreViewed cells ts → Contains ts x →
-    mark_of x.played ≡ Some m → m.step ≡ o → (x.saw (title_of sizes m.slot) ≤ number_of m.found) × (left_number m ≤ x.gives (title_of sizes m.slot))
+found_by : (sizes : SlotName → ℕ) (cells : ℕ → List CellEntry) (ts : List ToldRecord) (x : ToldRecord) (m : Mark) (o : Option Step) →
+    AreTold sizes ts → AreViewed cells ts → Contains ts x →
+    mark_of x.played ≡ Some m → m.step ≡ o → (x.saw (title_of sizes m.slot) ≤ number_of m.found) ×
+    (left_number m ≤ x.gives (title_of sizes m.slot))
 found_by sizes cells ts x m None told viewed among is none =
     let look = ((tells_its_mark sizes x (told x among)).has_look m is none).0 in
     let seen = viewed.looks x (title_of sizes m.slot) m.found among look in
@@ -180,9 +184,11 @@ found_by sizes cells ts x m (Some p) told viewed among is step =
     let (d, made, same) = mark_step x.played.line x.played.op x.played.answer m p is step in
     let entry = (tells_its_mark sizes x (told x among)).has_step d made in
     let seen = viewed.steps x (title_of sizes d.slot) d.step d.found d.value among entry in
-    subst (λ (z : Mark). (x.saw (title_of sizes z.slot) ≤ number_of z.found) × (left_number z ≤ x.gives (title_of sizes z.slot))) (sym same) seen
+    subst (λ (z : Mark). (x.saw (title_of sizes z.slot) ≤ number_of z.found) × (left_number z ≤ x.gives (title_of sizes z.slot)))
+    (sym same) seen
 
-module _ (cells : ℕ → List CellEntry) (place : ℕ → ℕ) (ts : List ToldRecord) (order : IsOrdered cells place (played_in ts)) (viewed : AreViewed cells ts) where
+module _ (cells : ℕ → List CellEntry) (place : ℕ → ℕ) (ts : List ToldRecord) (order : IsOrdered cells place (played_in ts))
+    (viewed : AreViewed cells ts) where
   -- what a record hands on its later ones hand on, and those with a mark had seen it
   abbrev HandsOn : Title → ToldRecord → ToldRecord → Type 0
   HandsOn t x y = (x.gives t ≤ y.gives t) × ((m : Mark) → mark_of y.played ≡ Some m → x.gives t ≤ y.saw t)
@@ -193,18 +199,23 @@ module _ (cells : ℕ → List CellEntry) (place : ℕ → ℕ) (ts : List ToldR
       let b = viewed.grows y t second in
       (omega arith, λ m is. a)
 
-  by_handing : (t : Title) (x y : ToldRecord) → Contains ts x → Contains ts y → Contains (played_in ts) y.played → HandsTo cells x.played y.played → HandsOn t x y
+  by_handing : (t : Title) (x y : ToldRecord) → Contains ts x → Contains ts y → Contains (played_in ts) y.played →
+      HandsTo cells x.played y.played → HandsOn t x y
   by_handing t x y first second among h =
       let (k, j, e, f, at, next, line, line', given) = h in
       let (cell, reg, op) = exchanged cells place (played_in ts) order k (j + 1) f y.played among next line' in
-      let (i, g, answer, there, same) = order.cells_are.answers y.played cell reg among op in
-      (viewed.hands x y t first second h, λ m is. absurd (not_some m (ap (λ a. mark_of_answer y.played.line y.played.op a) (sym answer) ∙ is)))
+      let (i, g, answer, there, same) = order.cells_are.answers y.played cell reg among op in (
+        viewed.hands x y t first second h,
+        λ m is. absurd (not_some m (ap (λ a. mark_of_answer y.played.line y.played.op a) (sym answer) ∙ is)),
+      )
 
-  hands_on : (t : Title) (p q : Played) (x y : ToldRecord) → Contains ts x → Contains ts y → x.played ≡ p → y.played ≡ q → Contains (played_in ts) q → IsBefore cells (played_in ts) p q → HandsOn t x y
+  hands_on : (t : Title) (p q : Played) (x y : ToldRecord) → Contains ts x → Contains ts y → x.played ≡ p → y.played ≡ q →
+      Contains (played_in ts) q → IsBefore cells (played_in ts) p q → HandsOn t x y
   hands_on t p q x y first second e f among (Standing h) =
       by_standing t x y first second (subst (λ z. StandsBefore x.played z) (sym f) (subst (λ z. StandsBefore z q) (sym e) h))
   hands_on t p q x y first second e f among (Handing h) =
-      by_handing t x y first second (subst (λ z. Contains (played_in ts) z) (sym f) among) (subst (λ z. HandsTo cells x.played z) (sym f) (subst (λ z. HandsTo cells z q) (sym e) h))
+      by_handing t x y first second (subst (λ z. Contains (played_in ts) z) (sym f) among)
+      (subst (λ z. HandsTo cells x.played z) (sym f) (subst (λ z. HandsTo cells z q) (sym e) h))
   hands_on t p r x y first second e f among (Between q middle h k) =
       let (z, there, g) = map_cases (λ (w : ToldRecord). w.played) ts q middle in
       let a = hands_on t p q x z first there e g middle h in

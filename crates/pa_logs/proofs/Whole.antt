@@ -29,7 +29,8 @@ use Rattle.pa_logs.proofs.Slots.{slots_follow}
 use Rattle.pa_logs.proofs.Viewing.{seen_follows}
 
 -- looks find words in use
-pub looks_in_use : (sizes : SlotName → ℕ) (ts : List ToldRecord) → AreTold sizes ts → (x : Played) → Contains (played_in ts) x → FindsInUse x
+pub looks_in_use : (sizes : SlotName → ℕ) (ts : List ToldRecord) → AreTold sizes ts → (x : Played) → Contains (played_in ts) x →
+    FindsInUse x
 looks_in_use sizes ts told x among m is none =
     let (y, there, e) = map_cases (λ (z : ToldRecord). z.played) ts x among in
     ((tells_its_mark sizes y (told y there)).has_look m (ap mark_of e ∙ is) none).1
@@ -38,9 +39,11 @@ looks_in_use sizes ts told x among m is none =
 pub in_phases : (cells : ℕ → List CellEntry) (ps : List Played) → IsSeenInOrder cells ps → IsInPhases ps
 in_phases cells ps seen x y m n first second late is other same = seen.rising x y m n first second (Standing (inr late)) is other same
 
-module _ (sizes : SlotName → ℕ) (place : ℕ → ℕ) (t : Trace) (r : Told) (v : View) (ts : List ToldRecord) (out : IsPlayedOut sizes place t r v ts) where
+module _ (sizes : SlotName → ℕ) (place : ℕ → ℕ) (t : Trace) (r : Told) (v : View) (ts : List ToldRecord)
+    (out : IsPlayedOut sizes place t r v ts) where
   are_lines : AreLines (rules_of t) t.lines (played_in ts)
-  are_lines = subst (λ ps. AreLines (rules_of t) t.lines ps) (sym out.records) (records_are_lines.lines (rules_of t) t.lines r.entries out.due)
+  are_lines = subst (λ ps. AreLines (rules_of t) t.lines ps) (sym out.records)
+      (records_are_lines.lines (rules_of t) t.lines r.entries out.due)
 
   ordered : IsOrdered r.cells place (played_in ts)
   ordered = record {
@@ -62,7 +65,8 @@ module _ (sizes : SlotName → ℕ) (place : ℕ → ℕ) (t : Trace) (r : Told)
     lines = out.due;
     cells = out.cells;
     registers = out.registers;
-    slots = slots_follow (played_in ts) (λ s. out.last.all.history (title_of sizes s)) (histories_follow sizes v ts out.last.all.history out.last.logs out.told out.last.all.chain);
+    slots = slots_follow (played_in ts) (λ s. out.last.all.history (title_of sizes s))
+        (histories_follow sizes v ts out.last.all.history out.last.logs out.told out.last.all.chain);
     contents = contents_follow t.version sizes r.cells v ts read_off out.readers;
     pool = out.pool;
     roots = out.roots;

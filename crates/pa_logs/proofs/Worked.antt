@@ -65,7 +65,25 @@ told x among = by_four (IsTold sixteen) (
   (
     ([], tt, refl),
     (
-      (refl, (0, 0, false, refl, record { since = no_deeds; unclean = false; rest = []; pair = refl; none = refl; quiet = refl; clean = refl; in_use = omega arith })),
+      (
+        refl,
+        (
+          0,
+          0,
+          false,
+          refl,
+          record {
+            since = no_deeds;
+            unclean = false;
+            rest = [];
+            pair = refl;
+            none = refl;
+            quiet = refl;
+            clean = refl;
+            in_use = omega arith;
+          },
+        ),
+      ),
       (([], tt, refl), tt),
     ),
   ),
@@ -75,7 +93,8 @@ pub in_first : (x : ToldRecord) → Contains worked_records x → x.played.phase
 in_first x among = by_four (λ (y : ToldRecord). y.played.phase ≡ 1) (refl, (refl, (refl, (refl, tt)))) x among
 
 logs : AreLogs (view_of worked_records) worked_records
-logs = are_logs worked_records (λ x among. by_four (λ (y : ToldRecord). y.played.thread < 16) (omega arith, (omega arith, (omega arith, (omega arith, tt)))) x among)
+logs = are_logs worked_records
+    (λ x among. by_four (λ (y : ToldRecord). y.played.thread < 16) (omega arith, (omega arith, (omega arith, (omega arith, tt)))) x among)
 
 -- the history of the slot: it is made, pointed to and freed
 abbrev steps : List Done
@@ -122,7 +141,11 @@ chain_here = record {
       ),
     ),
   );
-  steps = (weighed (counted_as its_title Free 33554435 0) ∙ refl, (weighed (counted_as its_title Copy 16777217 0) ∙ refl, (weighed (counted_as its_title Issue 0 0) ∙ refl, tt)));
+  steps = (
+    weighed (counted_as its_title Free 33554435 0) ∙
+        refl,
+    (weighed (counted_as its_title Copy 16777217 0) ∙ refl, (weighed (counted_as its_title Issue 0 0) ∙ refl, tt)),
+  );
   numbers = λ k. let a = weighed (counted_at its_title k) in let b = three k in omega arith;
   all = weighed (counted_on its_title) ∙ refl;
   looks = λ word some_look.
@@ -139,7 +162,8 @@ module _ (t : Title) (other : same_title its_title t ≡ false) where
     steps = tt;
     numbers = λ k. let z = ap one (le k) in weighed (counted_at t k) ∙ (rw other refl ∙ sym z);
     all = weighed (counted_on t) ∙ rw other refl;
-    looks = λ word some_look. let a : logged_of (view_of worked_records) (looked_at t word) ≡ 0 = weighed (looked_at t word) ∙ rw other refl in absurd (omega arith);
+    looks = λ word some_look. let a : logged_of (view_of worked_records) (looked_at t word) ≡ 0 = weighed (looked_at t word) ∙
+        rw other refl in absurd (omega arith);
   }
     where
       le : (k : ℕ) → ltb k 0 ≡ false
@@ -151,7 +175,8 @@ module _ (t : Title) (other : same_title its_title t ≡ false) where
 
 chain : (t : Title) → IsChained (logged_of (view_of worked_records)) t (history t)
 chain t = elim (title_tells its_title t) [
-  | inl y ↦ subst (λ b. IsChained (logged_of (view_of worked_records)) t (history_if b)) (sym y.0) (subst (λ u. IsChained (logged_of (view_of worked_records)) u steps) y.1 chain_here)
+  | inl y ↦ subst (λ b. IsChained (logged_of (view_of worked_records)) t (history_if b)) (sym y.0)
+      (subst (λ u. IsChained (logged_of (view_of worked_records)) u steps) y.1 chain_here)
   | inr n ↦ subst (λ b. IsChained (logged_of (view_of worked_records)) t (history_if b)) (sym n.0) (chain_there t n.0)
 ]
 
@@ -172,9 +197,11 @@ by_pairs r weight a b =
     let all = first_pairs weight a b in
     omega arith
 
-content_here : (t : Title) (found value : ℕ) → its_title ≡ t → 33554435 ≡ found → 0 ≡ value → value ≡ content_at_number (number_of found) (history t)
+content_here : (t : Title) (found value : ℕ) → its_title ≡ t → 33554435 ≡ found → 0 ≡ value →
+    value ≡ content_at_number (number_of found) (history t)
 content_here t found value e f g =
-    subst (λ (u : Title). value ≡ content_at_number (number_of found) (history u)) e (subst (λ w. value ≡ content_at_number (number_of w) steps) f (sym g))
+    subst (λ (u : Title). value ≡ content_at_number (number_of found) (history u)) e
+    (subst (λ w. value ≡ content_at_number (number_of w) steps) f (sym g))
 
 found_is : (t u : Title) (w found : ℕ) → Looked t w ≡ Looked u found → w ≡ found
 found_is t u w found e = cc
@@ -206,13 +233,26 @@ well : (t : Title) → 0 < logged_of (view_of worked_records) (names t) → IsWe
 well t mine = subst (λ u. IsWellFormed (length (view_of worked_records).words) u) (named_is t mine) well_here
 
 knows : KnowsAll (view_of worked_records) worked_records
-knows = record { logs = logs; all = record { history = history; chain = chain; well = well; one_name = λ t u mine other start born. sym (named_is t mine) ∙ named_is u other; reads = reads } }
+knows = record {
+  logs = logs;
+  all = record {
+    history = history;
+    chain = chain;
+    well = well;
+    one_name = λ t u mine other start born. sym (named_is t mine) ∙
+        named_is u other;
+    reads = reads;
+  };
+}
 
 pub worked_is_read_off : WorkedIsReadOff
 worked_is_read_off = record {
   told = told;
   last = knows;
-  ends = λ x among. (view_of worked_records, subst (λ n. KnowsAll (view_of worked_records) (told_until n worked_records)) (sym (in_first x among)) knows);
+  ends = λ x among. (
+    view_of worked_records,
+    subst (λ n. KnowsAll (view_of worked_records) (told_until n worked_records)) (sym (in_first x among)) knows,
+  );
   phases = λ p q m n first second late is other same.
       let (x, there, e) = map_cases (λ (z : ToldRecord). z.played) worked_records p first in
       let (y, there', f) = map_cases (λ (z : ToldRecord). z.played) worked_records q second in

@@ -34,7 +34,8 @@ phase_one p among =
 no_swap : (p : Played) (k reg : ℕ) → Contains (played_in worked_records) p → p.op ≡ Swap k reg → ⊥
 no_swap p k reg among op =
     let (x, there, e) = map_cases (λ (z : ToldRecord). z.played) worked_records p among in
-    by_four (λ (y : ToldRecord). y.played.op ≡ Swap k reg → ⊥) ((λ is. absurd cc), ((λ is. absurd cc), ((λ is. absurd cc), ((λ is. absurd cc), tt)))) x there
+    by_four (λ (y : ToldRecord). y.played.op ≡ Swap k reg → ⊥)
+    ((λ is. absurd cc), ((λ is. absurd cc), ((λ is. absurd cc), ((λ is. absurd cc), tt)))) x there
     (ap (λ (z : Played). z.op) e ∙ op)
 
 are_cells : AreCells no_cells (played_in worked_records)
@@ -71,7 +72,8 @@ all_apart =
     let b = the_copy.played in
     let c = the_reader.played in
     let d = the_free.played in
-    apart a (b ∷ c ∷ d ∷ []) (past_more 2 b (c ∷ d ∷ []) (omega arith) (past_more 2 c (d ∷ []) (omega arith) (past_more 2 d [] (omega arith) (past_none 2))))
+    apart a (b ∷ c ∷ d ∷ [])
+    (past_more 2 b (c ∷ d ∷ []) (omega arith) (past_more 2 c (d ∷ []) (omega arith) (past_more 2 d [] (omega arith) (past_none 2))))
     (apart b (c ∷ d ∷ []) (past_more 3 c (d ∷ []) (omega arith) (past_more 3 d [] (omega arith) (past_none 3)))
     (apart c (d ∷ []) (past_more 4 d [] (omega arith) (past_none 4)) (apart d [] (past_none 5) (pairs_none OtherLine))))
 
@@ -99,41 +101,51 @@ HasSeen saw gives t found = (at_number saw t ≤ number_of found) × (number_of 
 one_step : (p : Step) (w v saw gives : ℕ) → saw ≤ number_of w → number_of w + 1 ≤ gives → (t : Title) (step : Step) (found value : ℕ)
     → Contains (Counted its_title p w v ∷ []) (Counted t step found value) →
     HasSeen saw gives t found
-one_step p w v saw gives low high t step found value among = elim (in_cases (Counted its_title p w v) (Counted t step found value) [] among) [
-  | inl e ↦
-      let same = title_same its_title t p step w found v value e in
-      let word : number_of found ≡ number_of w = ap number_of (entry_step its_title t p step w found v value e).1 in
-      let a : at_number saw t ≡ saw = ap (at_number saw) (sym same) in
-      let b : at_number gives t ≡ gives = ap (at_number gives) (sym same) in
-      (omega arith, omega arith)
-  | inr none ↦ absurd (not_in_none (Counted t step found value) none)
-]
+one_step p w v saw gives low high t step found value among =
+    elim (in_cases (Counted its_title p w v) (Counted t step found value) [] among) [
+      | inl e ↦
+          let same = title_same its_title t p step w found v value e in
+          let word : number_of found ≡ number_of w = ap number_of (entry_step its_title t p step w found v value e).1 in
+          let a : at_number saw t ≡ saw = ap (at_number saw) (sym same) in
+          let b : at_number gives t ≡ gives = ap (at_number gives) (sym same) in
+          (omega arith, omega arith)
+      | inr none ↦ absurd (not_in_none (Counted t step found value) none)
+    ]
 
-no_step : (w : ℕ) (t : Title) (step : Step) (found value : ℕ) → Contains (Looked its_title w ∷ Read its_title 0 0 no_deeds false false ∷ []) (Counted t step found value) → ⊥
-no_step w t step found value among = elim (in_cases (Looked its_title w) (Counted t step found value) (Read its_title 0 0 no_deeds false false ∷ []) among) [
-  | inl e ↦ absurd cc
-  | inr rest ↦ elim (in_cases (Read its_title 0 0 no_deeds false false) (Counted t step found value) [] rest) [ inl e ↦ absurd cc | inr none ↦ absurd (not_in_none (Counted t step found value) none) ]
-]
+no_step : (w : ℕ) (t : Title) (step : Step) (found value : ℕ) →
+    Contains (Looked its_title w ∷ Read its_title 0 0 no_deeds false false ∷ []) (Counted t step found value) → ⊥
+no_step w t step found value among =
+    elim (in_cases (Looked its_title w) (Counted t step found value) (Read its_title 0 0 no_deeds false false ∷ []) among) [
+      | inl e ↦ absurd cc
+      | inr rest ↦ elim (in_cases (Read its_title 0 0 no_deeds false false) (Counted t step found value) [] rest)
+          [ inl e ↦ absurd cc | inr none ↦ absurd (not_in_none (Counted t step found value) none) ]
+    ]
 
 no_look : (p : Step) (w v : ℕ) (t : Title) (found : ℕ) → Contains (Counted its_title p w v ∷ []) (Looked t found) → ⊥
-no_look p w v t found among = elim (in_cases (Counted its_title p w v) (Looked t found) [] among) [ inl e ↦ absurd cc | inr none ↦ absurd (not_in_none (Looked t found) none) ]
+no_look p w v t found among =
+    elim (in_cases (Counted its_title p w v) (Looked t found) [] among)
+    [ inl e ↦ absurd cc | inr none ↦ absurd (not_in_none (Looked t found) none) ]
 
 look_parts : (a b : Title) (w u : ℕ) → Looked a w ≡ Looked b u → (a ≡ b) × (w ≡ u)
 look_parts a b w u e = (cc, cc)
 
-one_look : (w seen : ℕ) → number_of w ≡ seen → (t : Title) (found : ℕ) → Contains (Looked its_title w ∷ Read its_title 0 0 no_deeds false false ∷ []) (Looked t found) →
+one_look : (w seen : ℕ) → number_of w ≡ seen → (t : Title) (found : ℕ) →
+    Contains (Looked its_title w ∷ Read its_title 0 0 no_deeds false false ∷ []) (Looked t found) →
     (at_number seen t ≤ number_of found) × (number_of found ≤ at_number seen t)
-one_look w seen is t found among = elim (in_cases (Looked its_title w) (Looked t found) (Read its_title 0 0 no_deeds false false ∷ []) among) [
-  | inl e ↦
-      let (same, word) = look_parts its_title t w found e in
-      let a : at_number seen t ≡ seen = ap (at_number seen) (sym same) in
-      let b : number_of w ≡ number_of found = ap number_of word in
-      (omega arith, omega arith)
-  | inr rest ↦ elim (in_cases (Read its_title 0 0 no_deeds false false) (Looked t found) [] rest) [ inl e ↦ absurd cc | inr none ↦ absurd (not_in_none (Looked t found) none) ]
-]
+one_look w seen is t found among =
+    elim (in_cases (Looked its_title w) (Looked t found) (Read its_title 0 0 no_deeds false false ∷ []) among) [
+      | inl e ↦
+          let (same, word) = look_parts its_title t w found e in
+          let a : at_number seen t ≡ seen = ap (at_number seen) (sym same) in
+          let b : number_of w ≡ number_of found = ap number_of word in
+          (omega arith, omega arith)
+      | inr rest ↦ elim (in_cases (Read its_title 0 0 no_deeds false false) (Looked t found) [] rest)
+          [ inl e ↦ absurd cc | inr none ↦ absurd (not_in_none (Looked t found) none) ]
+    ]
 
 abbrev SawSteps : ToldRecord → Type 0
-SawSteps x = (t : Title) (step : Step) (found value : ℕ) → Contains x.stretch (Counted t step found value) → (x.saw t ≤ number_of found) × (number_of found + 1 ≤ x.gives t)
+SawSteps x = (t : Title) (step : Step) (found value : ℕ) → Contains x.stretch (Counted t step found value) → (x.saw t ≤ number_of found) ×
+    (number_of found + 1 ≤ x.gives t)
 
 abbrev SawLooks : ToldRecord → Type 0
 SawLooks x = (t : Title) (found : ℕ) → Contains x.stretch (Looked t found) → (x.saw t ≤ number_of found) × (number_of found ≤ x.gives t)
@@ -146,7 +158,8 @@ apart_threads : (x y : Played) → (x.thread ≡ y.thread → x.line < y.line �
 apart_threads x y never same (inl (thread, less)) = never thread less
 apart_threads x y never same (inr late) = absurd (omega arith)
 
-not_after : (t : Title) (x y : ToldRecord) → (x.played.thread ≡ y.played.thread → x.played.line < y.played.line → ⊥) → x.played.phase ≡ y.played.phase → Handed t x y
+not_after : (t : Title) (x y : ToldRecord) → (x.played.thread ≡ y.played.thread → x.played.line < y.played.line → ⊥) →
+    x.played.phase ≡ y.played.phase → Handed t x y
 not_after t x y never same before = absurd (apart_threads x.played y.played never same before)
 
 from_maker : (t : Title) (y : ToldRecord) → Contains worked_records y → Handed t the_maker y
@@ -196,7 +209,10 @@ from_free t y second = by_four (Handed t the_free) (
 
 stands_in : (t : Title) (x y : ToldRecord) → Contains worked_records x → Contains worked_records y → Handed t x y
 stands_in t x y first second =
-    by_four (λ (z : ToldRecord). Handed t z y) (from_maker t y second, (from_copy t y second, (from_reader t y second, (from_free t y second, tt)))) x first
+    by_four (λ (z : ToldRecord). Handed t z y) (
+      from_maker t y second,
+      (from_copy t y second, (from_reader t y second, (from_free t y second, tt))),
+    ) x first
 
 viewed : AreViewed no_cells worked_records
 viewed = record {

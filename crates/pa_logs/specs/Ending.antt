@@ -47,8 +47,8 @@ pub record IsClosing (sizes : SlotName → ℕ) (r : Told) (v : View) : Type 0 w
   pub kept : (p : ℕ) (title : Title) → IsStanding r.pools (r.roots p) title → logged_of v (names title) ≡ 0 → HasTitle v title
   pub clean : unclean_of v ≡ 0
 
--- If the closing seat is as it must be, the words end with each standing title's history. If the logs are those of a run's records
--- too, they hold the run.
+-- If the closing seat is as it must be, the words end with each standing title's history.
+-- If the logs are those of a run's records too, they hold the run.
 pub record ClosesHolding : Type 0 where
   pub ends : (sizes : SlotName → ℕ) (words : List ℕ) (r : Told) (v : View) → (end : IsEnd words v) → IsClosing sizes r v →
       AreEnds sizes words r end.logs.history

@@ -1,5 +1,5 @@
--- Indices in answers and in journals: an entry's index is the length of its list before it, and each entry of the pool is named
--- once.
+-- Indices in answers and in journals: an entry's index is the length of its list before it,
+-- and each entry of the pool is named once.
 use Rattle.std.specs.Prelude.{◌≡◌, ◌≢◌, ℕ, ◌<◌, ◌≤◌, ◌⊎◌, List, [], ◌∷◌, ◌++◌, Bool, true, false, map, filter, length, Option, Some, None, Contains, slice_get}
 use Rattle.pa_record.specs.declared.entry.Answer.TheVariants.{Swapped}
 use Rattle.pa_record.specs.declared.history.CellEntry.{CellEntry}

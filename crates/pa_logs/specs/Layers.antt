@@ -40,8 +40,8 @@ pub record PoolSays (supers : ℕ) (lists : ℕ → List Made) (pools : List Poo
 --   makes: what a record entered in a journal is an entry that its op makes
 --   none_past: a partition past the trace's has no journal
 --   refused: a record that is full names its entry by the index
-pub record RootsSay (partitions : ℕ) (lists : ℕ → List Made) (pools : List PoolEntry) (roots : Journals) (ts : List ToldRecord) :
-    Type 0 where
+pub record RootsSay (partitions : ℕ) (lists : ℕ → List Made) (pools : List PoolEntry) (roots : Journals)
+    (ts : List ToldRecord) : Type 0 where
   pub one : (x y : Played) → Contains (played_in ts) x → Contains (played_in ts) y → x.rules ≡ y.rules
   pub lists_are : AreLists lists pools roots ts
   pub journals : (p : ℕ) → IsJournal pools (roots p)

@@ -37,8 +37,8 @@ pub record IsListOf (q : ℕ) (list : List Made) (ts : List ToldRecord) : Type 0
 abbrev pub AreRising : List ToldRecord → Type 0
 AreRising ts = AllPairs (λ (x y : ToldRecord). x.played.line < y.played.line) ts
 
--- Each entry of a list that is one of records is of one of them, and the entries on a record's line are those that it entered, in
--- order.
+-- Each entry of a list that is one of records is of one of them,
+-- and the entries on a record's line are those that it entered, in order.
 pub record LinesHaveTheirs : Type 0 where
   pub each : (q : ℕ) (list : List Made) (ts : List ToldRecord) (m : Made) → IsListOf q list ts → Contains list m →
       (x : ToldRecord) × Contains ts x × (x.played.thread ≡ m.stake) × Contains (entered_in q x.stretch) m

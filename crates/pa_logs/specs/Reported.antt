@@ -52,8 +52,8 @@ counted_by test weight xs zero = 0
 counted_by test weight xs (suc k) = weight_of test weight (marks_of (records_by k xs)) + counted_by test weight xs k
 
 -- the tally is what went in minus what went out, by the threads' counts
-pub record IsLeftBy (into out : Step → ℕ → Bool) (home size : SlotName → ℕ) (p threads : ℕ) (xs : List Played) (tally : Tally) :
-    Type 0 where
+pub record IsLeftBy (into out : Step → ℕ → Bool) (home size : SlotName → ℕ) (p threads : ℕ) (xs : List Played)
+    (tally : Tally) : Type 0 where
   pub slots : tally.slots ≡ counted_by into (one_of home p) xs threads - counted_by out (one_of home p) xs threads
   pub bytes : tally.bytes ≡ counted_by into (bytes_of home size p) xs threads - counted_by out (bytes_of home size p) xs threads
 

@@ -203,8 +203,8 @@ pub record HeapTells (t : Trace) (r : Told) (ts : List ToldRecord) (lists : ℕ 
 
 -- ---- the report
 
--- The census of a root: of its journal, which this list is in numbers, replayed with the pool's entries that its seat had seen,
--- a beginning of all.
+-- The census of a root: of its journal, which this list is in numbers,
+-- replayed with the pool's entries that its seat had seen, a beginning of all.
 pub record IsCensusBy (list pool_list : List Made) (c : Census) : Type 0 where
   pub journal : List RootEntry
   pub journal_is : IsJournalOf list journal
@@ -215,8 +215,8 @@ pub record IsCensusBy (list pool_list : List Made) (c : Census) : Type 0 where
   pub replays : IsJournal pool journal
   pub taken : c ≡ census (root_replayed pool journal new_root)
 
--- A line of the report is what the workers' counts of steps, their lists and the root's census say at the end of its phase, with
--- these lists and this seat.
+-- A line of the report is what the workers' counts of steps, their lists and the root's census say at the end of its phase,
+-- with these lists and this seat.
 pub record IsLineSaid (t : Trace) (r : Told) (v : View) (ts : List ToldRecord) (all : Caches) (seat : View) (l : ReportLine) : Type 0 where
   pub live : IsLeftBy issues frees (homes_in t r) (sizes_in t r) l.partition t.threads (until l.phase (played_in ts)) l.live
   pub quarantined :

@@ -23,8 +23,8 @@ use Rattle.pa_logs.specs.Told.{ToldRecord}
 abbrev pub title_of : (SlotName → ℕ) → SlotName → Title
 title_of sizes s = record { start = s.start; len = sizes s; born = s.born }
 
--- the entry is a step, a look or a read of a title: no addition to a total, no entry in a list, and no title
--- that is uncut
+-- the entry is a step, a look or a read of a title: no addition to a total,
+-- no entry in a list, and no title that is uncut
 abbrev pub is_touch : Entry → Bool
 is_touch (Counted t step found value) = true
 is_touch (Looked t found) = true
@@ -84,8 +84,8 @@ abbrev pub IsLookTold : Title → ℕ → List Entry → Type 0
 IsLookTold t found es = (touches es ≡ Looked t found ∷ []) × (0 < held_of found + refs_of found)
 
 -- The log segment is a look at the title and right after it a read of its content word number `place`, which gave this value. What
--- comes after them touches nothing: at a phase's end come additions to totals words. Between the two nothing was done, and the reader
--- had no unclean Own.
+-- comes after them touches nothing: at a phase's end come additions to totals words. Between the two nothing was done,
+-- and the reader had no unclean Own.
 pub record IsReadTold (t : Title) (place found value : ℕ) (owned : Bool) (es : List Entry) : Type 0 where
   pub since : Deeds
   pub unclean : Bool
@@ -101,8 +101,8 @@ abbrev pub IsDoneTold : (SlotName → ℕ) → Option Step → ℕ → Seen → 
 IsDoneTold sizes None value seen es = ⊥
 IsDoneTold sizes (Some step) value seen es = IsStepTold (title_of sizes seen.slot) step seen.found.0 value es
 
--- If a slot was seen, the log segment has a look at it that found it in use, and touches nothing else. If none was, it touches
--- nothing.
+-- If a slot was seen, the log segment has a look at it that found it in use, and touches nothing else.
+-- If none was, it touches nothing.
 abbrev pub IsSeenTold : (SlotName → ℕ) → Option Seen → List Entry → Type 0
 IsSeenTold sizes None es = touches es ≡ []
 IsSeenTold sizes (Some seen) es = IsLookTold (title_of sizes seen.slot) seen.found.0 es

@@ -123,8 +123,8 @@ pub fn cells_follow()
     ensures { CellsFollow }
 {}
 
-/// The words of a closed region end with each standing title's history, and hold the run, by what the close ensures
-/// for its seat.
+/// The words of a closed region end with each standing title's history, and hold the run,
+/// by what the close ensures for its seat.
 pub fn closes_holding()
     ensures { ClosesHolding }
 {}

@@ -1,6 +1,6 @@
 //! What the logs and the lists of a region say at the end of the run that was played in it: the clauses of a legal run that
-//! speak of steps, looks, reads and what was seen, and what the closed region's words are. There are only laws, and nothing
-//! here runs.
+//! speak of steps, looks, reads and what was seen, and what the closed region's words are.
+//! There are only laws, and nothing here runs.
 #![tactic(auto)]
 
 mod laws;

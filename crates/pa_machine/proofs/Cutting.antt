@@ -6,7 +6,7 @@ use Rattle.pa_slot.specs.declared.title.Title.{Title}
 use Rattle.pa_slot.specs.declared.title.OwnState.TheVariants.{Clean, Poisoned}
 use Rattle.pa_slot.specs.Run.{IsFree}
 use Rattle.pa_slot.specs.Titles.{Covers, IsWellFormed, count_word}
-use Rattle.pa_slot.specs.Holdings.{Piece, RawPiece, FreePiece, Thing, RawByte, FreeTitle, OwnOf, OwnAs, RefOf, IsTitleHeld, held_in}
+use Rattle.pa_slot.specs.Holdings.{Piece, RawPiece, FreePiece, Thing, RawByte, FreeTitle, OwnOf, OwnAs, SealedOwn, RefOf, IsTitleHeld, held_in}
 use Rattle.pa_machine.specs.Good.{IsDivided, IsGood}
 use Rattle.pa_slot.proofs.Same.{title_tells}
 use Rattle.pa_machine.proofs.Totals.{IsTally}
@@ -30,12 +30,14 @@ covers_or t b = elim (cases_lt b t.start) [
 ]
 
 -- another title's handles stay if a free title comes or goes against raw bytes
-pub cut_untouched : (words : List ℕ) (total later : Thing → ℕ) (u : Title) (lost gained : List Piece) → IsNoneOf lost u → IsNoneOf gained u →
+pub cut_untouched : (words : List ℕ) (total later : Thing → ℕ) (u : Title) (lost gained : List Piece) → IsNoneOf lost u →
+    IsNoneOf gained u →
     Changes total lost gained later → IsUntouched words total words later u
 cut_untouched words total later u lost gained l g c = record {
   free = let a = c (FreeTitle u) in let x = l.free in let y = g.free in omega arith;
   own = let a = c (OwnOf u) in let x = l.own in let y = g.own in omega arith;
   ref = let a = c (RefOf u) in let x = l.ref in let y = g.ref in omega arith;
+  seal = let a = c (SealedOwn u) in let x = l.seal in let y = g.seal in omega arith;
   state = λ s. let a = c (OwnAs u s) in let x = l.state s in let y = g.state s in omega arith;
   word = refl;
   content = λ i below. refl;
@@ -61,7 +63,8 @@ pub record IsCutOut (words : List ℕ) (total : Thing → ℕ) (t : Title) : Typ
   pub word : count_word words t ≡ 0
 
 -- before a cut nobody holds the title
-pub cut_unheld : (words : List ℕ) (total : Thing → ℕ) (t : Title) → IsDivided (length words) total → IsCutOut words total t → IsTitleHeld total t → ⊥
+pub cut_unheld : (words : List ℕ) (total : Thing → ℕ) (t : Title) → IsDivided (length words) total → IsCutOut words total t →
+    IsTitleHeld total t → ⊥
 cut_unheld words total t d k held =
     let long = k.long in
     (raw_alone (length words) total t.start d (k.raw t.start (omega arith) (omega arith))).2 t held (omega arith, omega arith)
@@ -153,7 +156,8 @@ cut_good words total later t g tallied k c =
     good_by words total words later g (cut_divided words total later t g.divided k c)
     (λ u held. elim (title_tells t u) [
       | inl y ↦ inr (subst (λ (x : Title). IsTitleGood words later x) y.1 good)
-      | inr n ↦ inl (cut_untouched words total later u (RawPiece t.start t.len ∷ []) (FreePiece t ∷ []) (raw_none t.start t.len u) (free_none t u n.1) c)
+      | inr n ↦ inl (cut_untouched words total later u (RawPiece t.start t.len ∷ []) (FreePiece t ∷ []) (raw_none t.start t.len u)
+          (free_none t u n.1) c)
     ])
   where
     good : IsTitleGood words later t
@@ -162,7 +166,8 @@ cut_good words total later t g tallied k c =
         let own = c (OwnOf t) in
         let ref = c (RefOf t) in
         let f1 = free_self t in
-        let none : total (FreeTitle t) + total (OwnOf t) + total (RefOf t) ≡ 0 = elim (cases_lt 0 (total (FreeTitle t) + total (OwnOf t) + total (RefOf t))) [
+        let none : total (FreeTitle t) + total (OwnOf t) + total (RefOf t) ≡ 0 =
+        elim (cases_lt 0 (total (FreeTitle t) + total (OwnOf t) + total (RefOf t))) [
           | inl held ↦ absurd (cut_unheld words total t g.divided k held)
           | inr z ↦ omega arith
         ] in
@@ -182,6 +187,7 @@ cut_good words total later t g tallied k c =
             clean = λ m. let p = tallied.part t Clean in absurd (omega arith);
             shared = λ other many m. let p = tallied.part t other in absurd (omega arith);
           };
+          seal_kept = λ m. let p = tallied.seal t in absurd (omega arith);
         }
 
 -- a free title is held by nobody else, and as nothing else
@@ -190,7 +196,8 @@ pub free_alone : (words : List ℕ) (total : Thing → ℕ) (t : Title) → IsGo
 free_alone words total t g has =
     let counted = g.counted t (omega arith) in
     elim (free_or (count_word words t)) [
-      | inl y ↦ let a = y.0 in let b = y.1 in let owns = counted.owns in let refs = counted.refs in (y, counted.free y, omega arith, omega arith)
+      | inl y ↦ let a = y.0 in let b = y.1 in let owns = counted.owns in let refs = counted.refs in
+          (y, counted.free y, omega arith, omega arith)
       | inr n ↦ let e = counted.taken n in absurd (omega arith)
     ]
 
@@ -209,7 +216,10 @@ uncut_divided words total later t good has c = record {
         let same : later (RawByte b) ≡ total (RawByte b) = omega arith in
         elim (d.bytes b below) [
           | inl r ↦ inl (same ∙ r.0, λ u held covers. r.1 u (held_before u held) covers)
-          | inr r ↦ inr (same ∙ r.0, (r.1.0, held_after r.1.0 (λ e. outside_t b out (subst (λ (x : Title). Covers x b) (sym e) r.1.2)) r.1.1, r.1.2))
+          | inr r ↦ inr (
+            same ∙ r.0,
+            (r.1.0, held_after r.1.0 (λ e. outside_t b out (subst (λ (x : Title). Covers x b) (sym e) r.1.2)) r.1.1, r.1.2),
+          )
         ]
   ];
   outside = λ b past. elim (covers_or t b) [
@@ -276,5 +286,6 @@ uncut_good words total later t g has c =
           let x = free_self t in
           let still : IsTitleHeld later t = subst (λ (x : Title). IsTitleHeld later x) (sym y.1) held in
           absurd (omega arith)
-      | inr n ↦ inl (cut_untouched words total later u (FreePiece t ∷ []) (RawPiece t.start t.len ∷ []) (free_none t u n.1) (raw_none t.start t.len u) c)
+      | inr n ↦ inl (cut_untouched words total later u (FreePiece t ∷ []) (RawPiece t.start t.len ∷ []) (free_none t u n.1)
+          (raw_none t.start t.len u) c)
     ])

@@ -25,20 +25,25 @@ use Rattle.pa_machine.proofs.Reading.{reads_free, reads_own, reads_ref, free_rea
 pub held_free : (c : Tables) (actor : ℕ) (t : Title) → Holds (state_of c) actor (FreeTitle t) → IsTitleHeld (total_of (state_of c)) t
 held_free c actor t h = let p = in_total (state_of c) actor (FreeTitle t) h in omega arith
 
-pub held_own : (c : Tables) (actor : ℕ) (t : Title) (s : OwnState) → Holds (state_of c) actor (OwnAs t s) → IsTitleHeld (total_of (state_of c)) t
+pub held_own : (c : Tables) (actor : ℕ) (t : Title) (s : OwnState) → Holds (state_of c) actor (OwnAs t s) →
+    IsTitleHeld (total_of (state_of c)) t
 held_own c actor t s h =
-    let p = own_of_state (total_of (state_of c)) t s (tally_of (state_of c).holdings) (in_total (state_of c) actor (OwnAs t s) h) in omega arith
+    let p = own_of_state (total_of (state_of c)) t s (tally_of (state_of c).holdings) (in_total (state_of c) actor (OwnAs t s) h) in
+    omega arith
 
 pub held_ref : (c : Tables) (actor : ℕ) (t : Title) → Holds (state_of c) actor (RefOf t) → IsTitleHeld (total_of (state_of c)) t
 held_ref c actor t h = let p = in_total (state_of c) actor (RefOf t) h in omega arith
 
-pub well_free : (c : Tables) (actor : ℕ) (t : Title) → AreSound c → Holds (state_of c) actor (FreeTitle t) → IsWellFormed (length c.words.items) t
+pub well_free : (c : Tables) (actor : ℕ) (t : Title) → AreSound c → Holds (state_of c) actor (FreeTitle t) →
+    IsWellFormed (length c.words.items) t
 well_free c actor t sound h = sound.good.divided.well t (held_free c actor t h)
 
-pub well_own : (c : Tables) (actor : ℕ) (t : Title) (s : OwnState) → AreSound c → Holds (state_of c) actor (OwnAs t s) → IsWellFormed (length c.words.items) t
+pub well_own : (c : Tables) (actor : ℕ) (t : Title) (s : OwnState) → AreSound c → Holds (state_of c) actor (OwnAs t s) →
+    IsWellFormed (length c.words.items) t
 well_own c actor t s sound h = sound.good.divided.well t (held_own c actor t s h)
 
-pub well_ref : (c : Tables) (actor : ℕ) (t : Title) → AreSound c → Holds (state_of c) actor (RefOf t) → IsWellFormed (length c.words.items) t
+pub well_ref : (c : Tables) (actor : ℕ) (t : Title) → AreSound c → Holds (state_of c) actor (RefOf t) →
+    IsWellFormed (length c.words.items) t
 well_ref c actor t sound h = sound.good.divided.well t (held_ref c actor t h)
 
 -- nothing is no entry
@@ -53,7 +58,8 @@ pub actor_has : (c : Tables) (actor : ℕ) → actor < c.actors → HasActor (st
 actor_has c actor has = let n = length-map-range_with_len (pieces_of c.holders.items c.slots.items) 0 c.actors in omega arith
 
 -- an entry's title is well formed, and a title that has an entry is the entry's
-pub kept_is : (t : Title) (p : Place) (o : Slot) → kept_as t p ≡ Some o → (words actors i : ℕ) → IsPlaced words actors i p → (o.title ≡ t) × IsWellFormed words o.title × (o.title.start ≡ 8 * i)
+pub kept_is : (t : Title) (p : Place) (o : Slot) → kept_as t p ≡ Some o → (words actors i : ℕ) → IsPlaced words actors i p → (o.title ≡ t) ×
+    IsWellFormed words o.title × (o.title.start ≡ 8 * i)
 kept_is t None o is words actors i placed = absurd (none_some o is)
 kept_is t (Some b) o is words actors i placed = elim (title_tells b.value.title t) [
   | inl y ↦
@@ -70,16 +76,19 @@ kept_is t (Some b) o is words actors i placed = elim (title_tells b.value.title 
 over_is : (p : Place) (at_byte : ℕ) (o : Slot) → kept_over at_byte p ≡ Some o → (words actors i : ℕ) → IsPlaced words actors i p →
     (kept_as o.title p ≡ Some o) × Covers o.title at_byte × IsWellFormed words o.title × (o.title.start ≡ 8 * i)
 over_is None at_byte o is words actors i placed = absurd cc
-over_is (Some b) at_byte o is words actors i placed = by_test (nat_le b.value.title.start at_byte && nat_lt at_byte (b.value.title.start + b.value.title.len)) refl is
+over_is (Some b) at_byte o is words actors i placed =
+    by_test (nat_le b.value.title.start at_byte && nat_lt at_byte (b.value.title.start + b.value.title.len)) refl is
   where
-    by_test : (c : Bool) → (nat_le b.value.title.start at_byte && nat_lt at_byte (b.value.title.start + b.value.title.len)) ≡ c → cond c (Some b.value) None ≡ Some o →
+    by_test : (c : Bool) → (nat_le b.value.title.start at_byte && nat_lt at_byte (b.value.title.start + b.value.title.len)) ≡ c →
+        cond c (Some b.value) None ≡ Some o →
         (kept_as o.title (Some b) ≡ Some o) × Covers o.title at_byte × IsWellFormed words o.title × (o.title.start ≡ 8 * i)
     by_test false e h = absurd cc
     by_test true e h =
         let same : b.value ≡ o = cc in
         let low : b.value.title.start ≤ at_byte = grind (arith, nat_tests) in
         let high : at_byte < b.value.title.start + b.value.title.len = grind (arith, nat_tests) in
-        subst (λ (x : Slot). (kept_as x.title (Some b) ≡ Some x) × Covers x.title at_byte × IsWellFormed words x.title × (x.title.start ≡ 8 * i)) same
+        subst (λ (x : Slot). (kept_as x.title (Some b) ≡ Some x) × Covers x.title at_byte × IsWellFormed words x.title ×
+        (x.title.start ≡ 8 * i)) same
         (rw (title_self b.value.title) refl, (low, high), placed.1, placed.0)
 
 pub over_entry : (c : Tables) (at_byte : ℕ) (o : Slot) → AreSound c → slot_over c.homes.items c.slots.items at_byte ≡ Some o →
@@ -99,7 +108,8 @@ kept_covers t (Some b) o at_byte is covers = elim (title_tells b.value.title t) 
       let e : Some b.value ≡ Some o = rw y.0 at is in
       let in_b : Covers b.value.title at_byte = subst (λ (x : Title). Covers x at_byte) (sym y.1) covers in
       let low = in_b.0 in let high = in_b.1 in
-      let test : (nat_le b.value.title.start at_byte && nat_lt at_byte (b.value.title.start + b.value.title.len)) ≡ true = grind (arith, nat_tests) in
+      let test : (nat_le b.value.title.start at_byte && nat_lt at_byte (b.value.title.start + b.value.title.len)) ≡ true =
+      grind (arith, nat_tests) in
       rw test e
   | inr n ↦ absurd (none_some o (rw n.0 at is))
 ]
@@ -117,15 +127,17 @@ entry_over c t o at_byte sound held is covers =
 pub poison_same : (c : Tables) (actor : ℕ) (t : Title) (o : Slot) → AreSound c → actor < c.actors → slot_at c.slots.items t ≡ Some o →
     CanPoison o actor ↔ ((state : OwnState) × Holds (state_of c) actor (OwnAs t state) × (progress state < content_count t))
 poison_same c actor t o sound has is =
-    let title = (kept_is t (get_or c.slots.items (t.start / 8) None) o is (length c.words.items) c.actors (t.start / 8) (sound.placed (t.start / 8))).0 in (
-      λ can. (can.0, own_read c actor t can.0 o sound has is can.1, rw title at can.2),
+    let title = (kept_is t (get_or c.slots.items (t.start / 8) None) o is (length c.words.items) c.actors (t.start / 8)
+    (sound.placed (t.start / 8))).0 in (
+      λ can. (can.0, own_read c actor t can.0 can.1 o sound has is can.2, rw title at can.3),
       λ h.
           let r = reads_own c actor t h.0 sound has h.1 in
           let same : r.0 ≡ o = let e = r.1 in cc in
-          (h.0, ap (λ (q : Slot). q.own) (sym same) ∙ r.3, rw title h.2),
+          (h.0, r.3, ap (λ (q : Slot). q.own) (sym same) ∙ r.4, rw title h.2),
     )
 
-pub read_same : (c : Tables) (actor at_byte : ℕ) (o : Slot) → AreSound c → actor < c.actors → slot_over c.homes.items c.slots.items at_byte ≡ Some o →
+pub read_same : (c : Tables) (actor at_byte : ℕ) (o : Slot) → AreSound c → actor < c.actors →
+    slot_over c.homes.items c.slots.items at_byte ≡ Some o →
     IsHeldBy o actor ↔ IsTitleWord (state_of c) actor at_byte
 read_same c actor at_byte o sound has is =
     let e = over_entry c at_byte o sound is in (
@@ -135,7 +147,7 @@ read_same c actor at_byte o sound has is =
         elim held [
           | inl f ↦ inl (free_read c actor o.title o sound has e.0 f)
           | inr rest ↦ elim rest [
-            | inl w ↦ inr (inl (w.0, own_read c actor o.title w.0 o sound has e.0 w.1))
+            | inl w ↦ inr (inl (w.0, own_read c actor o.title w.0 w.1 o sound has e.0 w.2))
             | inr r ↦ inr (inr (ref_read c actor o.title o sound has e.0 r))
           ]
         ],
@@ -151,7 +163,7 @@ read_same c actor at_byte o sound has is =
               let r = reads_own c actor word.0 w.0 sound has w.1 in
               let over = entry_over c word.0 r.0 at_byte sound (held_own c actor word.0 w.0 w.1) r.1 word.1 in
               let same : r.0 ≡ o = cc in
-              inr (inl (w.0, ap (λ (q : Slot). q.own) (sym same) ∙ r.3))
+              inr (inl (w.0, r.3, ap (λ (q : Slot). q.own) (sym same) ∙ r.4))
           | inr f ↦
               let r = reads_ref c actor word.0 sound has f in
               let over = entry_over c word.0 r.0 at_byte sound (held_ref c actor word.0 f) r.1 word.1 in
@@ -179,27 +191,38 @@ none_read c actor at_byte sound has none word = elim word.2 [
 
 -- a word that may be written lies in the title of the entry over it
 pub write_over : (c : Tables) (actor at_byte : ℕ) → AreSound c → actor < c.actors → MayWrite (state_of c) actor at_byte →
-    (o : Slot) × (slot_over c.homes.items c.slots.items at_byte ≡ Some o) × IsContentOf o.title at_byte × MayChange (state_of c) actor o.title
+    (o : Slot) × (slot_over c.homes.items c.slots.items at_byte ≡ Some o) × IsContentOf o.title at_byte ×
+    MayChange (state_of c) actor o.title
 write_over c actor at_byte sound has (inl free) =
     let t = free.0 in
     let r = reads_free c actor t sound has free.1 in
     let low = free.2.0 in let high = free.2.1 in
-    let over = entry_over c t r.0 at_byte sound (held_free c actor t free.1) r.1 (omega arith, omega arith) in
-    (r.0, over, subst (λ (x : Title). IsContentOf x at_byte) (sym r.2) free.2, subst (λ (x : Title). MayChange (state_of c) actor x) (sym r.2) (inl free.1))
+    let over = entry_over c t r.0 at_byte sound (held_free c actor t free.1) r.1 (omega arith, omega arith) in (
+      r.0,
+      over,
+      subst (λ (x : Title). IsContentOf x at_byte) (sym r.2) free.2,
+      subst (λ (x : Title). MayChange (state_of c) actor x) (sym r.2) (inl free.1),
+    )
 write_over c actor at_byte sound has (inr own) =
     let t = own.0 in
     let word = own.2 in
     let r = reads_own c actor t own.1 sound has word.0.1 in
     let low = word.1.0 in let high = word.1.1 in
-    let over = entry_over c t r.0 at_byte sound (held_own c actor t own.1 word.0.1) r.1 (omega arith, omega arith) in
-    (r.0, over, subst (λ (x : Title). IsContentOf x at_byte) (sym r.2) word.1, subst (λ (x : Title). MayChange (state_of c) actor x) (sym r.2) (inr ((own.1, word.0), word.2)))
+    let over = entry_over c t r.0 at_byte sound (held_own c actor t own.1 word.0.1) r.1 (omega arith, omega arith) in (
+      r.0,
+      over,
+      subst (λ (x : Title). IsContentOf x at_byte) (sym r.2) word.1,
+      subst (λ (x : Title). MayChange (state_of c) actor x) (sym r.2) (inr ((own.1, word.0), word.2)),
+    )
 
-pub change_writes : (c : Tables) (actor at_byte : ℕ) (t : Title) → IsContentOf t at_byte → MayChange (state_of c) actor t → MayWrite (state_of c) actor at_byte
+pub change_writes : (c : Tables) (actor at_byte : ℕ) (t : Title) → IsContentOf t at_byte → MayChange (state_of c) actor t →
+    MayWrite (state_of c) actor at_byte
 change_writes c actor at_byte t within (inl free) = inl (t, free, within)
 change_writes c actor at_byte t within (inr own) = inr (t, own.0.0, (own.0.1, within, own.1))
 
 -- an Own, clean or dirty, and what it says of the title
-pub well_open : (c : Tables) (actor : ℕ) (t : Title) → AreSound c → ((state : OwnState) × HoldsOpen (state_of c) actor t state) → IsWellFormed (length c.words.items) t
+pub well_open : (c : Tables) (actor : ℕ) (t : Title) → AreSound c → ((state : OwnState) × HoldsOpen (state_of c) actor t state) →
+    IsWellFormed (length c.words.items) t
 well_open c actor t sound h = well_own c actor t h.0 sound h.1.1
 
 pub open_either : (c : Tables) (actor : ℕ) (t : Title) → ((state : OwnState) × HoldsOpen (state_of c) actor t state) →
@@ -210,15 +233,17 @@ open_either c actor t h = elim h.1.0 [
 ]
 
 -- what a step requires of its actor makes the title a held one
-pub well_counted : (c : Tables) (actor : ℕ) (t : Title) (p : Step) → AreSound c → CanCount p (state_of c) actor t → IsWellFormed (length c.words.items) t
+pub well_counted : (c : Tables) (actor : ℕ) (t : Title) (p : Step) → AreSound c → CanCount p (state_of c) actor t →
+    IsWellFormed (length c.words.items) t
 well_counted c actor t Issue sound can = well_free c actor t sound can.0
-well_counted c actor t Copy sound can = elim can [ inl o ↦ well_own c actor t Clean sound o | inr r ↦ well_ref c actor t sound r ]
+well_counted c actor t Copy sound can = elim can [ inl o ↦ well_own c actor t Clean sound o.0 | inr r ↦ well_ref c actor t sound r ]
 well_counted c actor t Reset sound can = well_ref c actor t sound can
 well_counted c actor t Free sound can = well_own c actor t (Poisoned (content_count t)) sound can
 well_counted c actor t Write sound can = well_open c actor t sound can.0
 
 -- raw bytes lie in the region
-pub well_raw : (c : Tables) (actor : ℕ) (t : Title) → AreSound c → HoldsRaw (state_of c) actor t.start t.len → t.start % 8 ≡ 0 → t.len % 8 ≡ 0 → 16 ≤ t.len →
+pub well_raw : (c : Tables) (actor : ℕ) (t : Title) → AreSound c → HoldsRaw (state_of c) actor t.start t.len → t.start % 8 ≡ 0 →
+    t.len % 8 ≡ 0 → 16 ≤ t.len →
     IsWellFormed (length c.words.items) t
 well_raw c actor t sound raw start len long =
     let last = in_total (state_of c) actor (RawByte (t.start + t.len - 1)) (raw (t.start + t.len - 1) (omega arith) (omega arith)) in
@@ -233,7 +258,8 @@ well_raw c actor t sound raw start len long =
     }
 
 -- a range of raw bytes that isn't empty lies in the region
-pub raw_inside : (c : Tables) (actor start len : ℕ) → AreSound c → 0 < len → HoldsRaw (state_of c) actor start len → start + len ≤ 8 * length c.words.items
+pub raw_inside : (c : Tables) (actor start len : ℕ) → AreSound c → 0 < len → HoldsRaw (state_of c) actor start len →
+    start + len ≤ 8 * length c.words.items
 raw_inside c actor start len sound some_byte raw =
     let last = in_total (state_of c) actor (RawByte (start + len - 1)) (raw (start + len - 1) (omega arith) (omega arith)) in
     elim (cases_lt (start + len - 1) (8 * length c.words.items)) [

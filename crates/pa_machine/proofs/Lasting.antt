@@ -12,7 +12,8 @@ use Rattle.pa_machine.proofs.Holding.{same_shape}
 use Rattle.pa_machine.proofs.Returning.{only_returns}
 use Rattle.pa_machine.proofs.Noting.{keeps_content}
 
-pub lasts : (s : State) (es : List Event) (ss : List State) (last : Title → ℕ) → IsGoodState s → KeepsContent s last → Played s es ss → Lasts s es ss last
+pub lasts : (s : State) (es : List Event) (ss : List State) (last : Title → ℕ) → IsGoodState s → KeepsContent s last → Played s es ss →
+    Lasts s es ss last
 lasts s [] [] last g k p = (g, k)
 lasts s (e ∷ es) (after ∷ ss) last g k p = (
   g,
@@ -40,7 +41,8 @@ pub run_start : (s : State) → IsGoodState s → IsRunTo s [] s
 run_start s good = record { states = []; played = tt; ends = refl; shape = (refl, refl); lasts = λ last k. (good, k) }
 
 -- a run with one more event that can happen at its end is a run
-pub run_more : (s mid after : State) (es : List Event) (e : Event) → IsGoodState s → IsRunTo s es mid → IsEnabled e mid → Happens e mid after → IsRunTo s (es ++ e ∷ []) after
+pub run_more : (s mid after : State) (es : List Event) (e : Event) → IsGoodState s → IsRunTo s es mid → IsEnabled e mid →
+    Happens e mid after → IsRunTo s (es ++ e ∷ []) after
 run_more s mid after es e good r can h =
     let played = played_more s es r.states e after r.played (rw (← r.ends) can) (rw (← r.ends) h) in
     record {
@@ -52,7 +54,8 @@ run_more s mid after es e good r can h =
     }
 
 -- what a refusal says of the event
-pub refused_at : (fault : StepFault) (e : Event) (s : State) → (fault ≡ NotEnabled → IsEnabled e s → ⊥) → (fault ≡ OutOfMemory → IsEnabled e s)
+pub refused_at : (fault : StepFault) (e : Event) (s : State) → (fault ≡ NotEnabled → IsEnabled e s → ⊥) →
+    (fault ≡ OutOfMemory → IsEnabled e s)
     → (fault ≡ OutOfMemory → MayNeedMemory e) → IsRefusedFor fault (Some e) s
 refused_at NotEnabled e s never always asks = never refl
 refused_at OutOfMemory e s never always asks = (always refl, asks refl)

@@ -1,5 +1,5 @@
 -- The parts of a good core, title by title, and the laws that carry them over a change.
-use Rattle.std.proofs.Common.{◌≡◌, ℕ, ◌+◌, ◌-◌, ◌*◌, ◌/◌, ◌<◌, ◌≤◌, List, [], ◌∷◌, length, set, refl, ◌∙◌, subst, arith, ◌⊎◌, inl, inr}
+use Rattle.std.proofs.Common.{◌≡◌, ℕ, ◌+◌, ◌-◌, ◌*◌, ◌/◌, ◌<◌, ◌≤◌, Bool, List, [], ◌∷◌, length, set, refl, ◌∙◌, subst, arith, ◌⊎◌, inl, inr}
 use Rattle.std.proofs.lemmas.List.{get_or-set_other, length-set}
 use Rattle.std.proofs.lemmas.Bool.{cases_eq}
 use Rattle.pa_slot.specs.declared.title.Title.{Title}
@@ -8,8 +8,8 @@ use Rattle.pa_slot.specs.declared.title.OwnState.TheVariants.{Clean, Poisoned}
 use Rattle.pa_slot.specs.Count.{held_of, refs_of}
 use Rattle.pa_slot.specs.Run.{IsFree}
 use Rattle.pa_slot.specs.Titles.{Covers, IsWellFormed, content_count, content_place, count_place, content_at, count_word}
-use Rattle.pa_slot.specs.Holdings.{Piece, RawPiece, FreePiece, OwnPiece, RefPiece, Thing, RawByte, FreeTitle, OwnOf, OwnAs, RefOf, IsTitleHeld, held_in}
-use Rattle.pa_machine.specs.Good.{IsDivided, IsCounted, IsPoisonKept, IsContentKept, IsGood}
+use Rattle.pa_slot.specs.Holdings.{Piece, RawPiece, FreePiece, OwnPiece, RefPiece, Thing, RawByte, FreeTitle, OwnOf, OwnAs, SealedOwn, RefOf, IsTitleHeld, held_in}
+use Rattle.pa_machine.specs.Good.{IsDivided, IsCounted, IsPoisonKept, IsContentKept, IsSealKept, IsGood}
 use Rattle.pa_slot.proofs.Same.{title_tells}
 
 -- a count word says that its title is free, or that it isn't
@@ -25,12 +25,14 @@ pub record IsTitleGood (words : List ℕ) (total : Thing → ℕ) (t : Title) : 
   pub counted : IsCounted (count_word words t) total t
   pub poison_kept : IsPoisonKept words total t
   pub content_kept : IsContentKept words total t
+  pub seal_kept : IsSealKept words total t
 
 pub title_of_good : (words : List ℕ) (total : Thing → ℕ) (t : Title) → IsGood words total → IsTitleHeld total t → IsTitleGood words total t
 title_of_good words total t g held = record {
   counted = g.counted t held;
   poison_kept = g.poison_kept t held;
   content_kept = g.content_kept t held;
+  seal_kept = g.seal_kept t held;
 }
 
 -- the title's own words and handles are as before
@@ -38,6 +40,7 @@ pub record IsUntouched (words : List ℕ) (total : Thing → ℕ) (words_after :
   pub free : after (FreeTitle t) ≡ total (FreeTitle t)
   pub own : after (OwnOf t) ≡ total (OwnOf t)
   pub ref : after (RefOf t) ≡ total (RefOf t)
+  pub seal : after (SealedOwn t) ≡ total (SealedOwn t)
   pub state : (a : OwnState) → after (OwnAs t a) ≡ total (OwnAs t a)
   pub word : count_word words_after t ≡ count_word words t
   pub content : (i : ℕ) → i < content_count t → content_at words_after t i ≡ content_at words t i
@@ -75,6 +78,7 @@ untouched_good words total words_after after t g u = record {
           | inr p ↦ inr (p.0, p.1, p.2, λ i low below. u.content i below ∙ p.3 i low below)
         ];
   };
+  seal_kept = λ h. rw u.word (g.seal_kept (rw u.seal at h));
 }
 
 -- an untouched title that is held after was held before, by the same sums
@@ -93,11 +97,13 @@ good_by words total words_after after g divided each = record {
   counted = λ t held. (good t held).counted;
   poison_kept = λ t held. (good t held).poison_kept;
   content_kept = λ t held. (good t held).content_kept;
+  seal_kept = λ t held. (good t held).seal_kept;
 }
   where
     good : (t : Title) → IsTitleHeld after t → IsTitleGood words_after after t
     good t held = elim (each t held) [
-      | inl u ↦ untouched_good words total words_after after t (title_of_good words total t g (untouched_held words total words_after after t u held)) u
+      | inl u ↦ untouched_good words total words_after after t
+          (title_of_good words total t g (untouched_held words total words_after after t u held)) u
       | inr k ↦ k
     ]
 
@@ -133,11 +139,13 @@ apart_words n total t u q d held other ne within inside =
 -- a title is untouched by a write to a word that isn't its own, if its handles stay
 pub untouched_by_write : (words : List ℕ) (total after : Thing → ℕ) (u : Title) (p v : ℕ) → (IsWordOf u p → ⊥) →
     after (FreeTitle u) ≡ total (FreeTitle u) → after (OwnOf u) ≡ total (OwnOf u) → after (RefOf u) ≡ total (RefOf u) →
+    after (SealedOwn u) ≡ total (SealedOwn u) →
     ((a : OwnState) → after (OwnAs u a) ≡ total (OwnAs u a)) → IsUntouched words total (set words p v) after u
-untouched_by_write words total after u p v away free own ref state = record {
+untouched_by_write words total after u p v away free own ref seal state = record {
   free = free;
   own = own;
   ref = ref;
+  seal = seal;
   state = state;
   word = get_or-set_other words p (count_place u) v 0 (λ e. away (omega arith, omega arith));
   content = λ i below. get_or-set_other words p (content_place u i) v 0 (λ e. away (omega arith, omega arith));
@@ -148,30 +156,31 @@ pub record IsNoneOf (ps : List Piece) (u : Title) : Type 0 where
   pub free : held_in ps (FreeTitle u) ≡ 0
   pub own : held_in ps (OwnOf u) ≡ 0
   pub ref : held_in ps (RefOf u) ≡ 0
+  pub seal : held_in ps (SealedOwn u) ≡ 0
   pub state : (a : OwnState) → held_in ps (OwnAs u a) ≡ 0
 
 pub nil_none : (u : Title) → IsNoneOf [] u
-nil_none u = record { free = refl; own = refl; ref = refl; state = λ a. refl }
+nil_none u = record { free = refl; own = refl; ref = refl; seal = refl; state = λ a. refl }
 
 pub raw_none : (start len : ℕ) (u : Title) → IsNoneOf (RawPiece start len ∷ []) u
-raw_none start len u = record { free = refl; own = refl; ref = refl; state = λ a. refl }
+raw_none start len u = record { free = refl; own = refl; ref = refl; seal = refl; state = λ a. refl }
 
 pub free_none : (t u : Title) → (t ≡ u → ⊥) → IsNoneOf (FreePiece t ∷ []) u
 free_none t u ne = elim (title_tells t u) [
   | inl y ↦ absurd (ne y.1)
-  | inr n ↦ record { free = rw n.0 refl; own = refl; ref = refl; state = λ a. refl }
+  | inr n ↦ record { free = rw n.0 refl; own = refl; ref = refl; seal = refl; state = λ a. refl }
 ]
 
-pub own_none : (t u : Title) (s : OwnState) → (t ≡ u → ⊥) → IsNoneOf (OwnPiece t s ∷ []) u
-own_none t u s ne = elim (title_tells t u) [
+pub own_none : (sealed : Bool) (t u : Title) (s : OwnState) → (t ≡ u → ⊥) → IsNoneOf (OwnPiece sealed t s ∷ []) u
+own_none sealed t u s ne = elim (title_tells t u) [
   | inl y ↦ absurd (ne y.1)
-  | inr n ↦ record { free = refl; own = rw n.0 refl; ref = refl; state = λ a. rw n.0 refl }
+  | inr n ↦ record { free = refl; own = rw n.0 refl; ref = refl; seal = rw n.0 refl; state = λ a. rw n.0 refl }
 ]
 
 pub ref_none : (t u : Title) → (t ≡ u → ⊥) → IsNoneOf (RefPiece t ∷ []) u
 ref_none t u ne = elim (title_tells t u) [
   | inl y ↦ absurd (ne y.1)
-  | inr n ↦ record { free = refl; own = refl; ref = rw n.0 refl; state = λ a. refl }
+  | inr n ↦ record { free = refl; own = refl; ref = rw n.0 refl; seal = refl; state = λ a. refl }
 ]
 
 -- all things are held as before, but for what is lost and gained
@@ -197,6 +206,7 @@ change_untouched words total after t lost gained p v d held c u ne other =
     (let a = c.changes (FreeTitle u) in let l = (c.lost_here u ne).free in let g = (c.gained_here u ne).free in omega arith)
     (let a = c.changes (OwnOf u) in let l = (c.lost_here u ne).own in let g = (c.gained_here u ne).own in omega arith)
     (let a = c.changes (RefOf u) in let l = (c.lost_here u ne).ref in let g = (c.gained_here u ne).ref in omega arith)
+    (let a = c.changes (SealedOwn u) in let l = (c.lost_here u ne).seal in let g = (c.gained_here u ne).seal in omega arith)
     (λ s. let a = c.changes (OwnAs u s) in let l = (c.lost_here u ne).state s in let g = (c.gained_here u ne).state s in omega arith)
 
 -- another title is held after it exactly when it was held before

@@ -5,15 +5,16 @@ use Rattle.std.proofs.lemmas.List.Sums.{sum_by-cons, get_or-le-sum_by}
 use Rattle.std.proofs.lemmas.Bool.Decides.{eqb_tells}
 use Rattle.pa_slot.specs.declared.title.Title.{Title}
 use Rattle.pa_slot.specs.declared.title.OwnState.{OwnState}
+use Rattle.pa_slot.specs.declared.title.OwnState.TheVariants.{Clean}
 use Rattle.pa_machine.specs.declared.slot.Owner.{Owner}
 use Rattle.pa_machine.specs.declared.slot.Slot.{Slot}
 use Rattle.pa_machine.specs.declared.tables.Tables.{Tables}
-use Rattle.pa_slot.specs.Holdings.{Piece, FreePiece, OwnPiece, RefPiece, Thing, RawByte, FreeTitle, OwnAs, RefOf, one, amount, held_in}
-use Rattle.pa_machine.specs.Events.{of_actor, held_by, Holds, HoldsRaw}
+use Rattle.pa_slot.specs.Holdings.{Piece, FreePiece, OwnPiece, RefPiece, Thing, RawByte, FreeTitle, OwnAs, SealedOwn, RefOf, one, amount, held_in}
+use Rattle.pa_machine.specs.Events.{of_actor, held_by, Holds, HoldsRaw, IsSealedAs}
 use Rattle.pa_machine.specs.Tables.{Place, is_holder, raw_pieces, free_pieces, own_pieces, ref_pieces, slot_pieces, place_pieces, state_of, slot_at, AreSound}
 use Rattle.pa_slot.proofs.Same.{state_tells}
 use Rattle.pa_machine.proofs.Parts.{IsNoneOf}
-use Rattle.pa_machine.proofs.Amounts.{free_self, ref_self, state_here, state_apart}
+use Rattle.pa_machine.proofs.Amounts.{free_self, ref_self, seal_self, state_here, state_apart}
 use Rattle.pa_machine.proofs.Tabled.{held_join, held_tables, raw_titles, raw_amount, place_raw, ref_sum, slots_at, kept_amount}
 
 -- pieces that are there by a test
@@ -23,7 +24,8 @@ if_zero false ps x h = refl
 
 -- an entry's parts
 pub slot_parts : (actor : ℕ) (o : Slot) (x : Thing) → held_in (slot_pieces actor o) x
-    ≡ held_in (free_pieces actor o.title o.free) x + (held_in (own_pieces actor o.title o.own) x + held_in (ref_pieces actor o.title o.refs.items) x)
+    ≡ held_in (free_pieces actor o.title o.free) x + (held_in (own_pieces actor o.title o.own) x + held_in
+    (ref_pieces actor o.title o.refs.items) x)
 slot_parts actor o x =
     let j = held_join (free_pieces actor o.title o.free) (own_pieces actor o.title o.own ++ ref_pieces actor o.title o.refs.items) x in
     let k = held_join (own_pieces actor o.title o.own) (ref_pieces actor o.title o.refs.items) x in
@@ -34,7 +36,8 @@ pub refs_zero : (actor : ℕ) (t : Title) (rs : List ℕ) (x : Thing) → held_i
 refs_zero actor t [] x h = refl
 refs_zero actor t (r ∷ rs) x h = by_test (eqb r actor) (refs_zero actor t rs x h)
   where
-    by_test : (c : Bool) → held_in (ref_pieces actor t rs) x ≡ 0 → held_in (cond c (RefPiece t ∷ ref_pieces actor t rs) (ref_pieces actor t rs)) x ≡ 0
+    by_test : (c : Bool) → held_in (ref_pieces actor t rs) x ≡ 0 →
+        held_in (cond c (RefPiece t ∷ ref_pieces actor t rs) (ref_pieces actor t rs)) x ≡ 0
     by_test false z = z
     by_test true z = let e = sum_by-cons (amount x) (RefPiece t) (ref_pieces actor t rs) in omega arith
 
@@ -42,9 +45,11 @@ frees_zero : (actor : ℕ) (t : Title) (h : Option ℕ) (x : Thing) → held_in 
 frees_zero actor t None x h = refl
 frees_zero actor t (Some other) x h = if_zero (eqb other actor) (FreePiece t ∷ []) x h
 
-owns_zero : (actor : ℕ) (t : Title) (w : Option Owner) (x : Thing) → ((s : OwnState) → held_in (OwnPiece t s ∷ []) x ≡ 0) → held_in (own_pieces actor t w) x ≡ 0
+owns_zero : (actor : ℕ) (t : Title) (w : Option Owner) (x : Thing) →
+    ((sealed : Bool) (s : OwnState) → held_in (OwnPiece sealed t s ∷ []) x ≡ 0) →
+    held_in (own_pieces actor t w) x ≡ 0
 owns_zero actor t None x h = refl
-owns_zero actor t (Some w) x h = if_zero (eqb w.actor actor) (OwnPiece t w.state ∷ []) x (h w.state)
+owns_zero actor t (Some w) x h = if_zero (eqb w.actor actor) (OwnPiece w.sealed t w.state ∷ []) x (h w.sealed w.state)
 
 -- whether an entry is held free by the actor, owned by it in a state, or by a Ref of it
 frees_some : (actor : ℕ) (t : Title) (h : Option ℕ) → 0 < held_in (free_pieces actor t h) (FreeTitle t) → h ≡ Some actor
@@ -57,21 +62,29 @@ frees_some actor t (Some other) has = elim (eqb_tells other actor) [
 frees_here : (actor : ℕ) (t : Title) → held_in (free_pieces actor t (Some actor)) (FreeTitle t) ≡ 1
 frees_here actor t = elim (eqb_tells actor actor) [ inl y ↦ rw y.0 (free_self t) | inr n ↦ absurd (n.1 refl) ]
 
-pub owner_is : (w : Owner) (actor : ℕ) (s : OwnState) → w.actor ≡ actor → w.state ≡ s → Some w ≡ Some (record { actor = actor; state = s })
-owner_is w actor s e f = ap (λ (a : ℕ). let o : Owner = record { actor = a; state = w.state } in Some o) e ∙ ap (λ (q : OwnState). let o : Owner = record { actor = actor; state = q } in Some o) f
+pub owner_is : (w : Owner) (actor : ℕ) (s : OwnState) → w.actor ≡ actor → w.state ≡ s →
+    Some w ≡ Some (record { actor = actor; state = s; sealed = w.sealed })
+owner_is w actor s e f = ap (λ (a : ℕ). let o : Owner = record { actor = a; state = w.state; sealed = w.sealed } in Some o) e ∙
+    ap (λ (q : OwnState). let o : Owner = record { actor = actor; state = q; sealed = w.sealed } in Some o) f
 
-owns_some : (actor : ℕ) (t : Title) (s : OwnState) (h : Option Owner) → 0 < held_in (own_pieces actor t h) (OwnAs t s) → h ≡ Some (record { actor = actor; state = s })
+owns_some : (actor : ℕ) (t : Title) (s : OwnState) (h : Option Owner) → 0 < held_in (own_pieces actor t h) (OwnAs t s) →
+    (sealed : Bool) × (h ≡ Some (record { actor = actor; state = s; sealed = sealed }))
 owns_some actor t s None has = absurd (omega arith)
 owns_some actor t s (Some w) has = elim (eqb_tells w.actor actor) [
   | inl y ↦ elim (state_tells w.state s) [
-    | inl e ↦ owner_is w actor s y.1 e.1
-    | inr m ↦ let z = rw y.0 at has in let none = state_apart t w.state s m.1 in absurd (omega arith)
+    | inl e ↦ (w.sealed, owner_is w actor s y.1 e.1)
+    | inr m ↦ let z = rw y.0 at has in let none = state_apart w.sealed t w.state s m.1 in absurd (omega arith)
   ]
   | inr n ↦ let z = rw n.0 at has in absurd (omega arith)
 ]
 
-owns_here : (actor : ℕ) (t : Title) (s : OwnState) → held_in (own_pieces actor t (Some (record { actor = actor; state = s }))) (OwnAs t s) ≡ 1
-owns_here actor t s = elim (eqb_tells actor actor) [ inl y ↦ rw y.0 (state_here t s) | inr n ↦ absurd (n.1 refl) ]
+owns_here : (actor : ℕ) (t : Title) (s : OwnState) (sealed : Bool) →
+    held_in (own_pieces actor t (Some (record { actor = actor; state = s; sealed = sealed }))) (OwnAs t s) ≡ 1
+owns_here actor t s sealed = elim (eqb_tells actor actor) [ inl y ↦ rw y.0 (state_here sealed t s) | inr n ↦ absurd (n.1 refl) ]
+
+seals_here : (actor : ℕ) (t : Title) (s : OwnState) (sealed : Bool) →
+    held_in (own_pieces actor t (Some (record { actor = actor; state = s; sealed = sealed }))) (SealedOwn t) ≡ one sealed
+seals_here actor t s sealed = elim (eqb_tells actor actor) [ inl y ↦ rw y.0 (seal_self sealed t s) | inr n ↦ absurd (n.1 refl) ]
 
 refs_some : (actor : ℕ) (t : Title) (rs : List ℕ) → 0 < held_in (ref_pieces actor t rs) (RefOf t) → Contains rs actor
 refs_some actor t [] has = absurd (omega arith)
@@ -91,7 +104,8 @@ refs_here actor t rs (k, below, is) =
     omega arith
 
 -- what an actor of the core holds of a title is what the title's entry has for it, if there is one
-pub reads : (c : Tables) (actor : ℕ) (t : Title) (x : Thing) → AreSound c → actor < c.actors → ((ps : List Piece) → IsNoneOf ps t → held_in ps x ≡ 0) →
+pub reads : (c : Tables) (actor : ℕ) (t : Title) (x : Thing) → AreSound c → actor < c.actors →
+    ((ps : List Piece) → IsNoneOf ps t → held_in ps x ≡ 0) →
     ((o : Slot) × (slot_at c.slots.items t ≡ Some o) × (o.title ≡ t) × (held_by (state_of c) actor x ≡ held_in (slot_pieces actor o) x))
     ⊎ ((slot_at c.slots.items t ≡ None) × (held_by (state_of c) actor x ≡ 0))
 reads c actor t x sound has about =
@@ -110,7 +124,7 @@ reads_free c actor t sound has holds = elim (reads c actor t (FreeTitle t) sound
   | inl y ↦
       let e = y.3 in
       let p = slot_parts actor y.0 (FreeTitle t) in
-      let z = owns_zero actor y.0.title y.0.own (FreeTitle t) (λ s. refl) in
+      let z = owns_zero actor y.0.title y.0.own (FreeTitle t) (λ sealed s. refl) in
       let r = refs_zero actor y.0.title y.0.refs.items (FreeTitle t) refl in
       let f : 0 < held_in (free_pieces actor y.0.title y.0.free) (FreeTitle t) = omega arith in
       (y.0, y.1, y.2, frees_some actor y.0.title y.0.free (rw (← y.2) at f))
@@ -133,7 +147,8 @@ free_read c actor t o sound has is free = elim (reads c actor t (FreeTitle t) so
 
 -- the table names the actor as the owner, in this state, of a title whose Own it has
 pub reads_own : (c : Tables) (actor : ℕ) (t : Title) (s : OwnState) → AreSound c → actor < c.actors → Holds (state_of c) actor (OwnAs t s) →
-    (o : Slot) × (slot_at c.slots.items t ≡ Some o) × (o.title ≡ t) × (o.own ≡ Some (record { actor = actor; state = s }))
+    (o : Slot) × (slot_at c.slots.items t ≡ Some o) × (o.title ≡ t) × (sealed : Bool) ×
+    (o.own ≡ Some (record { actor = actor; state = s; sealed = sealed }))
 reads_own c actor t s sound has holds = elim (reads c actor t (OwnAs t s) sound has (λ ps n. n.state s)) [
   | inl y ↦
       let e = y.3 in
@@ -141,20 +156,40 @@ reads_own c actor t s sound has holds = elim (reads c actor t (OwnAs t s) sound 
       let z = frees_zero actor y.0.title y.0.free (OwnAs t s) refl in
       let r = refs_zero actor y.0.title y.0.refs.items (OwnAs t s) refl in
       let f : 0 < held_in (own_pieces actor y.0.title y.0.own) (OwnAs t s) = omega arith in
-      (y.0, y.1, y.2, owns_some actor y.0.title s y.0.own (rw (← y.2) at f))
+      let own = owns_some actor y.0.title s y.0.own (rw (← y.2) at f) in
+      (y.0, y.1, y.2, own.0, own.1)
   | inr n ↦ let e = n.1 in absurd (omega arith)
 ]
 
-pub own_read : (c : Tables) (actor : ℕ) (t : Title) (s : OwnState) (o : Slot) → AreSound c → actor < c.actors → slot_at c.slots.items t ≡ Some o →
-    o.own ≡ Some (record { actor = actor; state = s }) → Holds (state_of c) actor (OwnAs t s)
-own_read c actor t s o sound has is own = elim (reads c actor t (OwnAs t s) sound has (λ ps n. n.state s)) [
+pub own_read : (c : Tables) (actor : ℕ) (t : Title) (s : OwnState) (sealed : Bool) (o : Slot) → AreSound c → actor < c.actors →
+    slot_at c.slots.items t ≡ Some o →
+    o.own ≡ Some (record { actor = actor; state = s; sealed = sealed }) → Holds (state_of c) actor (OwnAs t s)
+own_read c actor t s sealed o sound has is own = elim (reads c actor t (OwnAs t s) sound has (λ ps n. n.state s)) [
   | inl y ↦
       let same : y.0 ≡ o = cc in
       let e = y.3 in
       let p = slot_parts actor y.0 (OwnAs t s) in
       let f : held_in (own_pieces actor y.0.title y.0.own) (OwnAs t s) ≡ 1 =
-      let is_own : y.0.own ≡ Some (record { actor = actor; state = s }) = ap (λ (q : Slot). q.own) same ∙ own in
-      rw (is_own, y.2) (owns_here actor t s) in
+      let is_own : y.0.own ≡ Some (record { actor = actor; state = s; sealed = sealed }) = ap (λ (q : Slot). q.own) same ∙ own in
+      rw (is_own, y.2) (owns_here actor t s sealed) in
+      omega arith
+  | inr n ↦ let e = n.0 in cc
+]
+
+-- the table says whether the Own is sealed that the actor has
+pub seal_read : (c : Tables) (actor : ℕ) (t : Title) (s : OwnState) (sealed : Bool) (o : Slot) → AreSound c → actor < c.actors →
+    slot_at c.slots.items t ≡ Some o →
+    o.own ≡ Some (record { actor = actor; state = s; sealed = sealed }) → IsSealedAs (state_of c) actor t sealed
+seal_read c actor t s sealed o sound has is own = elim (reads c actor t (SealedOwn t) sound has (λ ps n. n.seal)) [
+  | inl y ↦
+      let same : y.0 ≡ o = cc in
+      let e = y.3 in
+      let p = slot_parts actor y.0 (SealedOwn t) in
+      let z = frees_zero actor y.0.title y.0.free (SealedOwn t) refl in
+      let r = refs_zero actor y.0.title y.0.refs.items (SealedOwn t) refl in
+      let f : held_in (own_pieces actor y.0.title y.0.own) (SealedOwn t) ≡ one sealed =
+      let is_own : y.0.own ≡ Some (record { actor = actor; state = s; sealed = sealed }) = ap (λ (q : Slot). q.own) same ∙ own in
+      rw (is_own, y.2) (seals_here actor t s sealed) in
       omega arith
   | inr n ↦ let e = n.0 in cc
 ]
@@ -167,7 +202,7 @@ reads_ref c actor t sound has holds = elim (reads c actor t (RefOf t) sound has 
       let e = y.3 in
       let p = slot_parts actor y.0 (RefOf t) in
       let z = frees_zero actor y.0.title y.0.free (RefOf t) refl in
-      let w = owns_zero actor y.0.title y.0.own (RefOf t) (λ s. refl) in
+      let w = owns_zero actor y.0.title y.0.own (RefOf t) (λ sealed s. refl) in
       let f : 0 < held_in (ref_pieces actor y.0.title y.0.refs.items) (RefOf t) = omega arith in
       (y.0, y.1, y.2, refs_some actor y.0.title y.0.refs.items (rw (← y.2) at f))
   | inr n ↦ let e = n.1 in absurd (omega arith)
@@ -205,17 +240,20 @@ sum_raw actor (p ∷ ps) b =
     let rest = sum_raw actor ps b in
     omega arith
 
-pub raw_is : (c : Tables) (actor b : ℕ) → actor < c.actors → held_by (state_of c) actor (RawByte b) ≡ one (is_holder actor (get_or c.holders.items b None))
+pub raw_is : (c : Tables) (actor b : ℕ) → actor < c.actors →
+    held_by (state_of c) actor (RawByte b) ≡ one (is_holder actor (get_or c.holders.items b None))
 raw_is c actor b has =
     let all = held_tables c.holders.items c.slots.items c.actors actor (RawByte b) has in
     let raw = raw_amount actor c.holders.items b in
     let rest = sum_raw actor c.slots.items b in
     omega arith
 
-pub reads_raw : (c : Tables) (actor b : ℕ) → actor < c.actors → Holds (state_of c) actor (RawByte b) → get_or c.holders.items b None ≡ Some actor
+pub reads_raw : (c : Tables) (actor b : ℕ) → actor < c.actors → Holds (state_of c) actor (RawByte b) →
+    get_or c.holders.items b None ≡ Some actor
 reads_raw c actor b has holds = let e = raw_is c actor b has in holder_some actor (get_or c.holders.items b None) (omega arith)
 
-pub raw_read : (c : Tables) (actor b : ℕ) → actor < c.actors → get_or c.holders.items b None ≡ Some actor → Holds (state_of c) actor (RawByte b)
+pub raw_read : (c : Tables) (actor b : ℕ) → actor < c.actors → get_or c.holders.items b None ≡ Some actor →
+    Holds (state_of c) actor (RawByte b)
 raw_read c actor b has is =
     let e = raw_is c actor b has in
     let f : one (is_holder actor (get_or c.holders.items b None)) ≡ 1 = rw is (holder_here actor) in
@@ -233,14 +271,32 @@ free_same c actor t o sound has is = (
 )
 
 -- the entry of a title that is there names the actor as its owner in this state exactly if the actor has that Own
-pub own_same : (c : Tables) (actor : ℕ) (t : Title) (s : OwnState) (o : Slot) → AreSound c → actor < c.actors → slot_at c.slots.items t ≡ Some o →
-    (o.own ≡ Some (record { actor = actor; state = s })) ↔ Holds (state_of c) actor (OwnAs t s)
+pub own_same : (c : Tables) (actor : ℕ) (t : Title) (s : OwnState) (o : Slot) → AreSound c → actor < c.actors →
+    slot_at c.slots.items t ≡ Some o →
+    ((sealed : Bool) × (o.own ≡ Some (record { actor = actor; state = s; sealed = sealed }))) ↔ Holds (state_of c) actor (OwnAs t s)
 own_same c actor t s o sound has is = (
-  own_read c actor t s o sound has is,
+  λ own. own_read c actor t s own.0 o sound has is own.1,
   λ holds.
       let r = reads_own c actor t s sound has holds in
       let same : r.0 ≡ o = let e = r.1 in cc in
-      ap (λ (q : Slot). q.own) (sym same) ∙ r.3,
+      (r.3, ap (λ (q : Slot). q.own) (sym same) ∙ r.4),
+)
+
+unsealed : (sealed : Bool) → one sealed ≡ 0 → sealed ≡ false
+unsealed true e = absurd (omega arith)
+unsealed false e = refl
+
+-- the entry of a title that is there names the actor as the owner of a clean Own that isn't sealed exactly if the actor has such an Own
+pub copy_same : (c : Tables) (actor : ℕ) (t : Title) (o : Slot) → AreSound c → actor < c.actors → slot_at c.slots.items t ≡ Some o →
+    (o.own ≡ Some (record { actor = actor; state = Clean; sealed = false })) ↔
+    (Holds (state_of c) actor (OwnAs t Clean) × IsSealedAs (state_of c) actor t false)
+copy_same c actor t o sound has is = (
+  λ own. (own_read c actor t Clean false o sound has is own, seal_read c actor t Clean false o sound has is own),
+  λ holds.
+      let own = (own_same c actor t Clean o sound has is).1 holds.0 in
+      let seal = seal_read c actor t Clean own.0 o sound has is own.1 in
+      let none = unsealed own.0 (sym seal ∙ holds.1) in
+      subst (λ (b : Bool). o.own ≡ Some (record { actor = actor; state = Clean; sealed = b })) none own.1,
 )
 
 -- the entry of a title that is there names the actor among those with a Ref exactly if the actor has a Ref
@@ -255,15 +311,18 @@ ref_same c actor t o sound has is = (
 )
 
 -- nobody holds a title free that has no entry
-pub none_free : (c : Tables) (actor : ℕ) (t : Title) → AreSound c → actor < c.actors → slot_at c.slots.items t ≡ None → Holds (state_of c) actor (FreeTitle t) → ⊥
+pub none_free : (c : Tables) (actor : ℕ) (t : Title) → AreSound c → actor < c.actors → slot_at c.slots.items t ≡ None →
+    Holds (state_of c) actor (FreeTitle t) → ⊥
 none_free c actor t sound has is holds = let r = reads_free c actor t sound has holds in let e = r.1 in cc
 
 -- nobody has the Own of a title that has no entry
-pub none_own : (c : Tables) (actor : ℕ) (t : Title) (s : OwnState) → AreSound c → actor < c.actors → slot_at c.slots.items t ≡ None → Holds (state_of c) actor (OwnAs t s) → ⊥
+pub none_own : (c : Tables) (actor : ℕ) (t : Title) (s : OwnState) → AreSound c → actor < c.actors → slot_at c.slots.items t ≡ None →
+    Holds (state_of c) actor (OwnAs t s) → ⊥
 none_own c actor t s sound has is holds = let r = reads_own c actor t s sound has holds in let e = r.1 in cc
 
 -- nobody has a Ref of a title that has no entry
-pub none_ref : (c : Tables) (actor : ℕ) (t : Title) → AreSound c → actor < c.actors → slot_at c.slots.items t ≡ None → Holds (state_of c) actor (RefOf t) → ⊥
+pub none_ref : (c : Tables) (actor : ℕ) (t : Title) → AreSound c → actor < c.actors → slot_at c.slots.items t ≡ None →
+    Holds (state_of c) actor (RefOf t) → ⊥
 none_ref c actor t sound has is holds = let r = reads_ref c actor t sound has holds in let e = r.1 in cc
 
 -- a whole range, byte by byte

@@ -8,7 +8,7 @@ use Rattle.std.proofs.lemmas.Bool.{cases_lt}
 use Rattle.pa_slot.specs.declared.title.Title.{Title}
 use Rattle.pa_slot.specs.declared.title.OwnState.TheVariants.{Clean, Poisoned}
 use Rattle.pa_machine.specs.declared.tables.Tables.{Tables}
-use Rattle.pa_slot.specs.Holdings.{RawPiece, Thing, RawByte, FreeTitle, OwnOf, OwnAs, RefOf, IsTitleHeld, held_in, one}
+use Rattle.pa_slot.specs.Holdings.{RawPiece, Thing, RawByte, FreeTitle, OwnOf, OwnAs, SealedOwn, RefOf, IsTitleHeld, held_in, one}
 use Rattle.pa_machine.specs.Good.{IsGood}
 use Rattle.pa_machine.specs.Events.{IsStart, held_by, total_of, of_actor}
 use Rattle.pa_machine.specs.Trail.{KeepsContent}
@@ -45,18 +45,21 @@ start_titles c bytes actors actor x st has none =
     let z : sum_by (λ p. held_in (place_pieces actor p) x) c.slots.items ≡ 0 = rw st.slots (no_places actor (bytes / 8) x) in
     omega arith
 
-start_held : (c : Tables) (bytes actors actor : ℕ) → IsStartTables bytes actors c → actor < c.actors → (x : Thing) → held_by (state_of c) actor x ≡ held_in (of_actor 0 (RawPiece 0 bytes ∷ []) actor) x
+start_held : (c : Tables) (bytes actors actor : ℕ) → IsStartTables bytes actors c → actor < c.actors → (x : Thing) →
+    held_by (state_of c) actor x ≡ held_in (of_actor 0 (RawPiece 0 bytes ∷ []) actor) x
 start_held c bytes actors actor st has (RawByte b) =
     let e = raw_is c actor b has in
     elim (cases_lt b bytes) [
       | inl below ↦
           let here : get_or c.holders.items b None ≡ Some 0 = rw st.holders (get_or-replicate bytes b (Some 0) None below) in
-          let x : one (is_holder actor (get_or c.holders.items b None)) ≡ one (is_holder actor (Some 0)) = ap (λ q. one (is_holder actor q)) here in
+          let x : one (is_holder actor (get_or c.holders.items b None)) ≡ one (is_holder actor (Some 0)) =
+          ap (λ q. one (is_holder actor q)) here in
           let y = one_of actor 0 (RawPiece 0 bytes ∷ []) (RawByte b) (covered_raw 0 bytes b (omega arith) (omega arith)) in
           omega arith
       | inr past ↦
           let len : length c.holders.items ≡ bytes = rw st.holders (length-replicate bytes (Some 0)) in
-          let x : one (is_holder actor (get_or c.holders.items b None)) ≡ 0 = ap (λ q. one (is_holder actor q)) (get_or_past c.holders.items b None (omega arith)) in
+          let x : one (is_holder actor (get_or c.holders.items b None)) ≡ 0 =
+          ap (λ q. one (is_holder actor q)) (get_or_past c.holders.items b None (omega arith)) in
           let y = none_of actor 0 (RawPiece 0 bytes ∷ []) (RawByte b) (uncovered_raw 0 bytes b (inr (omega arith))) in
           omega arith
     ]
@@ -66,11 +69,14 @@ start_held c bytes actors actor st has (OwnOf t) = start_titles c bytes actors a
     (raw_titles actor 0 c.holders.items t).own ∙ sym (none_of actor 0 (RawPiece 0 bytes ∷ []) (OwnOf t) refl)
 start_held c bytes actors actor st has (OwnAs t s) = start_titles c bytes actors actor (OwnAs t s) st has
     ((raw_titles actor 0 c.holders.items t).state s) ∙ sym (none_of actor 0 (RawPiece 0 bytes ∷ []) (OwnAs t s) refl)
+start_held c bytes actors actor st has (SealedOwn t) = start_titles c bytes actors actor (SealedOwn t) st has
+    (raw_titles actor 0 c.holders.items t).seal ∙ sym (none_of actor 0 (RawPiece 0 bytes ∷ []) (SealedOwn t) refl)
 start_held c bytes actors actor st has (RefOf t) = start_titles c bytes actors actor (RefOf t) st has
     (raw_titles actor 0 c.holders.items t).ref ∙ sym (none_of actor 0 (RawPiece 0 bytes ∷ []) (RefOf t) refl)
 
 -- all actors together hold each byte once at the start, and no title
-start_total : (c : Tables) (bytes actors : ℕ) → IsStartTables bytes actors c → 1 ≤ actors → (x : Thing) → total_of (state_of c) x ≡ held_in (RawPiece 0 bytes ∷ []) x
+start_total : (c : Tables) (bytes actors : ℕ) → IsStartTables bytes actors c → 1 ≤ actors → (x : Thing) →
+    total_of (state_of c) x ≡ held_in (RawPiece 0 bytes ∷ []) x
 start_total c bytes actors st some_actor x =
     let count = length-map-range_with_len (pieces_of c.holders.items c.slots.items) 0 c.actors in
     let n = st.count in
@@ -83,14 +89,16 @@ start_total c bytes actors st some_actor x =
     ])
     (omega arith)
 
-no_title : (c : Tables) (bytes actors : ℕ) (t : Title) → IsStartTables bytes actors c → 1 ≤ actors → IsTitleHeld (total_of (state_of c)) t → ⊥
+no_title : (c : Tables) (bytes actors : ℕ) (t : Title) → IsStartTables bytes actors c → 1 ≤ actors → IsTitleHeld (total_of (state_of c)) t →
+    ⊥
 no_title c bytes actors t st some_actor held =
     let a = start_total c bytes actors st some_actor (FreeTitle t) in
     let b = start_total c bytes actors st some_actor (OwnOf t) in
     let d = start_total c bytes actors st some_actor (RefOf t) in
     omega arith
 
-start_good : (c : Tables) (bytes actors : ℕ) → IsStartTables bytes actors c → bytes % 8 ≡ 0 → 1 ≤ actors → IsGood c.words.items (total_of (state_of c))
+start_good : (c : Tables) (bytes actors : ℕ) → IsStartTables bytes actors c → bytes % 8 ≡ 0 → 1 ≤ actors →
+    IsGood c.words.items (total_of (state_of c))
 start_good c bytes actors st whole some_actor = record {
   divided = record {
     bytes = λ b below. inl (
@@ -108,6 +116,7 @@ start_good c bytes actors st whole some_actor = record {
   counted = λ t held. absurd (no_title c bytes actors t st some_actor held);
   poison_kept = λ t held. absurd (no_title c bytes actors t st some_actor held);
   content_kept = λ t held. absurd (no_title c bytes actors t st some_actor held);
+  seal_kept = λ t held. absurd (no_title c bytes actors t st some_actor held);
 }
 
 pub start_sound : (c : Tables) (bytes actors : ℕ) → IsStartTables bytes actors c → bytes % 8 ≡ 0 → 1 ≤ actors → AreSound c
@@ -120,7 +129,8 @@ start_sound c bytes actors st whole some_actor =
       holders = omega arith;
       slots = omega arith;
       homes = omega arith;
-      placed = λ i. subst (λ (q : Place). IsPlaced (length c.words.items) c.actors i q) (sym (ap (λ (v : List Place). get_or v i None) st.slots ∙ no_place_at (bytes / 8) i)) tt;
+      placed = λ i. subst (λ (q : Place). IsPlaced (length c.words.items) c.actors i q)
+          (sym (ap (λ (v : List Place). get_or v i None) st.slots ∙ no_place_at (bytes / 8) i)) tt;
       pointed = λ t q held low high. absurd (no_title c bytes actors t st some_actor held);
       good = start_good c bytes actors st whole some_actor;
     }
@@ -136,7 +146,8 @@ start_is c bytes actors st =
       held = λ actor x has. start_held c bytes actors actor st (omega arith) x;
     }
 
-pub start_content : (c : Tables) (bytes actors : ℕ) → IsStartTables bytes actors c → 1 ≤ actors → (last : Title → ℕ) → KeepsContent (state_of c) last
+pub start_content : (c : Tables) (bytes actors : ℕ) → IsStartTables bytes actors c → 1 ≤ actors → (last : Title → ℕ) →
+    KeepsContent (state_of c) last
 start_content c bytes actors st some_actor last = record {
   clean = λ t h. let e = start_total c bytes actors st some_actor (OwnAs t Clean) in absurd (omega arith);
   beyond = λ t j r h. let e = start_total c bytes actors st some_actor (OwnAs t (Poisoned j)) in absurd (omega arith);

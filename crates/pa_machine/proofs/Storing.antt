@@ -1,5 +1,5 @@
 -- A store and a poisoning keep their title good.
-use Rattle.std.proofs.Common.{◌≡◌, ℕ, ◌+◌, ◌<◌, ◌≤◌, List, [], ◌∷◌, ◌∙◌, arith, inl, inr}
+use Rattle.std.proofs.Common.{◌≡◌, ℕ, ◌+◌, ◌<◌, ◌≤◌, Bool, List, [], ◌∷◌, ◌∙◌, arith, inl, inr}
 use Rattle.std.proofs.lemmas.Bool.{cases_eq}
 use Rattle.pa_slot.specs.declared.title.Title.{Title}
 use Rattle.pa_slot.specs.declared.title.OwnState.{OwnState}
@@ -7,36 +7,40 @@ use Rattle.pa_slot.specs.declared.title.OwnState.TheVariants.{Clean, Dirty, Pois
 use Rattle.pa_slot.specs.Count.{refs_of}
 use Rattle.pa_slot.specs.Run.{IsFree}
 use Rattle.pa_slot.specs.Titles.{content_count, content_at, count_word, HasContentFrom, IsPoisonedTo, poison, progress}
-use Rattle.pa_slot.specs.Holdings.{OwnPiece, Thing, FreeTitle, OwnOf, OwnAs, RefOf, held_in}
+use Rattle.pa_slot.specs.Holdings.{OwnPiece, Thing, FreeTitle, OwnOf, OwnAs, SealedOwn, RefOf, held_in}
 use Rattle.pa_machine.specs.Good.{IsCounted}
 use Rattle.pa_slot.proofs.Arith.{held_small}
 use Rattle.pa_slot.proofs.Same.{state_tells}
 use Rattle.pa_machine.proofs.Totals.{IsTally}
 use Rattle.pa_machine.proofs.Parts.{free_or, IsTitleGood, Changes}
-use Rattle.pa_machine.proofs.Amounts.{own_self, state_here, state_apart}
+use Rattle.pa_machine.proofs.Amounts.{own_self, seal_self, state_here, state_apart}
 
 -- After an Own of t in one state became one in another, there is an Own in that state, and none in any third.
 pub record IsRestated (total later : Thing → ℕ) (t : Title) (from to : OwnState) : Type 0 where
   pub free : later (FreeTitle t) ≡ total (FreeTitle t)
   pub own : later (OwnOf t) ≡ total (OwnOf t)
   pub ref : later (RefOf t) ≡ total (RefOf t)
+  pub seal : later (SealedOwn t) ≡ total (SealedOwn t)
   pub now : 0 < later (OwnAs t to)
 
-pub restated : (total later : Thing → ℕ) (t : Title) (from to : OwnState) → 0 < total (OwnAs t from) →
-    Changes total (OwnPiece t from ∷ []) (OwnPiece t to ∷ []) later → IsRestated total later t from to
-restated total later t from to has c =
+pub restated : (sealed : Bool) (total later : Thing → ℕ) (t : Title) (from to : OwnState) → 0 < total (OwnAs t from) →
+    Changes total (OwnPiece sealed t from ∷ []) (OwnPiece sealed t to ∷ []) later → IsRestated total later t from to
+restated sealed total later t from to has c =
     let free = c (FreeTitle t) in
     let own = c (OwnOf t) in
     let ref = c (RefOf t) in
     let in_state = c (OwnAs t to) in
-    let o1 = own_self t from in
-    let o2 = own_self t to in
-    let m = state_here t to in
-    let lost : held_in (OwnPiece t from ∷ []) (OwnAs t to) ≤ total (OwnAs t to) = elim (state_tells from to) [
-      | inl y ↦ rw (y.1, state_here t to) (rw y.1 at has)
-      | inr n ↦ rw (state_apart t from to n.1) (omega arith)
+    let o1 = own_self sealed t from in
+    let o2 = own_self sealed t to in
+    let seals = c (SealedOwn t) in
+    let s1 = seal_self sealed t from in
+    let s2 = seal_self sealed t to in
+    let m = state_here sealed t to in
+    let lost : held_in (OwnPiece sealed t from ∷ []) (OwnAs t to) ≤ total (OwnAs t to) = elim (state_tells from to) [
+      | inl y ↦ rw (y.1, state_here sealed t to) (rw y.1 at has)
+      | inr n ↦ rw (state_apart sealed t from to n.1) (omega arith)
     ] in
-    record { free = omega arith; own = omega arith; ref = omega arith; now = omega arith }
+    record { free = omega arith; own = omega arith; ref = omega arith; seal = omega arith; now = omega arith }
 
 -- with at most one Own, a state that one has is the state
 pub one_state : (later : Thing → ℕ) (t : Title) (a b : OwnState) → IsTally later → later (OwnOf t) ≤ 1 →
@@ -58,11 +62,13 @@ same_counted words after total later t g w free own ref = record {
 }
 
 -- a store to a content word of an Own to which no Ref points
-pub store_own_good : (words after : List ℕ) (total later : Thing → ℕ) (t : Title) (state : OwnState) → IsTitleGood words total t →
+pub store_own_good : (sealed : Bool) (words after : List ℕ) (total later : Thing → ℕ) (t : Title) (state : OwnState) →
+    IsTitleGood words total t →
     IsTally total → IsTally later → count_word after t ≡ count_word words t → 0 < total (OwnAs t state) →
-    refs_of (count_word words t) ≡ 0 → Changes total (OwnPiece t state ∷ []) (OwnPiece t Dirty ∷ []) later → IsTitleGood after later t
-store_own_good words after total later t state g tally tallied w has none c =
-    let r = restated total later t state Dirty has c in
+    refs_of (count_word words t) ≡ 0 → Changes total (OwnPiece sealed t state ∷ []) (OwnPiece sealed t Dirty ∷ []) later →
+    IsTitleGood after later t
+store_own_good sealed words after total later t state g tally tallied w has none c =
+    let r = restated sealed total later t state Dirty has c in
     let own = r.own in
     let owns = g.counted.owns in
     let small = held_small (count_word words t) in
@@ -79,6 +85,7 @@ store_own_good words after total later t state g tally tallied w has none c =
         clean = λ h. let e = one_state later t Dirty Clean tallied few now h in cc;
         shared = λ other many _. let z = rw w at many in absurd (omega arith);
       };
+      seal_kept = λ _. rw w none;
     }
 
 -- a store to a content word of a free title
@@ -107,6 +114,7 @@ store_free_good words after total later t g tallied w has same =
         clean = λ m. let p = tallied.part t Clean in absurd (omega arith);
         shared = λ other many m. let p = tallied.part t other in absurd (omega arith);
       };
+      seal_kept = λ m. let p = tallied.seal t in absurd (omega arith);
     }
 
 -- the words with the title's content word p poisoned
@@ -116,18 +124,21 @@ pub record IsWrittenContent (words after : List ℕ) (t : Title) (p v : ℕ) : T
   pub others : (i : ℕ) → (i ≡ p → ⊥) → content_at after t i ≡ content_at words t i
 
 -- the words below the new progress are poison
-poisoned_more : (words after : List ℕ) (t : Title) (p : ℕ) → IsWrittenContent words after t p poison → IsPoisonedTo words t p → IsPoisonedTo after t (p + 1)
+poisoned_more : (words after : List ℕ) (t : Title) (p : ℕ) → IsWrittenContent words after t p poison → IsPoisonedTo words t p →
+    IsPoisonedTo after t (p + 1)
 poisoned_more words after t p w h i below = elim (cases_eq i p) [
   | inl e ↦ rw e w.here
   | inr n ↦ w.others i n ∙ h i (omega arith)
 ]
 
 -- the words from the new progress on are as before
-left_more : (words after : List ℕ) (t : Title) (p j value : ℕ) → IsWrittenContent words after t p poison → j ≤ p + 1 → HasContentFrom words t j value → HasContentFrom after t (p + 1) value
+left_more : (words after : List ℕ) (t : Title) (p j value : ℕ) → IsWrittenContent words after t p poison → j ≤ p + 1 →
+    HasContentFrom words t j value → HasContentFrom after t (p + 1) value
 left_more words after t p j value w low h = λ i above below. w.others i (λ e. omega arith) ∙ h i (omega arith) below
 
 -- what an Own's first words hold, by its state
-pub poisoned_so_far : (words : List ℕ) (total : Thing → ℕ) (t : Title) (state : OwnState) → IsTitleGood words total t → 0 < total (OwnAs t state) → IsPoisonedTo words t (progress state)
+pub poisoned_so_far : (words : List ℕ) (total : Thing → ℕ) (t : Title) (state : OwnState) → IsTitleGood words total t →
+    0 < total (OwnAs t state) → IsPoisonedTo words t (progress state)
 poisoned_so_far words total t Clean g has = λ i below. absurd (omega arith)
 poisoned_so_far words total t Dirty g has = λ i below. absurd (omega arith)
 poisoned_so_far words total t (Poisoned j) g has = (g.poison_kept.progress j has).1
@@ -145,13 +156,15 @@ shared_so_far words total t (Poisoned j) g many has = elim (g.content_kept.share
   | inr p ↦ let e = p.1 in let f : j ≡ p.0 = cc in (p.2, rw f p.3)
 ]
 
-pub poison_good : (words after : List ℕ) (total later : Thing → ℕ) (t : Title) (state : OwnState) → IsTitleGood words total t →
+pub poison_good : (sealed : Bool) (words after : List ℕ) (total later : Thing → ℕ) (t : Title) (state : OwnState) →
+    IsTitleGood words total t →
     IsTally total → IsTally later → IsWrittenContent words after t (progress state) poison → progress state < content_count t →
     0 < total (OwnAs t state) →
-    Changes total (OwnPiece t state ∷ []) (OwnPiece t (Poisoned (progress state + 1)) ∷ []) later → IsTitleGood after later t
-poison_good words after total later t state g tally tallied w room has c =
+    Changes total (OwnPiece sealed t state ∷ []) (OwnPiece sealed t (Poisoned (progress state + 1)) ∷ []) later →
+    IsTitleGood after later t
+poison_good sealed words after total later t state g tally tallied w room has c =
     let next = Poisoned (progress state + 1) in
-    let r = restated total later t state next has c in
+    let r = restated sealed total later t state next has c in
     let own = r.own in
     let owns = g.counted.owns in
     let small = held_small (count_word words t) in
@@ -174,4 +187,5 @@ poison_good words after total later t state g tally tallied w room has c =
             let value = shared_so_far words total t state g (rw w.word at many) has in
             inr (progress state + 1, e, value.0, left_more words after t (progress state) (progress state) value.0 w (omega arith) value.1);
       };
+      seal_kept = λ h. rw w.word (g.seal_kept (rw r.seal at h));
     }

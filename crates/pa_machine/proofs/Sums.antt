@@ -14,7 +14,8 @@ spread-zero (x ∷ xs) f h = let e = spread-zero xs (λ i. f (suc i)) (λ i. h (
     let e0 = h 0 in omega arith
 
 -- a function that is 0 but at one place
-pub spread-one : {A : Type 0} (xs : List A) (f : ℕ → ℕ) (a v : ℕ) → f a ≡ v → ((i : ℕ) → (i ≡ a → ⊥) → f i ≡ 0) → a < length xs → spread f xs ≡ v
+pub spread-one : {A : Type 0} (xs : List A) (f : ℕ → ℕ) (a v : ℕ) → f a ≡ v → ((i : ℕ) → (i ≡ a → ⊥) → f i ≡ 0) → a < length xs →
+    spread f xs ≡ v
 spread-one [] f a v h z l = absurd (omega arith)
 spread-one (x ∷ xs) f zero v h z l =
     let e = spread-zero xs (λ i. f (suc i)) (λ i. z (suc i) (λ q. omega arith)) in omega arith

@@ -7,7 +7,7 @@ use Rattle.std.proofs.lemmas.Bool.Decides.{eqb_tells, nat_tests}
 use Rattle.pa_slot.specs.declared.title.Title.{Title}
 use Rattle.pa_machine.specs.declared.slot.Owner.{Owner}
 use Rattle.pa_machine.specs.declared.slot.Slot.{Slot}
-use Rattle.pa_slot.specs.Holdings.{Piece, RawPiece, FreePiece, OwnPiece, RefPiece, Thing, RawByte, FreeTitle, OwnOf, OwnAs, RefOf, one, amount, held_in}
+use Rattle.pa_slot.specs.Holdings.{Piece, RawPiece, FreePiece, OwnPiece, RefPiece, Thing, RawByte, FreeTitle, OwnOf, OwnAs, SealedOwn, RefOf, one, amount, held_in}
 use Rattle.pa_machine.specs.Events.{of_actor}
 use Rattle.pa_machine.specs.Tables.{Place, is_holder, raw_pieces, free_pieces, own_pieces, ref_pieces, slot_pieces, place_pieces, pieces_of, holdings_of, kept_as, IsPlaced}
 use Rattle.pa_slot.proofs.Same.{title_tells}
@@ -18,7 +18,8 @@ pub held_join : (ps qs : List Piece) (x : Thing) → held_in (ps ++ qs) x ≡ he
 held_join ps qs x = sum_by-append (amount x) ps qs
 
 -- what a list of places holds for an actor is the sum over the places
-pub held_flat : (actor : ℕ) (slots : List Place) (x : Thing) → held_in (flat_map (place_pieces actor) slots) x ≡ sum_by (λ p. held_in (place_pieces actor p) x) slots
+pub held_flat : (actor : ℕ) (slots : List Place) (x : Thing) →
+    held_in (flat_map (place_pieces actor) slots) x ≡ sum_by (λ p. held_in (place_pieces actor p) x) slots
 held_flat actor [] x = refl
 held_flat actor (p ∷ ps) x =
     let again = held_flat actor ps x in
@@ -32,7 +33,8 @@ pub held_tables : (holders : List (Option ℕ)) (slots : List Place) (actors act
     ≡ held_in (raw_pieces actor 0 holders) x + sum_by (λ p. held_in (place_pieces actor p) x) slots
 held_tables holders slots actors actor x has =
     let e = get_or-map-range_with_len (pieces_of holders slots) 0 actors actor actor [] has (omega arith) in
-    rw e (held_join (raw_pieces actor 0 holders) (flat_map (place_pieces actor) slots) x ∙ ap (λ n. held_in (raw_pieces actor 0 holders) x + n) (held_flat actor slots x))
+    rw e (held_join (raw_pieces actor 0 holders) (flat_map (place_pieces actor) slots) x ∙
+    ap (λ n. held_in (raw_pieces actor 0 holders) x + n) (held_flat actor slots x))
 
 -- pieces that are none of a title, joined
 none_join : (ps qs : List Piece) (t : Title) → IsNoneOf ps t → IsNoneOf qs t → IsNoneOf (ps ++ qs) t
@@ -40,6 +42,7 @@ none_join ps qs t a b = record {
   free = let e = held_join ps qs (FreeTitle t) in let x = a.free in let y = b.free in omega arith;
   own = let e = held_join ps qs (OwnOf t) in let x = a.own in let y = b.own in omega arith;
   ref = let e = held_join ps qs (RefOf t) in let x = a.ref in let y = b.ref in omega arith;
+  seal = let e = held_join ps qs (SealedOwn t) in let x = a.seal in let y = b.seal in omega arith;
   state = λ s. let e = held_join ps qs (OwnAs t s) in let x = a.state s in let y = b.state s in omega arith;
 }
 
@@ -52,9 +55,11 @@ pub raw_titles : (actor b : ℕ) (hs : List (Option ℕ)) (t : Title) → IsNone
 raw_titles actor b [] t = nil_none t
 raw_titles actor b (h ∷ hs) t = by_test (is_holder actor h) (raw_titles actor (b + 1) hs t)
   where
-    by_test : (c : Bool) → IsNoneOf (raw_pieces actor (b + 1) hs) t → IsNoneOf (cond c (RawPiece b 1 ∷ raw_pieces actor (b + 1) hs) (raw_pieces actor (b + 1) hs)) t
+    by_test : (c : Bool) → IsNoneOf (raw_pieces actor (b + 1) hs) t →
+        IsNoneOf (cond c (RawPiece b 1 ∷ raw_pieces actor (b + 1) hs) (raw_pieces actor (b + 1) hs)) t
     by_test false r = r
-    by_test true r = none_join (RawPiece b 1 ∷ []) (raw_pieces actor (b + 1) hs) t (record { free = refl; own = refl; ref = refl; state = λ s. refl }) r
+    by_test true r = none_join (RawPiece b 1 ∷ []) (raw_pieces actor (b + 1) hs) t
+        (record { free = refl; own = refl; ref = refl; seal = refl; state = λ s. refl }) r
 
 raw_head : (k b : ℕ) → amount (RawByte b) (RawPiece k 1) ≡ one (eqb k b)
 raw_head k b = elim (eqb_tells k b) [
@@ -63,7 +68,8 @@ raw_head k b = elim (eqb_tells k b) [
 ]
 
 raw_cons : (actor k : ℕ) (h : Option ℕ) (hs : List (Option ℕ)) (b : ℕ) →
-    held_in (raw_pieces actor k (h ∷ hs)) (RawByte b) ≡ cond (is_holder actor h) (one (eqb k b)) 0 + held_in (raw_pieces actor (k + 1) hs) (RawByte b)
+    held_in (raw_pieces actor k (h ∷ hs)) (RawByte b) ≡ cond (is_holder actor h) (one (eqb k b)) 0 + held_in (raw_pieces actor (k + 1) hs)
+    (RawByte b)
 raw_cons actor k h hs b = by_test (is_holder actor h)
   where
     by_test : (c : Bool) → held_in (cond c (RawPiece k 1 ∷ raw_pieces actor (k + 1) hs) (raw_pieces actor (k + 1) hs)) (RawByte b)
@@ -93,7 +99,8 @@ raw_below actor k (h ∷ hs) b low = elim (eqb_tells k b) [
 ]
 
 -- byte k + b is raw for an actor if the table names it there
-raw_from : (actor k : ℕ) (hs : List (Option ℕ)) (b : ℕ) → held_in (raw_pieces actor k hs) (RawByte (k + b)) ≡ one (is_holder actor (get_or hs b None))
+raw_from : (actor k : ℕ) (hs : List (Option ℕ)) (b : ℕ) →
+    held_in (raw_pieces actor k hs) (RawByte (k + b)) ≡ one (is_holder actor (get_or hs b None))
 raw_from actor k [] b = refl
 raw_from actor k (h ∷ hs) zero = elim (eqb_tells k (k + 0)) [
   | inl y ↦
@@ -112,7 +119,8 @@ raw_from actor k (h ∷ hs) (suc b) = elim (eqb_tells k (k + suc b)) [
       raw_cons actor k h hs (k + suc b) ∙ rw n.0 (omega arith)
 ]
 
-pub raw_amount : (actor : ℕ) (hs : List (Option ℕ)) (b : ℕ) → held_in (raw_pieces actor 0 hs) (RawByte b) ≡ one (is_holder actor (get_or hs b None))
+pub raw_amount : (actor : ℕ) (hs : List (Option ℕ)) (b : ℕ) →
+    held_in (raw_pieces actor 0 hs) (RawByte b) ≡ one (is_holder actor (get_or hs b None))
 raw_amount actor hs b = let e : 0 + b ≡ b = omega arith in rw e at (raw_from actor 0 hs b)
 
 -- a title's entry holds no raw bytes
@@ -120,7 +128,8 @@ pub place_raw : (actor : ℕ) (p : Place) (b : ℕ) → held_in (place_pieces ac
 place_raw actor None b = refl
 place_raw actor (Some x) b =
     let o = x.value in
-    let j = held_join (free_pieces actor o.title o.free) (own_pieces actor o.title o.own ++ ref_pieces actor o.title o.refs.items) (RawByte b) in
+    let j = held_join (free_pieces actor o.title o.free) (own_pieces actor o.title o.own ++ ref_pieces actor o.title o.refs.items)
+    (RawByte b) in
     let k = held_join (own_pieces actor o.title o.own) (ref_pieces actor o.title o.refs.items) (RawByte b) in
     let f = free_raw o.free in
     let g = own_raw o.own in
@@ -137,19 +146,22 @@ place_raw actor (Some x) b =
 
     own_raw : (h : Option Owner) → held_in (own_pieces actor x.value.title h) (RawByte b) ≡ 0
     own_raw None = refl
-    own_raw (Some w) = if_raw (eqb w.actor actor) (OwnPiece x.value.title w.state ∷ []) refl
+    own_raw (Some w) = if_raw (eqb w.actor actor) (OwnPiece w.sealed x.value.title w.state ∷ []) refl
 
     refs_raw : (rs : List ℕ) → held_in (ref_pieces actor x.value.title rs) (RawByte b) ≡ 0
     refs_raw [] = refl
     refs_raw (r ∷ rs) = by_test (eqb r actor) (refs_raw rs)
       where
         by_test : (c : Bool) → held_in (ref_pieces actor x.value.title rs) (RawByte b) ≡ 0 →
-            held_in (cond c (RefPiece x.value.title ∷ ref_pieces actor x.value.title rs) (ref_pieces actor x.value.title rs)) (RawByte b) ≡ 0
+            held_in (cond c (RefPiece x.value.title ∷ ref_pieces actor x.value.title rs) (ref_pieces actor x.value.title rs))
+            (RawByte b) ≡ 0
         by_test false h = h
-        by_test true h = let e = sum_by-cons (amount (RawByte b)) (RefPiece x.value.title) (ref_pieces actor x.value.title rs) in omega arith
+        by_test true h = let e = sum_by-cons (amount (RawByte b)) (RefPiece x.value.title) (ref_pieces actor x.value.title rs) in
+            omega arith
 
 -- the Refs of an entry, as a sum over them
-pub ref_sum : (actor : ℕ) (t : Title) (rs : List ℕ) (x : Thing) → held_in (ref_pieces actor t rs) x ≡ sum_by (λ r. held_in (of_actor r (RefPiece t ∷ []) actor) x) rs
+pub ref_sum : (actor : ℕ) (t : Title) (rs : List ℕ) (x : Thing) →
+    held_in (ref_pieces actor t rs) x ≡ sum_by (λ r. held_in (of_actor r (RefPiece t ∷ []) actor) x) rs
 ref_sum actor t [] x = refl
 ref_sum actor t (r ∷ rs) x =
     let again = ref_sum actor t rs x in
@@ -157,7 +169,8 @@ ref_sum actor t (r ∷ rs) x =
     let head = by_test (eqb r actor) in
     omega arith
   where
-    by_test : (c : Bool) → held_in (cond c (RefPiece t ∷ ref_pieces actor t rs) (ref_pieces actor t rs)) x ≡ held_in (cond c (RefPiece t ∷ []) []) x + held_in (ref_pieces actor t rs) x
+    by_test : (c : Bool) → held_in (cond c (RefPiece t ∷ ref_pieces actor t rs) (ref_pieces actor t rs)) x ≡ held_in
+        (cond c (RefPiece t ∷ []) []) x + held_in (ref_pieces actor t rs) x
     by_test false = omega arith
     by_test true = let e = sum_by-cons (amount x) (RefPiece t) (ref_pieces actor t rs) in omega arith
 
@@ -165,7 +178,8 @@ refs_none : (actor : ℕ) (t u : Title) (rs : List ℕ) → (t ≡ u → ⊥) �
 refs_none actor t u [] ne = nil_none u
 refs_none actor t u (r ∷ rs) ne = by_test (eqb r actor) (refs_none actor t u rs ne)
   where
-    by_test : (c : Bool) → IsNoneOf (ref_pieces actor t rs) u → IsNoneOf (cond c (RefPiece t ∷ ref_pieces actor t rs) (ref_pieces actor t rs)) u
+    by_test : (c : Bool) → IsNoneOf (ref_pieces actor t rs) u →
+        IsNoneOf (cond c (RefPiece t ∷ ref_pieces actor t rs) (ref_pieces actor t rs)) u
     by_test false h = h
     by_test true h = none_join (RefPiece t ∷ []) (ref_pieces actor t rs) u (ref_none t u ne) h
 
@@ -173,7 +187,8 @@ refs_none actor t u (r ∷ rs) ne = by_test (eqb r actor) (refs_none actor t u r
 pub slot_none : (actor : ℕ) (o : Slot) (u : Title) → (o.title ≡ u → ⊥) → IsNoneOf (slot_pieces actor o) u
 slot_none actor o u ne =
     none_join (free_pieces actor o.title o.free) (own_pieces actor o.title o.own ++ ref_pieces actor o.title o.refs.items) u (frees o.free)
-    (none_join (own_pieces actor o.title o.own) (ref_pieces actor o.title o.refs.items) u (owns o.own) (refs_none actor o.title u o.refs.items ne))
+    (none_join (own_pieces actor o.title o.own) (ref_pieces actor o.title o.refs.items) u (owns o.own)
+    (refs_none actor o.title u o.refs.items ne))
   where
     frees : (h : Option ℕ) → IsNoneOf (free_pieces actor o.title h) u
     frees None = nil_none u
@@ -181,10 +196,11 @@ slot_none actor o u ne =
 
     owns : (h : Option Owner) → IsNoneOf (own_pieces actor o.title h) u
     owns None = nil_none u
-    owns (Some w) = none_if (eqb w.actor actor) (OwnPiece o.title w.state ∷ []) u (own_none o.title u w.state ne)
+    owns (Some w) = none_if (eqb w.actor actor) (OwnPiece w.sealed o.title w.state ∷ []) u (own_none w.sealed o.title u w.state ne)
 
 -- a sum in which one index alone counts
-sum_at : {A : Type 0} (f : A → ℕ) (d : A) (xs : List A) (k : ℕ) → f d ≡ 0 → ((i : ℕ) → (i ≡ k → ⊥) → f (get_or xs i d) ≡ 0) → sum_by f xs ≡ f (get_or xs k d)
+sum_at : {A : Type 0} (f : A → ℕ) (d : A) (xs : List A) (k : ℕ) → f d ≡ 0 → ((i : ℕ) → (i ≡ k → ⊥) → f (get_or xs i d) ≡ 0) →
+    sum_by f xs ≡ f (get_or xs k d)
 sum_at f d [] k z h = sym z
 sum_at f d (x ∷ xs) zero z h =
     let e = sum_by-cons f x xs in
@@ -205,14 +221,16 @@ sum_at f d (x ∷ xs) (suc k) z h =
     omega arith
 
 -- an entry whose title is another one counts for nothing of this one
-pub place_none : (actor words actors i : ℕ) (p : Place) (t : Title) → IsPlaced words actors i p → (i ≡ t.start / 8 → ⊥) → IsNoneOf (place_pieces actor p) t
+pub place_none : (actor words actors i : ℕ) (p : Place) (t : Title) → IsPlaced words actors i p → (i ≡ t.start / 8 → ⊥) →
+    IsNoneOf (place_pieces actor p) t
 place_none actor words actors i None t placed ne = nil_none t
 place_none actor words actors i (Some b) t placed ne =
     let e = placed.0 in
     slot_none actor b.value t (λ same. let s = ap (λ (x : Title). x.start) same in ne (omega arith))
 
 -- what an actor holds of a title is read off one place of the table
-pub slots_at : (actor words actors : ℕ) (slots : List Place) (t : Title) (x : Thing) → ((i : ℕ) → IsPlaced words actors i (get_or slots i None)) →
+pub slots_at : (actor words actors : ℕ) (slots : List Place) (t : Title) (x : Thing) →
+    ((i : ℕ) → IsPlaced words actors i (get_or slots i None)) →
     ((ps : List Piece) → IsNoneOf ps t → held_in ps x ≡ 0) →
     sum_by (λ p. held_in (place_pieces actor p) x) slots ≡ held_in (place_pieces actor (get_or slots (t.start / 8) None)) x
 slots_at actor words actors slots t x placed about =

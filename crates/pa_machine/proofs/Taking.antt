@@ -10,7 +10,7 @@ use Rattle.pa_machine.specs.declared.slot.Slot.{Slot}
 use Rattle.pa_machine.specs.declared.tables.Tables.{Tables}
 use Rattle.pa_slot.specs.Titles.{IsWellFormed, count_place, count_word}
 use Rattle.pa_slot.specs.Run.{IsFree}
-use Rattle.pa_slot.specs.Holdings.{Piece, RawPiece, FreePiece, RefPiece, Thing, RawByte, FreeTitle, OwnOf, OwnAs, RefOf, IsTitleHeld, held_in, one}
+use Rattle.pa_slot.specs.Holdings.{Piece, RawPiece, FreePiece, RefPiece, Thing, RawByte, FreeTitle, OwnOf, OwnAs, SealedOwn, RefOf, IsTitleHeld, held_in, one}
 use Rattle.pa_machine.specs.Events.{IsEnabled, Happens, total_of, held_by, of_actor}
 use Rattle.pa_machine.specs.Tables.{Place, is_holder, raw_pieces, place_pieces, slot_pieces, free_pieces, own_pieces, ref_pieces, state_of, slot_at, IsPlaced, AreSound, IsFilled}
 use Rattle.pa_machine.proofs.Parts.{IsNoneOf, apart_words}
@@ -28,7 +28,8 @@ use Rattle.pa_machine.proofs.Handing.{one_of, none_of, range_or, raw_unheld}
 use Rattle.pa_machine.proofs.Rows.{IsRow, entry_free, entry_there, placed_at, no_owner}
 
 -- what an actor has at a title's place is what it holds of the title
-place_is : (c : Tables) (actor : ℕ) (t : Title) (x : Thing) → AreSound c → actor < c.actors → ((ps : List Piece) → IsNoneOf ps t → held_in ps x ≡ 0) →
+place_is : (c : Tables) (actor : ℕ) (t : Title) (x : Thing) → AreSound c → actor < c.actors →
+    ((ps : List Piece) → IsNoneOf ps t → held_in ps x ≡ 0) →
     held_in (place_pieces actor (get_or c.slots.items (t.start / 8) None)) x ≡ held_by (state_of c) actor x
 place_is c actor t x sound has about =
     let all = held_tables c.holders.items c.slots.items c.actors actor x has in
@@ -37,7 +38,8 @@ place_is c actor t x sound has about =
     omega arith
 
 -- a thing of a title that nobody holds counts for nothing at the title's place
-unheld_zero : (c : Tables) (actor p : ℕ) (t : Title) (x : Thing) → AreSound c → actor < c.actors → ((ps : List Piece) → IsNoneOf ps t → held_in ps x ≡ 0) →
+unheld_zero : (c : Tables) (actor p : ℕ) (t : Title) (x : Thing) → AreSound c → actor < c.actors →
+    ((ps : List Piece) → IsNoneOf ps t → held_in ps x ≡ 0) →
     (t.start / 8 ≡ p → total_of (state_of c) x ≡ 0) → held_in (place_pieces actor (get_or c.slots.items p None)) x ≡ 0
 unheld_zero c actor p t x sound has about none = elim (cases_eq p (t.start / 8)) [
   | inl same ↦
@@ -45,36 +47,44 @@ unheld_zero c actor p t x sound has about none = elim (cases_eq p (t.start / 8))
       let z = none (sym same) in
       let part = held_part (state_of c) actor x in
       rw same (omega arith)
-  | inr ne ↦ about (place_pieces actor (get_or c.slots.items p None)) (place_none actor (length c.words.items) c.actors p (get_or c.slots.items p None) t (sound.placed p) ne)
+  | inr ne ↦ about (place_pieces actor (get_or c.slots.items p None))
+      (place_none actor (length c.words.items) c.actors p (get_or c.slots.items p None) t (sound.placed p) ne)
 ]
 
 -- nobody holds a title that is where the bytes are raw
 none_held : (c : Tables) (k p : ℕ) (t u : Title) → AreSound c → IsEnabled (Cut k t) (state_of c) → p ≡ t.start / 8 → u.start / 8 ≡ p →
     total_of (state_of c) (FreeTitle u) + total_of (state_of c) (OwnOf u) + total_of (state_of c) (RefOf u) ≡ 0
-none_held c k p t u sound can place e = elim (cases_lt 0 (total_of (state_of c) (FreeTitle u) + total_of (state_of c) (OwnOf u) + total_of (state_of c) (RefOf u))) [
-  | inl held ↦
-      let well = sound.good.divided.well u held in
-      let a = well.start_aligned in let b = well.long in
-      let start = can.2 in let long = can.4 in
-      absurd (raw_unheld c k t.start u sound (can.1 t.start (omega arith) (omega arith)) held (omega arith, omega arith))
-  | inr z ↦ omega arith
-]
+none_held c k p t u sound can place e =
+    elim (cases_lt 0 (total_of (state_of c) (FreeTitle u) + total_of (state_of c) (OwnOf u) + total_of (state_of c) (RefOf u))) [
+      | inl held ↦
+          let well = sound.good.divided.well u held in
+          let a = well.start_aligned in let b = well.long in
+          let start = can.2 in let long = can.4 in
+          absurd (raw_unheld c k t.start u sound (can.1 t.start (omega arith) (omega arith)) held (omega arith, omega arith))
+      | inr z ↦ omega arith
+    ]
 
 -- before a cut nobody has anything at the place where the title will stand
 stale_zero : (c : Tables) (actor k p : ℕ) (t : Title) → AreSound c → actor < c.actors → IsEnabled (Cut k t) (state_of c) → p ≡ t.start / 8 →
     (x : Thing) → held_in (place_pieces actor (get_or c.slots.items p None)) x ≡ 0
 stale_zero c actor k p t sound has can place (RawByte b) = place_raw actor (get_or c.slots.items p None) b
-stale_zero c actor k p t sound has can place (FreeTitle u) = unheld_zero c actor p u (FreeTitle u) sound has (λ ps n. n.free) (λ e. let z = none_held c k p t u sound can place e in omega arith)
-stale_zero c actor k p t sound has can place (OwnOf u) = unheld_zero c actor p u (OwnOf u) sound has (λ ps n. n.own) (λ e. let z = none_held c k p t u sound can place e in omega arith)
+stale_zero c actor k p t sound has can place (FreeTitle u) =
+    unheld_zero c actor p u (FreeTitle u) sound has (λ ps n. n.free) (λ e. let z = none_held c k p t u sound can place e in omega arith)
+stale_zero c actor k p t sound has can place (OwnOf u) =
+    unheld_zero c actor p u (OwnOf u) sound has (λ ps n. n.own) (λ e. let z = none_held c k p t u sound can place e in omega arith)
 stale_zero c actor k p t sound has can place (OwnAs u s) = unheld_zero c actor p u (OwnAs u s) sound has (λ ps n. n.state s) (λ e.
     let z = none_held c k p t u sound can place e in let part = (tally_of (state_of c).holdings).part u s in omega arith)
-stale_zero c actor k p t sound has can place (RefOf u) = unheld_zero c actor p u (RefOf u) sound has (λ ps n. n.ref) (λ e. let z = none_held c k p t u sound can place e in omega arith)
+stale_zero c actor k p t sound has can place (SealedOwn u) = unheld_zero c actor p u (SealedOwn u) sound has (λ ps n. n.seal) (λ e.
+    let z = none_held c k p t u sound can place e in let part = (tally_of (state_of c).holdings).seal u in omega arith)
+stale_zero c actor k p t sound has can place (RefOf u) =
+    unheld_zero c actor p u (RefOf u) sound has (λ ps n. n.ref) (λ e. let z = none_held c k p t u sound can place e in omega arith)
 
 -- the entry of a title that was just cut out
 abbrev pub IsFreshSlot : ℕ → Title → Slot → Type 0
 IsFreshSlot k t o = (o.title ≡ t) × (o.free ≡ Some k) × (o.own ≡ None) × (o.refs.items ≡ [])
 
-fresh_pieces : (actor k : ℕ) (t : Title) (o : Slot) (x : Thing) → IsFreshSlot k t o → held_in (slot_pieces actor o) x ≡ held_in (of_actor k (FreePiece t ∷ []) actor) x
+fresh_pieces : (actor k : ℕ) (t : Title) (o : Slot) (x : Thing) → IsFreshSlot k t o →
+    held_in (slot_pieces actor o) x ≡ held_in (of_actor k (FreePiece t ∷ []) actor) x
 fresh_pieces actor k t o x f =
     let e = slot_parts actor o x in
     let a : held_in (free_pieces actor o.title o.free) x ≡ held_in (of_actor k (FreePiece t ∷ []) actor) x = rw (f.0, f.1) refl in
@@ -83,8 +93,10 @@ fresh_pieces actor k t o x f =
     omega arith
 
 -- raw bytes that an actor loses, or gains
-raw_lost : (c : Tables) (later : List (Option ℕ)) (k : ℕ) (t : Title) → IsEnabled (Cut k t) (state_of c) → IsFilled None c.holders.items t.start (t.start + t.len) None later →
-    (actor b : ℕ) → held_in (raw_pieces actor 0 later) (RawByte b) + held_in (of_actor k (RawPiece t.start t.len ∷ []) actor) (RawByte b) ≡ held_in (raw_pieces actor 0 c.holders.items) (RawByte b)
+raw_lost : (c : Tables) (later : List (Option ℕ)) (k : ℕ) (t : Title) → IsEnabled (Cut k t) (state_of c) →
+    IsFilled None c.holders.items t.start (t.start + t.len) None later →
+    (actor b : ℕ) → held_in (raw_pieces actor 0 later) (RawByte b) + held_in (of_actor k (RawPiece t.start t.len ∷ []) actor)
+    (RawByte b) ≡ held_in (raw_pieces actor 0 c.holders.items) (RawByte b)
 raw_lost c later k t can filled actor b =
     let now = raw_amount actor later b in
     let was = raw_amount actor c.holders.items b in
@@ -93,25 +105,32 @@ raw_lost c later k t can filled actor b =
           let lost = one_of actor k (RawPiece t.start t.len ∷ []) (RawByte b) (covered_raw t.start t.len b within.0 within.1) in
           let held = reads_raw c k b (actor_is c k can.0) (can.1 b within.0 within.1) in
           let x : one (is_holder actor (get_or later b None)) ≡ 0 = ap (λ q. one (is_holder actor q)) (filled.within b within.0 within.1) in
-          let y : one (is_holder actor (get_or c.holders.items b None)) ≡ one (is_holder actor (Some k)) = ap (λ q. one (is_holder actor q)) held in
+          let y : one (is_holder actor (get_or c.holders.items b None)) ≡ one (is_holder actor (Some k)) =
+          ap (λ q. one (is_holder actor q)) held in
           omega arith
       | inr out ↦
           let lost = none_of actor k (RawPiece t.start t.len ∷ []) (RawByte b) (uncovered_raw t.start t.len b out) in
-          let x : one (is_holder actor (get_or later b None)) ≡ one (is_holder actor (get_or c.holders.items b None)) = ap (λ q. one (is_holder actor q)) (filled.outside b out) in
+          let x : one (is_holder actor (get_or later b None)) ≡ one (is_holder actor (get_or c.holders.items b None)) =
+          ap (λ q. one (is_holder actor q)) (filled.outside b out) in
           omega arith
     ]
 
-cut_things : (c after : Tables) (k : ℕ) (t : Title) (new : Box Slot Global) → AreSound c → IsEnabled (Cut k t) (state_of c) → IsFreshSlot k t new.value →
+cut_things : (c after : Tables) (k : ℕ) (t : Title) (new : Box Slot Global) → AreSound c → IsEnabled (Cut k t) (state_of c) →
+    IsFreshSlot k t new.value →
     IsFilled None c.holders.items t.start (t.start + t.len) None after.holders.items → (actor : ℕ) (x : Thing) → actor < c.actors →
-    held_in (raw_pieces actor 0 after.holders.items) x + held_in (place_pieces actor (Some new)) x + held_in (of_actor k (RawPiece t.start t.len ∷ []) actor) x
-    ≡ held_in (raw_pieces actor 0 c.holders.items) x + held_in (place_pieces actor (get_or c.slots.items (t.start / 8) None)) x + held_in (of_actor k (FreePiece t ∷ []) actor) x
+    held_in (raw_pieces actor 0 after.holders.items) x + held_in (place_pieces actor (Some new)) x + held_in
+    (of_actor k (RawPiece t.start t.len ∷ []) actor) x
+    ≡ held_in (raw_pieces actor 0 c.holders.items) x + held_in (place_pieces actor (get_or c.slots.items (t.start / 8) None)) x + held_in
+    (of_actor k (FreePiece t ∷ []) actor) x
 cut_things c after k t new sound can fresh filled actor x has =
     let stale = stale_zero c actor k (t.start / 8) t sound has can refl x in
     let entry = fresh_pieces actor k t new.value x fresh in
     let bytes = raw_part x in
     omega arith
   where
-    raw_part : (x : Thing) → held_in (raw_pieces actor 0 after.holders.items) x + held_in (of_actor k (RawPiece t.start t.len ∷ []) actor) x ≡ held_in (raw_pieces actor 0 c.holders.items) x
+    raw_part : (x : Thing) →
+        held_in (raw_pieces actor 0 after.holders.items) x + held_in (of_actor k (RawPiece t.start t.len ∷ []) actor) x ≡ held_in
+        (raw_pieces actor 0 c.holders.items) x
     raw_part (RawByte b) = raw_lost c after.holders.items k t can filled actor b
     raw_part (FreeTitle u) = let a = (raw_titles actor 0 after.holders.items u).free in let b =
         (raw_titles actor 0 c.holders.items u).free in let l = none_of actor k (RawPiece t.start t.len ∷ []) (FreeTitle u) refl in omega
@@ -120,6 +139,9 @@ cut_things c after k t new sound can fresh filled actor x has =
         let l = none_of actor k (RawPiece t.start t.len ∷ []) (OwnOf u) refl in omega arith
     raw_part (OwnAs u s) = let a = (raw_titles actor 0 after.holders.items u).state s in let b =
         (raw_titles actor 0 c.holders.items u).state s in let l = none_of actor k (RawPiece t.start t.len ∷ []) (OwnAs u s) refl in omega
+        arith
+    raw_part (SealedOwn u) = let a = (raw_titles actor 0 after.holders.items u).seal in let b =
+        (raw_titles actor 0 c.holders.items u).seal in let l = none_of actor k (RawPiece t.start t.len ∷ []) (SealedOwn u) refl in omega
         arith
     raw_part (RefOf u) = let a = (raw_titles actor 0 after.holders.items u).ref in let b = (raw_titles actor 0 c.holders.items u).ref in
         let l = none_of actor k (RawPiece t.start t.len ∷ []) (RefOf u) refl in omega arith
@@ -134,7 +156,8 @@ pub record IsCutRow (c after : Tables) (k : ℕ) (t : Title) (new : Box Slot Glo
   pub actors : after.actors ≡ c.actors
 
 -- the title is held after the cut
-new_held : (c after : Tables) (k : ℕ) (t : Title) → IsEnabled (Cut k t) (state_of c) → Happens (Cut k t) (state_of c) (state_of after) → IsTitleHeld (total_of (state_of after)) t
+new_held : (c after : Tables) (k : ℕ) (t : Title) → IsEnabled (Cut k t) (state_of c) → Happens (Cut k t) (state_of c) (state_of after) →
+    IsTitleHeld (total_of (state_of after)) t
 new_held c after k t can h =
     let e = after_changes (state_of c) (state_of after) k (RawPiece t.start t.len ∷ []) (FreePiece t ∷ []) _ can.0 h (FreeTitle t) in
     let f = free_self t in
@@ -143,7 +166,8 @@ new_held c after k t can h =
 place_in : (c : Tables) (t : Title) → AreSound c → IsWellFormed (length c.words.items) t → t.start / 8 < length c.slots.items
 place_in c t sound well = let a = sound.slots in let b = well.inside in let d = well.long in omega arith
 
-pub cut_row : (c after : Tables) (k : ℕ) (t : Title) (new : Box Slot Global) → AreSound c → IsEnabled (Cut k t) (state_of c) → IsCutRow c after k t new → IsRow (Cut k t) c after
+pub cut_row : (c after : Tables) (k : ℕ) (t : Title) (new : Box Slot Global) → AreSound c → IsEnabled (Cut k t) (state_of c) →
+    IsCutRow c after k t new → IsRow (Cut k t) c after
 cut_row c after k t new sound can r = record { happens = h; sound = sound_after }
   where
     well : IsWellFormed (length c.words.items) t
@@ -153,7 +177,8 @@ cut_row c after k t new sound can r = record { happens = h; sound = sound_after 
     h = record {
       words = r.words;
       holdings = rw (r.slots, r.actors)
-          (tables_exchange c.holders.items after.holders.items c.slots.items (t.start / 8) (Some new) c.actors (of_actor k (RawPiece t.start t.len ∷ [])) (of_actor k (FreePiece t ∷ []))
+          (tables_exchange c.holders.items after.holders.items c.slots.items (t.start / 8) (Some new) c.actors
+          (of_actor k (RawPiece t.start t.len ∷ [])) (of_actor k (FreePiece t ∷ []))
           (place_in c t sound well) (cut_things c after k t new sound can r.fresh r.holders));
     }
 
@@ -165,7 +190,8 @@ cut_row c after k t new sound can r = record { happens = h; sound = sound_after 
     placed : (i : ℕ) → IsPlaced (length after.words.items) after.actors i (get_or after.slots.items i None)
     placed i = rw (r.words, r.actors, r.slots) (elim (cases_eq i (t.start / 8)) [
       | inl same ↦
-          let e : get_or (set c.slots.items (t.start / 8) (Some new)) (t.start / 8) None ≡ Some new = get_or-set_same c.slots.items (t.start / 8) (Some new) None (place_in c t sound well) in
+          let e : get_or (set c.slots.items (t.start / 8) (Some new)) (t.start / 8) None ≡ Some new =
+          get_or-set_same c.slots.items (t.start / 8) (Some new) None (place_in c t sound well) in
           rw same (subst (λ (q : Place). IsPlaced (length c.words.items) c.actors (t.start / 8) q) (sym e) placed_new)
       | inr ne ↦ rw (get_or-set_other c.slots.items (t.start / 8) i (Some new) None ne) (sound.placed i)
     ])
@@ -173,9 +199,11 @@ cut_row c after k t new sound can r = record { happens = h; sound = sound_after 
     held_t : IsTitleHeld (total_of (state_of after)) t
     held_t = new_held c after k t can h
 
-    pointed : (u : Title) (q : ℕ) → IsTitleHeld (total_of (state_of after)) u → u.start / 8 ≤ q → q ≤ count_place u → get_or after.homes.items q 0 ≡ u.start / 8
+    pointed : (u : Title) (q : ℕ) → IsTitleHeld (total_of (state_of after)) u → u.start / 8 ≤ q → q ≤ count_place u →
+        get_or after.homes.items q 0 ≡ u.start / 8
     pointed u q held low high = elim (title_tells t u) [
-      | inl y ↦ subst (λ (x : Title). x.start / 8 ≤ q → q ≤ count_place x → get_or after.homes.items q 0 ≡ x.start / 8) y.1 (λ a b. r.homes.within q a (omega arith)) low high
+      | inl y ↦ subst (λ (x : Title). x.start / 8 ≤ q → q ≤ count_place x → get_or after.homes.items q 0 ≡ x.start / 8) y.1
+          (λ a b. r.homes.within q a (omega arith)) low high
       | inr n ↦ elim (held_back (Cut k t) (state_of c) (state_of after) can h u held) [
         | inl was ↦
             let g = happens_good (Cut k t) (state_of c) (state_of after) sound.good can h in
@@ -183,7 +211,8 @@ cut_row c after k t new sound can r = record { happens = h; sound = sound_after 
               | inl below ↦ inl below
               | inr from ↦ elim (cases_lt (count_place t) q) [
                 | inl above ↦ inr (omega arith)
-                | inr within ↦ absurd (apart_words (length after.words.items) (total_of (state_of after)) t u q g.divided held_t held n.1 (from, within) (low, high))
+                | inr within ↦ absurd (apart_words (length after.words.items) (total_of (state_of after)) t u q g.divided held_t held n.1
+                    (from, within) (low, high))
               ]
             ] in
             r.homes.outside q out ∙ sound.pointed u q was low high
@@ -207,31 +236,38 @@ cut_row c after k t new sound can r = record { happens = h; sound = sound_after 
         }
 
 -- what an actor has at the place of a free title is the free title, if it holds it
-free_place : (c : Tables) (k : ℕ) (t : Title) (old : Box Slot Global) → AreSound c → IsEnabled (Uncut k t) (state_of c) → get_or c.slots.items (t.start / 8) None ≡ Some old →
-    (actor : ℕ) (x : Thing) → actor < c.actors → held_in (place_pieces actor (get_or c.slots.items (t.start / 8) None)) x ≡ held_in (of_actor k (FreePiece t ∷ []) actor) x
+free_place : (c : Tables) (k : ℕ) (t : Title) (old : Box Slot Global) → AreSound c → IsEnabled (Uncut k t) (state_of c) →
+    get_or c.slots.items (t.start / 8) None ≡ Some old →
+    (actor : ℕ) (x : Thing) → actor < c.actors →
+    held_in (place_pieces actor (get_or c.slots.items (t.start / 8) None)) x ≡ held_in (of_actor k (FreePiece t ∷ []) actor) x
 free_place c k t old sound can was actor x has = by_thing x
   where
-    alone : IsFree (count_word c.words.items t) × (total_of (state_of c) (FreeTitle t) ≡ 1) × (total_of (state_of c) (OwnOf t) ≡ 0) × (total_of (state_of c) (RefOf t) ≡ 0)
+    alone : IsFree (count_word c.words.items t) × (total_of (state_of c) (FreeTitle t) ≡ 1) × (total_of (state_of c) (OwnOf t) ≡ 0) ×
+        (total_of (state_of c) (RefOf t) ≡ 0)
     alone = free_alone c.words.items (total_of (state_of c)) t sound.good (in_total (state_of c) k (FreeTitle t) can.1)
 
     entry : (old.value.title ≡ t) × (old.value.free ≡ Some k) × (slot_at c.slots.items t ≡ Some old.value)
     entry = entry_free c k t old sound (actor_is c k can.0) can.1 was
 
-    parts : (x : Thing) → held_in (RefPiece old.value.title ∷ []) x ≡ 0 → held_in (place_pieces actor (get_or c.slots.items (t.start / 8) None)) x ≡ held_in (of_actor k (FreePiece t ∷ []) actor) x
+    parts : (x : Thing) → held_in (RefPiece old.value.title ∷ []) x ≡ 0 →
+        held_in (place_pieces actor (get_or c.slots.items (t.start / 8) None)) x ≡ held_in (of_actor k (FreePiece t ∷ []) actor) x
     parts x none =
         let e = slot_parts actor old.value x in
         let placed = placed_at c t old sound was in
         let own = no_owner c t old sound entry.2 alone.2 old.value.own refl placed.3 in
-        let a : held_in (free_pieces actor old.value.title old.value.free) x ≡ held_in (of_actor k (FreePiece t ∷ []) actor) x = rw (entry.0, entry.1) refl in
+        let a : held_in (free_pieces actor old.value.title old.value.free) x ≡ held_in (of_actor k (FreePiece t ∷ []) actor) x =
+        rw (entry.0, entry.1) refl in
         let b : held_in (own_pieces actor old.value.title old.value.own) x ≡ 0 = rw own refl in
         let d = refs_zero actor old.value.title old.value.refs.items x none in
         rw was (omega arith)
 
-    by_thing : (x : Thing) → held_in (place_pieces actor (get_or c.slots.items (t.start / 8) None)) x ≡ held_in (of_actor k (FreePiece t ∷ []) actor) x
+    by_thing : (x : Thing) →
+        held_in (place_pieces actor (get_or c.slots.items (t.start / 8) None)) x ≡ held_in (of_actor k (FreePiece t ∷ []) actor) x
     by_thing (RawByte b) = parts (RawByte b) refl
     by_thing (FreeTitle u) = parts (FreeTitle u) refl
     by_thing (OwnOf u) = parts (OwnOf u) refl
     by_thing (OwnAs u s) = parts (OwnAs u s) refl
+    by_thing (SealedOwn u) = parts (SealedOwn u) refl
     by_thing (RefOf u) =
         let z = none_of actor k (FreePiece t ∷ []) (RefOf u) refl in
         elim (title_tells t u) [
@@ -249,14 +285,16 @@ free_place c k t old sound can was actor x has = by_thing x
 
 raw_gained : (c : Tables) (later : List (Option ℕ)) (k : ℕ) (t : Title) → AreSound c → IsEnabled (Uncut k t) (state_of c) →
     IsFilled None c.holders.items t.start (t.start + t.len) (Some k) later → (actor b : ℕ) → actor < c.actors →
-    held_in (raw_pieces actor 0 later) (RawByte b) ≡ held_in (raw_pieces actor 0 c.holders.items) (RawByte b) + held_in (of_actor k (RawPiece t.start t.len ∷ []) actor) (RawByte b)
+    held_in (raw_pieces actor 0 later) (RawByte b) ≡ held_in (raw_pieces actor 0 c.holders.items) (RawByte b) + held_in
+    (of_actor k (RawPiece t.start t.len ∷ []) actor) (RawByte b)
 raw_gained c later k t sound can filled actor b has =
     let now = raw_amount actor later b in
     let was = raw_amount actor c.holders.items b in
     elim (range_or t.start t.len b) [
       | inl within ↦
           let got = one_of actor k (RawPiece t.start t.len ∷ []) (RawByte b) (covered_raw t.start t.len b within.0 within.1) in
-          let x : one (is_holder actor (get_or later b None)) ≡ one (is_holder actor (Some k)) = ap (λ q. one (is_holder actor q)) (filled.within b within.0 within.1) in
+          let x : one (is_holder actor (get_or later b None)) ≡ one (is_holder actor (Some k)) =
+          ap (λ q. one (is_holder actor q)) (filled.within b within.0 within.1) in
           let e = raw_is c actor b has in
           let none : held_by (state_of c) actor (RawByte b) ≡ 0 = elim (cases_lt 0 (held_by (state_of c) actor (RawByte b))) [
             | inl raw ↦ absurd (raw_unheld c actor b t sound raw (held_free c k t can.1) within)
@@ -265,20 +303,26 @@ raw_gained c later k t sound can filled actor b has =
           omega arith
       | inr out ↦
           let got = none_of actor k (RawPiece t.start t.len ∷ []) (RawByte b) (uncovered_raw t.start t.len b out) in
-          let x : one (is_holder actor (get_or later b None)) ≡ one (is_holder actor (get_or c.holders.items b None)) = ap (λ q. one (is_holder actor q)) (filled.outside b out) in
+          let x : one (is_holder actor (get_or later b None)) ≡ one (is_holder actor (get_or c.holders.items b None)) =
+          ap (λ q. one (is_holder actor q)) (filled.outside b out) in
           omega arith
     ]
 
-uncut_things : (c after : Tables) (k : ℕ) (t : Title) (old : Box Slot Global) → AreSound c → IsEnabled (Uncut k t) (state_of c) → get_or c.slots.items (t.start / 8) None ≡ Some old →
+uncut_things : (c after : Tables) (k : ℕ) (t : Title) (old : Box Slot Global) → AreSound c → IsEnabled (Uncut k t) (state_of c) →
+    get_or c.slots.items (t.start / 8) None ≡ Some old →
     IsFilled None c.holders.items t.start (t.start + t.len) (Some k) after.holders.items → (actor : ℕ) (x : Thing) → actor < c.actors →
-    held_in (raw_pieces actor 0 after.holders.items) x + held_in (place_pieces actor None) x + held_in (of_actor k (FreePiece t ∷ []) actor) x
-    ≡ held_in (raw_pieces actor 0 c.holders.items) x + held_in (place_pieces actor (get_or c.slots.items (t.start / 8) None)) x + held_in (of_actor k (RawPiece t.start t.len ∷ []) actor) x
+    held_in (raw_pieces actor 0 after.holders.items) x + held_in (place_pieces actor None) x + held_in
+    (of_actor k (FreePiece t ∷ []) actor) x
+    ≡ held_in (raw_pieces actor 0 c.holders.items) x + held_in (place_pieces actor (get_or c.slots.items (t.start / 8) None)) x + held_in
+    (of_actor k (RawPiece t.start t.len ∷ []) actor) x
 uncut_things c after k t old sound can was filled actor x has =
     let entry = free_place c k t old sound can was actor x has in
     let bytes = raw_part x in
     omega arith
   where
-    raw_part : (x : Thing) → held_in (raw_pieces actor 0 after.holders.items) x ≡ held_in (raw_pieces actor 0 c.holders.items) x + held_in (of_actor k (RawPiece t.start t.len ∷ []) actor) x
+    raw_part : (x : Thing) →
+        held_in (raw_pieces actor 0 after.holders.items) x ≡ held_in (raw_pieces actor 0 c.holders.items) x + held_in
+        (of_actor k (RawPiece t.start t.len ∷ []) actor) x
     raw_part (RawByte b) = raw_gained c after.holders.items k t sound can filled actor b has
     raw_part (FreeTitle u) = let a = (raw_titles actor 0 after.holders.items u).free in let b =
         (raw_titles actor 0 c.holders.items u).free in let l = none_of actor k (RawPiece t.start t.len ∷ []) (FreeTitle u) refl in omega
@@ -287,6 +331,9 @@ uncut_things c after k t old sound can was filled actor x has =
         let l = none_of actor k (RawPiece t.start t.len ∷ []) (OwnOf u) refl in omega arith
     raw_part (OwnAs u s) = let a = (raw_titles actor 0 after.holders.items u).state s in let b =
         (raw_titles actor 0 c.holders.items u).state s in let l = none_of actor k (RawPiece t.start t.len ∷ []) (OwnAs u s) refl in omega
+        arith
+    raw_part (SealedOwn u) = let a = (raw_titles actor 0 after.holders.items u).seal in let b =
+        (raw_titles actor 0 c.holders.items u).seal in let l = none_of actor k (RawPiece t.start t.len ∷ []) (SealedOwn u) refl in omega
         arith
     raw_part (RefOf u) = let a = (raw_titles actor 0 after.holders.items u).ref in let b = (raw_titles actor 0 c.holders.items u).ref in
         let l = none_of actor k (RawPiece t.start t.len ∷ []) (RefOf u) refl in omega arith
@@ -299,7 +346,8 @@ pub record IsUncutRow (c after : Tables) (k : ℕ) (t : Title) : Type 0 where
   pub homes : after.homes.items ≡ c.homes.items
   pub actors : after.actors ≡ c.actors
 
-pub uncut_row : (c after : Tables) (k : ℕ) (t : Title) → AreSound c → IsEnabled (Uncut k t) (state_of c) → IsUncutRow c after k t → IsRow (Uncut k t) c after
+pub uncut_row : (c after : Tables) (k : ℕ) (t : Title) → AreSound c → IsEnabled (Uncut k t) (state_of c) → IsUncutRow c after k t →
+    IsRow (Uncut k t) c after
 uncut_row c after k t sound can r = record { happens = h; sound = sound_after }
   where
     well : IsWellFormed (length c.words.items) t
@@ -312,19 +360,22 @@ uncut_row c after k t sound can r = record { happens = h; sound = sound_after }
     h = record {
       words = r.words;
       holdings = rw (r.slots, r.actors)
-          (tables_exchange c.holders.items after.holders.items c.slots.items (t.start / 8) None c.actors (of_actor k (FreePiece t ∷ [])) (of_actor k (RawPiece t.start t.len ∷ []))
+          (tables_exchange c.holders.items after.holders.items c.slots.items (t.start / 8) None c.actors (of_actor k (FreePiece t ∷ []))
+          (of_actor k (RawPiece t.start t.len ∷ []))
           (place_in c t sound well) (uncut_things c after k t there.0 sound can there.1 r.holders));
     }
 
     placed : (i : ℕ) → IsPlaced (length after.words.items) after.actors i (get_or after.slots.items i None)
     placed i = rw (r.words, r.actors, r.slots) (elim (cases_eq i (t.start / 8)) [
       | inl same ↦
-          let e : get_or (set c.slots.items (t.start / 8) None) (t.start / 8) None ≡ None = get_or-set_same c.slots.items (t.start / 8) None None (place_in c t sound well) in
+          let e : get_or (set c.slots.items (t.start / 8) None) (t.start / 8) None ≡ None =
+          get_or-set_same c.slots.items (t.start / 8) None None (place_in c t sound well) in
           rw same (subst (λ (q : Place). IsPlaced (length c.words.items) c.actors (t.start / 8) q) (sym e) tt)
       | inr ne ↦ rw (get_or-set_other c.slots.items (t.start / 8) i None None ne) (sound.placed i)
     ])
 
     sound_after : AreSound after
-    sound_after = sound_next c after sound (ap length r.words) r.holders.len (ap length r.slots ∙ length-set c.slots.items (t.start / 8) None) r.homes placed
+    sound_after = sound_next c after sound (ap length r.words) r.holders.len
+        (ap length r.slots ∙ length-set c.slots.items (t.start / 8) None) r.homes placed
         (λ u held. elim (held_back (Uncut k t) (state_of c) (state_of after) can h u held) [ inl was ↦ was | inr cut ↦ absurd cut ])
         (happens_good (Uncut k t) (state_of c) (state_of after) sound.good can h)

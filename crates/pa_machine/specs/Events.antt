@@ -1,5 +1,5 @@
 -- The core: its state, the condition of each event, and what it changes.
-use Rattle.std.specs.Prelude.{◌≡◌, ℕ, ◌+◌, ◌/◌, ◌%◌, ◌<◌, ◌≤◌, ◌⊎◌, List, [], ◌∷◌, ◌==◌, ◌&&◌, length, slice_set, if◌then◌else◌}
+use Rattle.std.specs.Prelude.{◌≡◌, ℕ, ◌+◌, ◌/◌, ◌%◌, ◌<◌, ◌≤◌, ◌⊎◌, List, [], ◌∷◌, Bool, false, true, ◌==◌, ◌&&◌, length, slice_set, if◌then◌else◌}
 use Rattle.std.specs.List.{slice_index_or}
 use Rattle.pa_slot.specs.declared.word.Step.{Step}
 use Rattle.pa_slot.specs.declared.word.Step.TheVariants.{Issue, Copy, Reset, Free, Write}
@@ -9,10 +9,10 @@ use Rattle.pa_slot.specs.declared.title.OwnState.TheVariants.{Clean, Dirty, Pois
 use Rattle.pa_machine.specs.declared.event.Item.{Item}
 use Rattle.pa_machine.specs.declared.event.Item.TheVariants.{Raw as RawItem, Free as FreeItem, Own as OwnItem, Ref as RefItem}
 use Rattle.pa_machine.specs.declared.event.Event.{Event}
-use Rattle.pa_machine.specs.declared.event.Event.TheVariants.{Count, Store, Poison, Load, Hand, Cut, Uncut}
+use Rattle.pa_machine.specs.declared.event.Event.TheVariants.{Count, Sealed, Store, Poison, Load, Hand, Cut, Uncut}
 use Rattle.pa_slot.specs.Count.{CanStep, stepped, refs_of, held_of}
 use Rattle.pa_slot.specs.Titles.{Covers, content_count, content_place, count_place, count_word, IsContentOf, HasContentFrom, IsUniform, poison, progress}
-use Rattle.pa_slot.specs.Holdings.{Piece, RawPiece, FreePiece, OwnPiece, RefPiece, Thing, RawByte, FreeTitle, OwnAs, RefOf, held_in, held_by_all}
+use Rattle.pa_slot.specs.Holdings.{Piece, RawPiece, FreePiece, OwnPiece, RefPiece, Thing, RawByte, FreeTitle, OwnAs, SealedOwn, RefOf, one, held_in, held_by_all}
 
 -- the words of the region, and for each actor what it holds
 pub record State : Type 0 where
@@ -43,10 +43,14 @@ HoldsRaw s actor start len = (b : ℕ) → start ≤ b → b < start + len → H
 abbrev pub HoldsOpen : State → ℕ → Title → OwnState → Type 0
 HoldsOpen s actor t state = ((state ≡ Clean) ⊎ (state ≡ Dirty)) × Holds s actor (OwnAs t state)
 
--- what a step on the count word requires of the actor that makes it
+-- the actor's Own of the title is sealed, if the Boolean is true, and it has none that is sealed otherwise
+abbrev pub IsSealedAs : State → ℕ → Title → Bool → Type 0
+IsSealedAs s actor t sealed = held_by s actor (SealedOwn t) ≡ one sealed
+
+-- What a step on the count word requires of the actor that makes it. A sealed Own can't be copied.
 abbrev pub CanCount : Step → State → ℕ → Title → Type 0
 CanCount Issue s actor t = Holds s actor (FreeTitle t) × HasContentFrom s.words t 0 0
-CanCount Copy s actor t = Holds s actor (OwnAs t Clean) ⊎ Holds s actor (RefOf t)
+CanCount Copy s actor t = (Holds s actor (OwnAs t Clean) × IsSealedAs s actor t false) ⊎ Holds s actor (RefOf t)
 CanCount Reset s actor t = Holds s actor (RefOf t)
 CanCount Free s actor t = Holds s actor (OwnAs t (Poisoned (content_count t)))
 CanCount Write s actor t =
@@ -81,6 +85,7 @@ HoldsItem s actor (RefItem t) = Holds s actor (RefOf t)
 -- the condition of each event
 abbrev pub IsEnabled : Event → State → Type 0
 IsEnabled (Count actor t step) s = HasActor s actor × CanCount step s actor t × CanStep step (count_word s.words t)
+IsEnabled (Sealed actor t) s = HasActor s actor × CanCount Issue s actor t × CanStep Issue (count_word s.words t)
 IsEnabled (Store actor at value) s =
     HasActor s actor × (at % 8 ≡ 0) ×
     (IsRawWord s actor at ⊎ (IsFreeWord s actor at ⊎ ((t : Title) × (state : OwnState) × IsOwnWord s actor at t state)))
@@ -120,39 +125,49 @@ words_stepped step s t = slice_set s.words (count_place t) (stepped step (count_
 
 -- what a step on the count word changes besides the word
 abbrev pub Counts : Step → State → ℕ → Title → State → Type 0
-Counts Issue s actor t after = IsAfter s actor (FreePiece t ∷ []) (OwnPiece t Clean ∷ []) (words_stepped Issue s t) after
+Counts Issue s actor t after = IsAfter s actor (FreePiece t ∷ []) (OwnPiece false t Clean ∷ []) (words_stepped Issue s t) after
 Counts Copy s actor t after = IsAfter s actor [] (RefPiece t ∷ []) (words_stepped Copy s t) after
 Counts Reset s actor t after =
     IsAfter s actor (RefPiece t ∷ []) (returned_at (stepped Reset (count_word s.words t)) t) (words_stepped Reset s t) after
 Counts Free s actor t after =
-    IsAfter s actor (OwnPiece t (Poisoned (content_count t)) ∷ [])
+    (sealed : Bool) × IsSealedAs s actor t sealed ×
+    IsAfter s actor (OwnPiece sealed t (Poisoned (content_count t)) ∷ [])
     (returned_at (stepped Free (count_word s.words t)) t) (words_stepped Free s t) after
 Counts Write s actor t after =
-    (state : OwnState) × HoldsOpen s actor t state ×
-    IsAfter s actor (OwnPiece t state ∷ []) (OwnPiece t Clean ∷ []) (words_stepped Write s t) after
+    (state : OwnState) × (sealed : Bool) × HoldsOpen s actor t state × IsSealedAs s actor t sealed ×
+    IsAfter s actor (OwnPiece sealed t state ∷ []) (OwnPiece sealed t Clean ∷ []) (words_stepped Write s t) after
 
--- the item as a piece of a holding
-abbrev pub piece_of : Item → Piece
-piece_of (RawItem start len) = RawPiece start len
-piece_of (FreeItem t) = FreePiece t
-piece_of (OwnItem t) = OwnPiece t Clean
-piece_of (RefItem t) = RefPiece t
+-- the item as a piece of a holding, an Own sealed if the Boolean is true
+abbrev pub piece_of : Bool → Item → Piece
+piece_of sealed (RawItem start len) = RawPiece start len
+piece_of sealed (FreeItem t) = FreePiece t
+piece_of sealed (OwnItem t) = OwnPiece sealed t Clean
+piece_of sealed (RefItem t) = RefPiece t
 
--- what each event changes
+-- if the item is an Own, the actor's is sealed or not as the Boolean says
+abbrev pub IsItemSealed : State → ℕ → Item → Bool → Type 0
+IsItemSealed s actor (RawItem start len) sealed = Unit {0}
+IsItemSealed s actor (FreeItem t) sealed = Unit {0}
+IsItemSealed s actor (OwnItem t) sealed = IsSealedAs s actor t sealed
+IsItemSealed s actor (RefItem t) sealed = Unit {0}
+
+-- What each event changes. None but the two that issue changes whether an Own is sealed.
 abbrev pub Happens : Event → State → State → Type 0
 Happens (Count actor t step) s after = Counts step s actor t after
+Happens (Sealed actor t) s after =
+    IsAfter s actor (FreePiece t ∷ []) (OwnPiece true t Clean ∷ []) (words_stepped Issue s t) after
 Happens (Store actor at value) s after =
     (((IsRawWord s actor at ⊎ IsFreeWord s actor at) × IsAfter s actor [] [] (slice_set s.words (at / 8) value) after))
-    ⊎ ((t : Title) × (state : OwnState) × IsOwnWord s actor at t state ×
-    IsAfter s actor (OwnPiece t state ∷ []) (OwnPiece t Dirty ∷ []) (slice_set s.words (at / 8) value) after)
+    ⊎ ((t : Title) × (state : OwnState) × (sealed : Bool) × IsOwnWord s actor at t state × IsSealedAs s actor t sealed ×
+    IsAfter s actor (OwnPiece sealed t state ∷ []) (OwnPiece sealed t Dirty ∷ []) (slice_set s.words (at / 8) value) after)
 Happens (Poison actor t) s after =
-    (state : OwnState) × Holds s actor (OwnAs t state) ×
-    IsAfter s actor (OwnPiece t state ∷ []) (OwnPiece t (Poisoned (progress state + 1)) ∷ [])
+    (state : OwnState) × (sealed : Bool) × Holds s actor (OwnAs t state) × IsSealedAs s actor t sealed ×
+    IsAfter s actor (OwnPiece sealed t state ∷ []) (OwnPiece sealed t (Poisoned (progress state + 1)) ∷ [])
     (slice_set s.words (content_place t (progress state)) poison) after
 Happens (Load actor at) s after = after ≡ s
 Happens (Hand from to item) s after =
-    (after.words ≡ s.words) ×
-    Exchanges s.holdings (of_actor from (piece_of item ∷ [])) (of_actor to (piece_of item ∷ [])) after.holdings
+    (after.words ≡ s.words) × ((sealed : Bool) × IsItemSealed s from item sealed ×
+    Exchanges s.holdings (of_actor from (piece_of sealed item ∷ [])) (of_actor to (piece_of sealed item ∷ [])) after.holdings)
 Happens (Cut actor t) s after = IsAfter s actor (RawPiece t.start t.len ∷ []) (FreePiece t ∷ []) s.words after
 Happens (Uncut actor t) s after = IsAfter s actor (FreePiece t ∷ []) (RawPiece t.start t.len ∷ []) s.words after
 

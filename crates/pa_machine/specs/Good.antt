@@ -6,7 +6,7 @@ use Rattle.pa_slot.specs.declared.title.OwnState.TheVariants.{Clean, Poisoned}
 use Rattle.pa_slot.specs.Count.{held_of, refs_of}
 use Rattle.pa_slot.specs.Run.{IsFree, IsQuarantined}
 use Rattle.pa_slot.specs.Titles.{Covers, IsWellFormed, count_word, content_count, HasContentFrom, IsUniform, IsPoisonedTo}
-use Rattle.pa_slot.specs.Holdings.{Thing, RawByte, FreeTitle, OwnOf, OwnAs, RefOf, IsTitleHeld}
+use Rattle.pa_slot.specs.Holdings.{Thing, RawByte, FreeTitle, OwnOf, OwnAs, SealedOwn, RefOf, IsTitleHeld}
 
 -- the byte is a raw byte of exactly one actor and in no held title, or it is nobody's raw byte and in a held title
 abbrev pub IsByteGood : (Thing → ℕ) → ℕ → Type 0
@@ -43,9 +43,14 @@ pub record IsContentKept (words : List ℕ) (total : Thing → ℕ) (t : Title) 
   pub shared : (state : OwnState) → 0 < refs_of (count_word words t) → 0 < total (OwnAs t state) →
       (state ≡ Clean) ⊎ ((j : ℕ) × (state ≡ Poisoned j) × (value : ℕ) × HasContentFrom words t j value)
 
--- the core is good: all four parts hold
+-- Part 5, of one held title: no Ref points to a title whose Own is sealed
+abbrev pub IsSealKept : List ℕ → (Thing → ℕ) → Title → Type 0
+IsSealKept words total t = 0 < total (SealedOwn t) → refs_of (count_word words t) ≡ 0
+
+-- the core is good: all five parts hold
 pub record IsGood (words : List ℕ) (total : Thing → ℕ) : Type 0 where
   pub divided : IsDivided (length words) total
   pub counted : (t : Title) → IsTitleHeld total t → IsCounted (count_word words t) total t
   pub poison_kept : (t : Title) → IsTitleHeld total t → IsPoisonKept words total t
   pub content_kept : (t : Title) → IsTitleHeld total t → IsContentKept words total t
+  pub seal_kept : (t : Title) → IsTitleHeld total t → IsSealKept words total t

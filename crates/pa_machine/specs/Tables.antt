@@ -39,14 +39,14 @@ free_pieces actor t (Some other) = if other == actor then FreePiece t ∷ [] els
 -- the title's Own in its state, if the actor is the owner
 abbrev pub own_pieces : ℕ → Title → Option Owner → List Piece
 own_pieces actor t None = []
-own_pieces actor t (Some owner) = if owner.actor == actor then OwnPiece t owner.state ∷ [] else []
+own_pieces actor t (Some owner) = if owner.actor == actor then OwnPiece owner.sealed t owner.state ∷ [] else []
 
 -- a Ref for each time that the actor is in the list of those that hold one
 abbrev pub ref_pieces : ℕ → Title → List ℕ → List Piece
 ref_pieces actor t [] = []
 ref_pieces actor t (r ∷ rs) = if r == actor then RefPiece t ∷ ref_pieces actor t rs else ref_pieces actor t rs
 
--- all that the actor holds of an entry's title: it free, its Own, and its Refs
+-- all that the actor holds of an entry's title: the free title, its Own, and its Refs
 abbrev pub slot_pieces : ℕ → Slot → List Piece
 slot_pieces actor o = free_pieces actor o.title o.free ++ (own_pieces actor o.title o.own ++ ref_pieces actor o.title o.refs.items)
 
@@ -90,12 +90,14 @@ IsOwnerWithin actors (Some owner) = owner.actor < actors
 abbrev pub IsHeldBy : Slot → ℕ → Type 0
 IsHeldBy o actor =
     (o.free ≡ Some actor)
-    ⊎ (((state : OwnState) × (o.own ≡ Some (record { actor = actor; state = state }))) ⊎ Contains o.refs.items actor)
+    ⊎ (((state : OwnState) × (sealed : Bool) × (o.own ≡ Some (record { actor = actor; state = state; sealed = sealed })))
+    ⊎ Contains o.refs.items actor)
 
 -- the actor owns the entry's title, and has content words left to poison
 abbrev pub CanPoison : Slot → ℕ → Type 0
 CanPoison o actor =
-    (state : OwnState) × (o.own ≡ Some (record { actor = actor; state = state })) × (progress state < content_count o.title)
+    (state : OwnState) × (sealed : Bool) × (o.own ≡ Some (record { actor = actor; state = state; sealed = sealed })) ×
+    (progress state < content_count o.title)
 
 -- the actor has an Own of the title with content words left to poison
 abbrev pub MayPoison : State → ℕ → Title → Type 0
@@ -132,8 +134,8 @@ kept_over at (Some b) = if nat_le b.value.title.start at && nat_lt at (b.value.t
 abbrev pub slot_over : List ℕ → List Place → ℕ → Option Slot
 slot_over homes slots at = kept_over at (slice_index_or slots (slice_index homes (at / 8)) None)
 
--- What is always true of the tables: their lengths, at which index an entry is, where the words of a held title point, and
--- that the state is good.
+-- What is always true of the tables: their lengths, at which index an entry is,
+-- where the words of a held title point, and that the state is good.
 pub record AreSound (c : Tables) : Type 0 where
   pub holders : length c.holders.items ≡ 8 * length c.words.items
   pub slots : length c.slots.items ≡ length c.words.items
@@ -154,15 +156,30 @@ pub record IsNextSlot (old new : Slot) (free : Option ℕ) (own : Option Owner) 
 abbrev pub IsSameSlot : Slot → Slot → Type 0
 IsSameSlot old new = IsNextSlot old new old.free old.own old.refs.items
 
+-- whether an entry's Own is sealed, which is false where there is none
+abbrev pub is_sealed : Option Owner → Bool
+is_sealed None = false
+is_sealed (Some owner) = owner.sealed
+
+-- how an entry changes by an issue: the actor has its Own, which is clean, and sealed if the Boolean is true
+abbrev pub IsIssuedSlot : Bool → ℕ → Slot → Slot → Type 0
+IsIssuedSlot sealed actor old new =
+    IsNextSlot old new None (Some (record { actor = actor; state = Clean; sealed = sealed })) old.refs.items
+
+-- how an entry changes when its Own goes to this actor in this state: it stays sealed or not
+abbrev pub IsRestatedSlot : ℕ → OwnState → Slot → Slot → Type 0
+IsRestatedSlot actor state old new =
+    IsNextSlot old new old.free (Some (record { actor = actor; state = state; sealed = is_sealed old.own })) old.refs.items
+
 -- how an entry changes by a step of the actor on the count word, which gives the title back or not
 abbrev pub IsSlotStepped : Step → ℕ → Bool → Slot → Slot → Type 0
-IsSlotStepped Issue actor back old new = IsNextSlot old new None (Some (record { actor = actor; state = Clean })) old.refs.items
+IsSlotStepped Issue actor back old new = IsIssuedSlot false actor old new
 IsSlotStepped Copy actor back old new = IsNextSlot old new old.free old.own (old.refs.items ++ actor ∷ [])
 IsSlotStepped Reset actor back old new =
     (k : ℕ) × (k < length old.refs.items) × (slice_index old.refs.items k ≡ actor) ×
     IsNextSlot old new (if back then Some actor else old.free) old.own (swap_remove old.refs.items k 0)
 IsSlotStepped Free actor back old new = IsNextSlot old new (if back then Some actor else old.free) None old.refs.items
-IsSlotStepped Write actor back old new = IsNextSlot old new old.free (Some (record { actor = actor; state = Clean })) old.refs.items
+IsSlotStepped Write actor back old new = IsRestatedSlot actor Clean old new
 
 -- in a table of titles, the entry at an index is replaced by another
 abbrev pub IsChangedAt : (Slot → Slot → Type 0) → List Place → ℕ → List Place → Type 0

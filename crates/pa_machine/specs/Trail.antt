@@ -1,18 +1,18 @@
 -- Whole runs of the core, and what holds along each of them.
-use Rattle.std.specs.Prelude.{◌≡◌, ℕ, ◌+◌, ◌<◌, List, [], ◌∷◌, Option, Some, None, if◌then◌else◌}
+use Rattle.std.specs.Prelude.{◌≡◌, ℕ, ◌+◌, ◌<◌, List, [], ◌∷◌, true, Option, Some, None, if◌then◌else◌}
 use Rattle.pa_slot.specs.declared.word.Step.{Step}
 use Rattle.pa_slot.specs.declared.word.Step.TheVariants.{Issue, Copy, Reset, Free, Write}
 use Rattle.pa_slot.specs.declared.title.Title.{Title}
 use Rattle.pa_slot.specs.declared.title.OwnState.TheVariants.{Clean, Poisoned}
 use Rattle.pa_machine.specs.declared.event.Event.{Event}
-use Rattle.pa_machine.specs.declared.event.Event.TheVariants.{Count, Store, Poison, Load, Hand, Cut, Uncut}
+use Rattle.pa_machine.specs.declared.event.Event.TheVariants.{Count, Sealed, Store, Poison, Load, Hand, Cut, Uncut}
 use Rattle.pa_machine.specs.declared.event.StepFault.{StepFault}
 use Rattle.pa_machine.specs.declared.event.StepFault.TheVariants.{NotEnabled, OutOfMemory}
 use Rattle.pa_slot.specs.Run.{IsReturning}
 use Rattle.pa_slot.specs.Titles.{content_at, count_word, HasContentFrom, same_title}
 use Rattle.pa_slot.specs.Holdings.{FreeTitle, OwnOf, OwnAs, RefOf}
 use Rattle.pa_machine.specs.Good.{IsGood}
-use Rattle.pa_machine.specs.Events.{State, held_by, total_of, IsEnabled, Happens, IsSameShape}
+use Rattle.pa_machine.specs.Events.{State, held_by, total_of, IsSealedAs, IsEnabled, Happens, IsSameShape}
 
 -- these are the states after the events, one after the other, and each event was enabled
 abbrev pub Played : State → List Event → List State → Type 0
@@ -30,8 +30,8 @@ end_of s (after ∷ ss) = end_of after ss
 abbrev pub IsGoodState : State → Type 0
 IsGoodState s = IsGood s.words (total_of s)
 
--- The event is a returning step on the title's count word. The actor that made it holds the title free after it, and no other
--- actor does.
+-- The event is a returning step on the title's count word. The actor that made it
+-- holds the title free after it, and no other actor does.
 pub record IsReturnedBy (e : Event) (s after : State) (t : Title) : Type 0 where
   pub actor : ℕ
   pub step : Step
@@ -45,6 +45,12 @@ abbrev pub OnlyReturns : Event → State → State → Type 0
 OnlyReturns e s after =
     (t : Title) → 0 < total_of s (OwnOf t) + total_of s (RefOf t) → 0 < total_of after (FreeTitle t) → IsReturnedBy e s after t
 
+-- in a good core, a Free of a sealed Own is a returning step
+abbrev pub SealedFreesReturn : Type 0
+SealedFreesReturn =
+    (s : State) (actor : ℕ) (t : Title) → IsGoodState s → IsEnabled (Count actor t Free) s → IsSealedAs s actor t true →
+    IsReturning Free (count_word s.words t)
+
 -- the value that each title's content words had in common right after its last Issue or Write
 abbrev pub noted : Event → State → (Title → ℕ) → Title → ℕ
 noted (Count actor t Issue) after last u = if same_title t u then content_at after.words t 0 else last u
@@ -52,6 +58,7 @@ noted (Count actor t Copy) after last u = last u
 noted (Count actor t Reset) after last u = last u
 noted (Count actor t Free) after last u = last u
 noted (Count actor t Write) after last u = if same_title t u then content_at after.words t 0 else last u
+noted (Sealed actor t) after last u = if same_title t u then content_at after.words t 0 else last u
 noted (Store actor at value) after last u = last u
 noted (Poison actor t) after last u = last u
 noted (Load actor at) after last u = last u
@@ -85,6 +92,7 @@ pub record IsRunTo (before : State) (events : List Event) (after : State) : Type
 -- the events that may need memory: a copy, which makes one Ref more, and a cut, which makes a title
 abbrev pub MayNeedMemory : Event → Type 0
 MayNeedMemory (Count actor t step) = step ≡ Copy
+MayNeedMemory (Sealed actor t) = ⊥
 MayNeedMemory (Store actor at value) = ⊥
 MayNeedMemory (Poison actor t) = ⊥
 MayNeedMemory (Load actor at) = ⊥

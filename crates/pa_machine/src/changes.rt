@@ -1,7 +1,7 @@
-ghost use Rattle.std.specs.Prelude.{◌≡◌, ℕ, ◌+◌, ◌*◌, ◌/◌, ◌%◌, ◌<◌, ◌≤◌, ◌↔◌, ◌⊎◌, ◌==◌, ◌&&◌, IsTrue, IfSome, IfNone, OnOk, OnErr, length, Some, None, Contains, slice_set, slice_index};
+ghost use Rattle.std.specs.Prelude.{◌≡◌, ℕ, ◌+◌, ◌*◌, ◌/◌, ◌%◌, ◌<◌, ◌≤◌, ◌↔◌, ◌⊎◌, ◌==◌, ◌&&◌, IsTrue, IfSome, IfNone, OnOk, OnErr, length, Some, None, Contains, slice_set, slice_index, Bool, true};
 ghost use Rattle.pa_slot.specs.Count.{held_of, refs_of};
 ghost use Rattle.pa_machine.specs.Events.{IsEnabled, Happens};
-ghost use Rattle.pa_machine.specs.Tables.{AreSound, state_of, IsChangedAt, IsEntryAt, IsSlotStepped, IsSameSlot, IsNextSlot, IsFilled, slot_at, slot_over};
+ghost use Rattle.pa_machine.specs.Tables.{AreSound, state_of, IsChangedAt, IsEntryAt, IsSlotStepped, IsIssuedSlot, IsRestatedSlot, IsSameSlot, IsNextSlot, IsFilled, slot_at, slot_over};
 ghost use Rattle.pa_slot.specs.Titles.{progress};
 ghost use Rattle.pa_machine.specs.Trail.{MayNeedMemory};
 
@@ -23,6 +23,7 @@ impl Tables {
     {
         match *event {
             Event::Count { actor, title, step } => return self.count(actor, title, step),
+            Event::Sealed { actor, title } => self.issue_sealed(actor, title),
             Event::Store { actor, at, value } => self.store(actor, at, value),
             Event::Poison { actor, title } => self.poison(actor, title),
             Event::Load { .. } => {}
@@ -49,6 +50,18 @@ impl Tables {
         Ok(())
     }
 
+    // An Issue whose Own is sealed: the count word as by any Issue, and the actor's Own.
+    pub fn issue_sealed(&mut self, actor: u32, title: Title)
+        requires sound { AreSound self.old }
+        requires enabled { IsEnabled (Event.Sealed actor title) (state_of self.old) }
+        ensures happens { Happens (Event.Sealed actor title) (state_of self.old) (state_of self.new) }
+        ensures sound { AreSound self.new }
+    {
+        let after = next(self.count_word(title), Step::Issue);
+        issue_sealed_at(&mut self.slots, title.first_word(), actor);
+        self.words[title.count_place()] = after.0;
+    }
+
     // Stores the value. If the word is content of an Own, that Own becomes dirty.
     pub fn store(&mut self, actor: u32, at: u32, value: u64)
         requires sound { AreSound self.old }
@@ -69,11 +82,11 @@ impl Tables {
     fn own_over(&self, actor: u32, at: u32) -> Option<usize>
         requires sound { AreSound self.now }
         ensures some { IfSome result
-            (λ p. (o : Slot) × (s : OwnState) × (slot_over self.now.homes.items self.now.slots.items at ≡ Some o)
-            × (o.own ≡ Some (record { actor = actor; state = s })) × (p ≡ o.title.start / 8)) }
+            (λ p. (o : Slot) × (s : OwnState) × (sealed : Bool) × (slot_over self.now.homes.items self.now.slots.items at ≡ Some o)
+            × (o.own ≡ Some (record { actor = actor; state = s; sealed = sealed })) × (p ≡ o.title.start / 8)) }
         ensures none { IfNone result
-            ((o : Slot) (s : OwnState) → slot_over self.now.homes.items self.now.slots.items at ≡ Some o →
-            o.own ≡ Some (record { actor = actor; state = s }) → ⊥) }
+            ((o : Slot) (s : OwnState) (sealed : Bool) → slot_over self.now.homes.items self.now.slots.items at ≡ Some o →
+            o.own ≡ Some (record { actor = actor; state = s; sealed = sealed }) → ⊥) }
     {
         match self.slot_over(at) {
             Some(slot) => slot.own_place(actor),
@@ -242,12 +255,22 @@ fn step_at(
     }
 }
 
-// The title that starts at this word has this owner and state then.
+// The title that starts at this word, which was free, is the actor's sealed Own then.
+fn issue_sealed_at(slots: &mut [Option<Box<Slot>>], place: usize, actor: u32)
+    requires inside { place < length slots.old }
+    requires entry { IsEntryAt (λ o. Unit {0}) slots.old place }
+    ensures { IsChangedAt (IsIssuedSlot true actor) slots.old place slots.new }
+{
+    if let Some(slot) = &mut slots[place] {
+        slot.issue(actor, true);
+    }
+}
+
+// The title that starts at this word has this owner and state then, sealed or not as before.
 fn restate_at(slots: &mut [Option<Box<Slot>>], place: usize, actor: u32, state: OwnState)
     requires inside { place < length slots.old }
     requires entry { IsEntryAt (λ o. Unit {0}) slots.old place }
-    ensures { IsChangedAt
-        (λ o n. IsNextSlot o n o.free (Some (record { actor = actor; state = state })) o.refs.items) slots.old place slots.new }
+    ensures { IsChangedAt (IsRestatedSlot actor state) slots.old place slots.new }
 {
     if let Some(slot) = &mut slots[place] {
         slot.restate(actor, state);

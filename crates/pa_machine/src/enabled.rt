@@ -17,6 +17,7 @@ impl Tables {
     {
         match *event {
             Event::Count { actor, title, step } => self.can_count(actor, title, step),
+            Event::Sealed { actor, title } => self.can_count(actor, title, Step::Issue),
             Event::Store { actor, at, value } => self.can_store(actor, at, value),
             Event::Poison { actor, title } => self.can_poison(actor, title),
             Event::Load { actor, at } => self.can_load(actor, at),
@@ -46,8 +47,7 @@ impl Tables {
     {
         match step {
             Step::Issue => self.holds_free(actor, title) && self.content_is(title, 0),
-            Step::Copy => self.holds_own(actor, title, OwnState::Clean)
-                || self.holds_ref(actor, title),
+            Step::Copy => self.may_copy_own(actor, title) || self.holds_ref(actor, title),
             Step::Reset => self.holds_ref(actor, title),
             Step::Free => self.holds_own(actor, title, OwnState::Poisoned(title.content_words())),
             Step::Write => self.holds_open(actor, title) && self.is_settled(title),
@@ -206,8 +206,8 @@ impl Tables {
         self.has_actor(actor) && self.may_cut(actor, title)
     }
 
-    // Whether an actor that exists may cut the title out: it has at least two whole words, all raw for the actor, and a count
-    // word of 0.
+    // Whether an actor that exists may cut the title out: it has at least two whole words,
+    // all raw for the actor, and a count word of 0.
     fn may_cut(&self, actor: u32, title: Title) -> bool
         requires sound { AreSound self.now }
         requires actor { HasActor (state_of self.now) actor }

@@ -18,6 +18,11 @@ pub enum Event {
         title: Title,
         step: Step,
     },
+    /// An Issue whose Own is sealed: it can't be copied.
+    Sealed {
+        actor: u32,
+        title: Title,
+    },
     /// A write to a raw word or to a content word.
     Store {
         actor: u32,

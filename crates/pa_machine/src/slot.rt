@@ -1,7 +1,7 @@
-ghost use Rattle.std.specs.Prelude.{◌≡◌, ℕ, ◌<◌, ◌/◌, ◌↔◌, ◌⊎◌, ◌++◌, ◌∷◌, [], IsTrue, Some, None, IfSome, IfNone, Contains, OnOk, OnErr, length, slice_index, slice_set, if◌then◌else◌};
+ghost use Rattle.std.specs.Prelude.{◌≡◌, ℕ, ◌<◌, ◌/◌, ◌↔◌, ◌⊎◌, ◌++◌, ◌∷◌, [], IsTrue, Some, None, IfSome, IfNone, Contains, OnOk, OnErr, length, slice_index, slice_set, if◌then◌else◌, Bool, false};
 ghost use Rattle.std.specs.List.{swap_remove};
 ghost use Rattle.pa_slot.specs.Titles.{progress};
-ghost use Rattle.pa_machine.specs.Tables.{IsHeldBy, CanPoison, IsSameSlot, IsNextSlot, IsSlotStepped};
+ghost use Rattle.pa_machine.specs.Tables.{IsHeldBy, CanPoison, IsSameSlot, IsNextSlot, IsIssuedSlot, IsRestatedSlot, IsSlotStepped, is_sealed};
 
 use pa_slot::{OutOfMemory, OwnState, Step, Title};
 use std::alloc::Global;
@@ -11,6 +11,8 @@ use std::alloc::Global;
 pub struct Owner {
     pub actor: u32,
     pub state: OwnState,
+    /// No copy of this Own can be made.
+    pub sealed: bool,
 }
 
 /// A title that some actor holds: the actor that holds it free, its owner, and the actor of each Ref.
@@ -51,8 +53,10 @@ impl Slot {
     // Where the title starts, if the actor has its Own.
     pub fn own_place(&self, actor: u32) -> Option<usize>
         ensures some { IfSome result
-            (λ p. (s : OwnState) × (self.now.own ≡ Some (record { actor = actor; state = s })) × (p ≡ self.now.title.start / 8)) }
-        ensures none { IfNone result ((s : OwnState) → self.now.own ≡ Some (record { actor = actor; state = s }) → ⊥) }
+            (λ p. (s : OwnState) × (sealed : Bool) × (self.now.own ≡ Some (record { actor = actor; state = s; sealed = sealed })) ×
+            (p ≡ self.now.title.start / 8)) }
+        ensures none { IfNone result
+            ((s : OwnState) (sealed : Bool) → self.now.own ≡ Some (record { actor = actor; state = s; sealed = sealed }) → ⊥) }
     {
         if self.is_own_of(actor) {
             Some(self.title.first_word())
@@ -68,11 +72,44 @@ impl Slot {
         self.free == Some(actor)
     }
 
-    // Whether the actor has the Own in this state.
+    // Whether the actor has the Own in this state, sealed or not.
     pub fn is_owned_by(&self, actor: u32, state: OwnState) -> bool
-        ensures { IsTrue result ↔ (self.now.own ≡ Some (record { actor = actor; state = state })) }
+        ensures { IsTrue result ↔
+            ((sealed : Bool) × (self.now.own ≡ Some (record { actor = actor; state = state; sealed = sealed }))) }
     {
-        self.own == Some(Owner { actor, state })
+        self.is_own(Owner {
+            actor,
+            state,
+            sealed: self.is_sealed(),
+        })
+    }
+
+    // Whether the actor has the Own clean and not sealed, so that it may copy it.
+    pub fn can_copy(&self, actor: u32) -> bool
+        ensures { IsTrue result ↔ (self.now.own ≡ Some (record { actor = actor; state = OwnState.Clean; sealed = false })) }
+    {
+        self.is_own(Owner {
+            actor,
+            state: OwnState::Clean,
+            sealed: false,
+        })
+    }
+
+    // Whether this is the Own.
+    fn is_own(&self, owner: Owner) -> bool
+        ensures { IsTrue result ↔ (self.now.own ≡ Some owner) }
+    {
+        self.own == Some(owner)
+    }
+
+    // Whether the Own is sealed, which is false where there is none.
+    fn is_sealed(&self) -> bool
+        ensures { result ≡ is_sealed self.now.own }
+    {
+        match self.own {
+            Some(owner) => owner.sealed,
+            None => false,
+        }
     }
 
     // Whether the actor has a Ref.
@@ -91,7 +128,8 @@ impl Slot {
 
     // Whether the actor has the Own, in any state.
     fn is_own_of(&self, actor: u32) -> bool
-        ensures { IsTrue result ↔ ((state : OwnState) × (self.now.own ≡ Some (record { actor = actor; state = state }))) }
+        ensures { IsTrue result ↔
+            ((state : OwnState) × (sealed : Bool) × (self.now.own ≡ Some (record { actor = actor; state = state; sealed = sealed }))) }
     {
         match self.own {
             Some(owner) => owner.actor == actor,
@@ -118,13 +156,7 @@ impl Slot {
         ensures asks { OnErr result (step ≡ Step.Copy) }
     {
         match step {
-            Step::Issue => {
-                self.free = None;
-                self.own = Some(Owner {
-                    actor,
-                    state: OwnState::Clean,
-                });
-            }
+            Step::Issue => self.issue(actor, false),
             Step::Copy => self.refs.push(actor)?,
             Step::Reset => {
                 self.drop_ref(actor);
@@ -134,12 +166,21 @@ impl Slot {
                 self.own = None;
                 self.give_back(actor, back);
             }
-            Step::Write => self.own = Some(Owner {
-                actor,
-                state: OwnState::Clean,
-            }),
+            Step::Write => self.restate(actor, OwnState::Clean),
         }
         Ok(())
+    }
+
+    // The title, which was free, is the actor's clean Own, sealed or not.
+    pub fn issue(&mut self, actor: u32, sealed: bool)
+        ensures { IsIssuedSlot sealed actor self.old self.new }
+    {
+        self.free = None;
+        self.own = Some(Owner {
+            actor,
+            state: OwnState::Clean,
+            sealed,
+        });
     }
 
     // The actor holds the slot free, if the step left bit and count 0.
@@ -175,11 +216,16 @@ impl Slot {
         0
     }
 
-    // Sets the owner and its state.
+    // Sets the owner and its state. The Own stays sealed or not.
     pub fn restate(&mut self, actor: u32, state: OwnState)
-        ensures { IsNextSlot self.old self.new self.old.free (Some (record { actor = actor; state = state })) self.old.refs.items }
+        ensures { IsRestatedSlot actor state self.old self.new }
     {
-        self.own = Some(Owner { actor, state });
+        let sealed = self.is_sealed();
+        self.own = Some(Owner {
+            actor,
+            state,
+            sealed,
+        });
     }
 
     // The title becomes free of this actor.

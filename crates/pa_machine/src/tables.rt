@@ -1,8 +1,8 @@
-ghost use Rattle.std.specs.Prelude.{◌≡◌, ℕ, ◌+◌, ◌-◌, ◌*◌, ◌/◌, ◌<◌, ◌≤◌, ◌%◌, ◌↔◌, ◌⊎◌, IsTrue, Some, None, length, option_copied, IfOk, replicate};
+ghost use Rattle.std.specs.Prelude.{◌≡◌, ℕ, ◌+◌, ◌-◌, ◌*◌, ◌/◌, ◌<◌, ◌≤◌, ◌%◌, ◌↔◌, ◌⊎◌, IsTrue, Some, None, length, option_copied, IfOk, replicate, false};
 ghost use Rattle.std.specs.List.{slice_index_or};
 ghost use Rattle.pa_slot.specs.Titles.{IsWellFormed, count_word, HasContentFrom, IsUniform};
 ghost use Rattle.pa_slot.specs.Holdings.{FreeTitle, OwnAs, RefOf};
-ghost use Rattle.pa_machine.specs.Events.{HasActor, Holds, HoldsRaw};
+ghost use Rattle.pa_machine.specs.Events.{HasActor, Holds, HoldsRaw, IsSealedAs};
 ghost use Rattle.pa_machine.specs.Tables.{AreSound, IsStartTables, state_of, slot_at, slot_over};
 
 use crate::slot::Slot;
@@ -125,6 +125,19 @@ impl Tables {
     {
         match self.slot_of(title) {
             Some(slot) => slot.is_owned_by(actor, state),
+            None => false,
+        }
+    }
+
+    // Whether the actor has the title's Own clean and not sealed, so that it may copy it.
+    pub fn may_copy_own(&self, actor: u32, title: Title) -> bool
+        requires sound { AreSound self.now }
+        requires actor { HasActor (state_of self.now) actor }
+        ensures { IsTrue result ↔
+            (Holds (state_of self.now) actor (OwnAs title OwnState.Clean) × IsSealedAs (state_of self.now) actor title false) }
+    {
+        match self.slot_of(title) {
+            Some(slot) => slot.can_copy(actor),
             None => false,
         }
     }

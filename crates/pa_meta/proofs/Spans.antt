@@ -11,12 +11,18 @@ use Rattle.pa_meta.specs.Meta.{after_record}
 use Rattle.pa_meta.specs.Stores.{IsPayloadOf, HasSpanAt, Rerecorded}
 
 -- after a record was written, the same offsets have a span
-pub had_after : (v : View) (supers : List SuperPage) (at : ℕ) (s : Span) → HasSpanAt v supers at → IsRecordAt (after_record at s v).words (record_word at) s → (u : ℕ) →
+pub had_after : (v : View) (supers : List SuperPage) (at : ℕ) (s : Span) → HasSpanAt v supers at →
+    IsRecordAt (after_record at s v).words (record_word at) s → (u : ℕ) →
     HasSpanAt (after_record at s v) supers u ↔ HasSpanAt v supers u
 had_after v supers at s here reads u = elim (eqb_tells u at) [
   | inl w ↦ (
     λ h. subst (HasSpanAt v supers) (sym w.1) here,
-    λ h. record { payload = h.payload; raw = h.raw; span = s; recorded = subst (λ z. IsRecordAt (after_record at s v).words (record_word z) s) (sym w.1) reads },
+    λ h. record {
+      payload = h.payload;
+      raw = h.raw;
+      span = s;
+      recorded = subst (λ z. IsRecordAt (after_record at s v).words (record_word z) s) (sym w.1) reads;
+    },
   )
   | inr w ↦ (
     λ h. record {
@@ -24,7 +30,8 @@ had_after v supers at s here reads u = elim (eqb_tells u at) [
       raw = h.raw;
       span = h.span;
       recorded = same_record (after_record at s v).words v.words (record_word u) h.span
-          (back_kept v.words (after_record at s v).words (record_word u) (four_kept v.words s u at h.payload.aligned here.payload.aligned w.1)) h.recorded;
+          (back_kept v.words (after_record at s v).words (record_word u)
+          (four_kept v.words s u at h.payload.aligned here.payload.aligned w.1)) h.recorded;
     },
     λ h. record {
       payload = h.payload;
@@ -37,7 +44,8 @@ had_after v supers at s here reads u = elim (eqb_tells u at) [
 ]
 
 -- the writing of a record writes records alone
-pub rerecorded : (v : View) (supers : List SuperPage) (at : ℕ) (s : Span) → IsPayloadOf supers at → Rerecorded supers v (after_record at s v)
+pub rerecorded : (v : View) (supers : List SuperPage) (at : ℕ) (s : Span) → IsPayloadOf supers at →
+    Rerecorded supers v (after_record at s v)
 rerecorded v supers at s payload = record {
   rest = refl;
   long = long_as v.words (record_word at) s;

@@ -32,9 +32,11 @@ pub record Rerecorded (supers : List SuperPage) (v w : View) : Type 0 where
 pub rerecorded_none : (supers : List SuperPage) (v : View) → Rerecorded supers v v
 rerecorded_none supers v = record { rest = refl; long = refl; others = λ q none. refl }
 
-pub rerecorded_on : (supers more : List SuperPage) (u v w : View) → more ≡ supers → Rerecorded supers u v → Rerecorded more v w → Rerecorded supers u w
+pub rerecorded_on : (supers more : List SuperPage) (u v w : View) → more ≡ supers → Rerecorded supers u v →
+    Rerecorded more v w → Rerecorded supers u w
 rerecorded_on supers more u v w same first second = record {
   rest = second.rest ∙ ap (λ (x : View). record x { words = w.words; since = record x.since { stored = w.since.stored } }) first.rest;
   long = second.long ∙ first.long;
-  others = λ q none. second.others q (λ place payload. none place (subst (λ (pages : List SuperPage). IsPayloadOf pages place) same payload)) ∙ first.others q none;
+  others = λ q none. second.others q
+      (λ place payload. none place (subst (λ (pages : List SuperPage). IsPayloadOf pages place) same payload)) ∙ first.others q none;
 }

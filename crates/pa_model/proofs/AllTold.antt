@@ -13,7 +13,8 @@ use Rattle.pa_player.specs.Told.{IsToldRun}
 use Rattle.pa_player.proofs.Ended.{ends_filed, ends_printed}
 
 -- what is reported at the end is what a run of the trace contains
-pub all_told : (t : Trace) (p : Player) → p.version ≡ t.version → IsWithinLimits t → IsPlaying t.region t.partitions t.threads t.lines p → IsAllTold t (phase_ended p).told
+pub all_told : (t : Trace) (p : Player) → p.version ≡ t.version → IsWithinLimits t → IsPlaying t.region t.partitions t.threads t.lines p →
+    IsAllTold t (phase_ended p).told
 all_told t p version within playing =
     let filed : (r : Run) → IsToldRun (phase_ended p).told r → IsFileRun t r = λ r told. ends_filed t p r version playing told in
     record {

@@ -39,6 +39,8 @@ finishes p run going told =
       goes_on = subst (λ ps. GoesOnFrom p ps (told_by run)) (sym records) (subst (GoesOnFrom p (records_so_far p)) (sym is) on);
     }
 
-pub is_printed : (p : Player) (front text : List ℕ) → IsGoing p → IsTraceText (trace_so_far p) front → IsToldText (phase_ended p.inner).told text
+pub is_printed : (p : Player) (front text : List ℕ) → IsGoing p → IsTraceText (trace_so_far p) front →
+    IsToldText (phase_ended p.inner).told text
     → IsPrinted p front text
-is_printed p front text going traced is = record { run = is.run; finished = finishes p is.run going is.lists; traced = traced; printed = is.text }
+is_printed p front text going traced is =
+    record { run = is.run; finished = finishes p is.run going is.lists; traced = traced; printed = is.text }

@@ -62,7 +62,8 @@ records_are p version h =
     ap (played rules p.lines.items) (sym h.entries) ∙ records_are_lines.same rules p.lines.items h.ps (own_lines p version h)
 
 -- lines and records more
-records_more : (rules : Rules) (ls more : List Line) (ps added : List Played) (es new : List Entry) → map entry_of ps ≡ es → map entry_of added ≡ new → AreLines rules (ls ++ more) (ps ++ added)
+records_more : (rules : Rules) (ls more : List Line) (ps added : List Played) (es new : List Entry) → map entry_of ps ≡ es →
+    map entry_of added ≡ new → AreLines rules (ls ++ more) (ps ++ added)
     → played rules (ls ++ more) (es ++ new) ≡ ps ++ added
 records_more rules ls more ps added es new old last lines =
     let all : map entry_of (ps ++ added) ≡ es ++ new = map-append entry_of ps added ∙ ap₂ (λ xs ys. xs ++ ys) old last in
@@ -70,7 +71,8 @@ records_more rules ls more ps added es new old last lines =
 
 -- ---- a line more
 
-module _ (p q : Player) (line : Line) (going : IsGoing p) (few : length p.lines.items < 65535) (within : IsLineWithin p.lines.head.partitions p.lines.head.threads line) where
+module _ (p q : Player) (line : Line) (going : IsGoing p) (few : length p.lines.items < 65535)
+    (within : IsLineWithin p.lines.head.partitions p.lines.head.threads line) where
   can_go_on : CanGoOn p.lines.head.region p.lines.head.partitions p.lines.head.threads p.lines.items line p.inner
   can_go_on = record {
     playing = going.playing;
@@ -80,10 +82,17 @@ module _ (p q : Player) (line : Line) (going : IsGoing p) (few : length p.lines.
   }
 
   pub ready : IsReady line p.inner
-  ready = record { region = p.lines.head.region; partitions = p.lines.head.partitions; threads = p.lines.head.threads; ls = p.lines.items; can = can_go_on }
+  ready = record {
+    region = p.lines.head.region;
+    partitions = p.lines.head.partitions;
+    threads = p.lines.head.threads;
+    ls = p.lines.items;
+    can = can_go_on;
+  }
 
   module _ (at : q.lines.head ≡ p.lines.head) (pushed : q.lines.items ≡ p.lines.items ++ line ∷ []) where
-    still_going : IsPlaying p.lines.head.region p.lines.head.partitions p.lines.head.threads (p.lines.items ++ line ∷ []) q.inner → q.inner.version ≡ p.inner.version → IsGoing q
+    still_going : IsPlaying p.lines.head.region p.lines.head.partitions p.lines.head.threads (p.lines.items ++ line ∷ []) q.inner →
+        q.inner.version ≡ p.inner.version → IsGoing q
     still_going playing version =
         let old = going.within in
         let next : WasPlayed p.lines.head (p.lines.items ++ line ∷ []) q.inner = record {
@@ -98,7 +107,8 @@ module _ (p q : Player) (line : Line) (going : IsGoing p) (few : length p.lines.
         } in
         subst (λ h. WasPlayed h q.lines.items q.inner) (sym at) (subst (λ ls. WasPlayed p.lines.head ls q.inner) (sym pushed) next)
 
-    later : (added : List Played) (es : List Entry) → records_so_far q ≡ records_so_far p ++ added → TellsOn es p.inner q.inner → IsLater p q
+    later : (added : List Played) (es : List Entry) → records_so_far q ≡ records_so_far p ++ added →
+        TellsOn es p.inner q.inner → IsLater p q
     later added es more tells ps r on = record {
       records = (
         added ++ on.records.0,
@@ -114,16 +124,20 @@ module _ (p q : Player) (line : Line) (going : IsGoing p) (few : length p.lines.
           (a.0 ++ b.0, b.1 ∙ ap (λ xs. xs ++ b.0) a.1 ∙ append_assoc (history_in p.inner.told k) a.0 b.0);
     }
 
-    plays : (answer : Option Answer) (added : List Played) (es : List Entry) → IsPlaying p.lines.head.region p.lines.head.partitions p.lines.head.threads (p.lines.items ++ line ∷ []) q.inner
-        → TellsOn es p.inner q.inner → IsRecorded (rules_by p.lines.head) (length p.lines.items + 2) (phases_in p.lines.items) line answer added
-        → map entry_of added ≡ es → AreLines (rules_by p.lines.head) (p.lines.items ++ line ∷ []) (going.playing.ps ++ added) → PlaysLine p line answer q
+    plays : (answer : Option Answer) (added : List Played) (es : List Entry) →
+        IsPlaying p.lines.head.region p.lines.head.partitions p.lines.head.threads (p.lines.items ++ line ∷ []) q.inner
+        → TellsOn es p.inner q.inner →
+        IsRecorded (rules_by p.lines.head) (length p.lines.items + 2) (phases_in p.lines.items) line answer added
+        → map entry_of added ≡ es →
+        AreLines (rules_by p.lines.head) (p.lines.items ++ line ∷ []) (going.playing.ps ++ added) → PlaysLine p line answer q
     plays answer added es playing tells recorded last lines =
         let old = going.playing in
         let whole : played (rules_by p.lines.head) (p.lines.items ++ line ∷ []) (p.inner.told.entries ++ es) ≡ old.ps ++ added =
         records_more (rules_by p.lines.head) p.lines.items (line ∷ []) old.ps added p.inner.told.entries es old.entries last lines in
         let more : records_so_far q ≡ records_so_far p ++ added =
         ap (λ (k : Head). played (rules_by k) q.lines.items q.inner.told.entries) at
-        ∙ ap₂ (played (rules_by p.lines.head)) pushed tells.entries ∙ whole ∙ ap (λ xs. xs ++ added) (sym (records_are p going.version old)) in
+        ∙ ap₂ (played (rules_by p.lines.head)) pushed tells.entries ∙ whole ∙
+        ap (λ xs. xs ++ added) (sym (records_are p going.version old)) in
         record {
           going = still_going playing tells.version;
           head = at;
@@ -135,8 +149,10 @@ module _ (p q : Player) (line : Line) (going : IsGoing p) (few : length p.lines.
         }
 
 -- the line was played with this answer
-pub plays_line : (p q : Player) (line : Line) (answer : Option Answer) → IsGoing p → length p.lines.items < 65535 → IsLineWithin p.lines.head.partitions p.lines.head.threads line
-    → q.lines.head ≡ p.lines.head → q.lines.items ≡ p.lines.items ++ line ∷ [] → GoesTo p.inner line answer q.inner → PlaysLine p line answer q
+pub plays_line : (p q : Player) (line : Line) (answer : Option Answer) → IsGoing p → length p.lines.items < 65535 →
+    IsLineWithin p.lines.head.partitions p.lines.head.threads line
+    → q.lines.head ≡ p.lines.head → q.lines.items ≡ p.lines.items ++ line ∷ [] →
+    GoesTo p.inner line answer q.inner → PlaysLine p line answer q
 plays_line p q Phase None going few within at pushed goes =
     let to = goes p.lines.head.region p.lines.head.partitions p.lines.head.threads p.lines.items (can_go_on p q Phase going few within) in
     let old = going.playing in
@@ -147,9 +163,11 @@ plays_line p q Phase None going few within at pushed goes =
 plays_line p q Phase (Some answer) going few within at pushed goes = absurd goes
 plays_line p q (Do thread op) None going few within at pushed goes = absurd goes
 plays_line p q (Do thread op) (Some answer) going few within at pushed goes =
-    let to = goes p.lines.head.region p.lines.head.partitions p.lines.head.threads p.lines.items (can_go_on p q (Do thread op) going few within) in
+    let to = goes p.lines.head.region p.lines.head.partitions p.lines.head.threads p.lines.items
+    (can_go_on p q (Do thread op) going few within) in
     let old = going.playing in
     let x : Played = played_at (rules_by p.lines.head) p.lines.items thread op answer in
     let e : ℕ → List Entry = λ n. record { line = n; thread = thread; answer = answer } ∷ [] in
-    plays p q (Do thread op) going few within at pushed (Some answer) (x ∷ []) (record_of p.inner thread answer ∷ []) to.0 to.1 refl (ap e (sym old.line))
+    plays p q (Do thread op) going few within at pushed (Some answer) (x ∷ []) (record_of p.inner thread answer ∷ []) to.0 to.1 refl
+    (ap e (sym old.line))
     (lines_more (rules_by p.lines.head) p.lines.items old.ps thread op answer (own_lines p going.version old))

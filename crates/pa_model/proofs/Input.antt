@@ -19,7 +19,7 @@ use Rattle.pa_player.proofs.Reporting.{end_ready}
 use Rattle.pa_player.proofs.Start.{begins_playing}
 
 -- what holds of a list holds of its last member
-last_of : (P : Line → Type 0) (ls : List Line) (l : Line) → AllByRecursion P (ls ++ l ∷ []) → P l
+pub last_of : {A : Type 0} (P : A → Type 0) (ls : List A) (l : A) → AllByRecursion P (ls ++ l ∷ []) → P l
 last_of P [] l h = h.0
 last_of P (x ∷ ls) l h = last_of P ls l h.1
 

@@ -1,5 +1,5 @@
 mod AllTold
-mod Input
+pub mod Input
 mod Going
 mod Owned
 mod Finished

@@ -33,13 +33,16 @@ use Rattle.pa_model.proofs.Going.{records_are}
 
 -- ---- usable numbers
 
-made_here : (a : Answer) (seen : Seen) (n : ℕ) (s : SlotName) (x y : ℕ) → a ≡ Made seen n → seen.slot ≡ s → usable_or (made_of a) s x ≡ usable_or (made_of a) s y
+made_here : (a : Answer) (seen : Seen) (n : ℕ) (s : SlotName) (x y : ℕ) → a ≡ Made seen n → seen.slot ≡ s →
+    usable_or (made_of a) s x ≡ usable_or (made_of a) s y
 made_here a seen n s x y made at =
-    let one : (k : ℕ) → usable_or (made_of a) s k ≡ n = λ k. ap (λ b. usable_or (made_of b) s k) made ∙ (rw (same_slot_yes seen.slot s at) refl) in
+    let one : (k : ℕ) →
+    usable_or (made_of a) s k ≡ n = λ k. ap (λ b. usable_or (made_of b) s k) made ∙ (rw (same_slot_yes seen.slot s at) refl) in
     one x ∙ sym (one y)
 
 -- records more don't change that of a slot that was made before
-usable_more : (ps more : List Played) (s : SlotName) (x : Played) (seen : Seen) (n : ℕ) → Contains ps x → x.answer ≡ Made seen n → seen.slot ≡ s
+usable_more : (ps more : List Played) (s : SlotName) (x : Played) (seen : Seen) (n : ℕ) → Contains ps x →
+    x.answer ≡ Made seen n → seen.slot ≡ s
     → usable_in (ps ++ more) s ≡ usable_in ps s
 usable_more [] more s x seen n c made at = absurd (omega (arith, c.1))
 usable_more (p ∷ ps) more s x seen n (zero, lt, same) made at =
@@ -65,7 +68,8 @@ owns p thread reg going ps r on =
     let is : records_so_far p ≡ h.ps = records_are p going.version h in
     let v = p.lines.head.version in
     let told = subst (λ k. RowsNamed k a.word a.usable a.cells no_regs h.ps a.regs) going.version h.told.rows in
-    let rows : RowsTo (facts_of v (usable_in ps) r.cells) no_regs h.ps a.regs = rows_end v a.word a.word a.usable (usable_in ps) a.cells r.cells (record {
+    let rows : RowsTo (facts_of v (usable_in ps) r.cells) no_regs h.ps a.regs =
+    rows_end v a.word a.word a.usable (usable_in ps) a.cells r.cells (record {
       used = λ s up. up;
       sizes = λ s up.
           let m = used_made h.ps a.word s h.told.runs up in
@@ -76,7 +80,8 @@ owns p thread reg going ps r on =
           let c = on.cells k in
           subst (λ xs. IsExchange (λ n. xs) k j e) (sym c.1) (slice_get_more (a.cells k) c.0 j e at);
     }) no_regs h.ps a.regs told in
-    let sized : (i : ℕ) → i < length p.inner.table → HasSize r.roots (slot_at p.inner.table i).partition (name_of (slot_at p.inner.table i).title) (slot_at p.inner.table i).title.len =
+    let sized : (i : ℕ) → i < length p.inner.table →
+    HasSize r.roots (slot_at p.inner.table i).partition (name_of (slot_at p.inner.table i).title) (slot_at p.inner.table i).title.len =
     λ i lt.
     let x = slot_at p.inner.table i in
     let c = on.journals x.partition in
@@ -97,7 +102,8 @@ owner_of slots (Ref i) x is = absurd cc
 owner_of slots Freed x is = absurd cc
 owner_of slots Cleared x is = absurd cc
 
-pub reads_owned : (p : Player) (line : Line) (answer : Option Answer) (q : Player) → GoesTo p.inner line answer q.inner → ReadsOwnOn p.inner line answer → ReadsOwned p line answer
+pub reads_owned : (p : Player) (line : Line) (answer : Option Answer) (q : Player) → GoesTo p.inner line answer q.inner →
+    ReadsOwnOn p.inner line answer → ReadsOwned p line answer
 reads_owned p Phase answer q goes reads thread reg h is owns = absurd cc
 reads_owned p (Do t op) None q goes reads thread reg h is owns = absurd goes
 reads_owned p (Do t op) (Some answer) q goes reads thread reg h is owns =

@@ -70,8 +70,8 @@ pub record IsNew (start : Head) (p : Player) : Type 0 where
 
 -- ---- runs that go on from what was played
 
--- What a run contains, and its records with the ops, go on from here: they begin with the records, the journals and the
--- histories so far.
+-- What a run contains, and its records with the ops, go on from here: they begin with the records,
+-- the journals and the histories so far.
 pub record GoesOnFrom (p : Player) (ps : List Played) (r : Told) : Type 0 where
   pub records : (more : List Played) × (ps ≡ records_so_far p ++ more)
   pub journals : (q : ℕ) → (more : List RootEntry) × (r.roots q ≡ journals p.inner q ++ more)
@@ -83,8 +83,8 @@ IsLater p q = (ps : List Played) (r : Told) → GoesOnFrom q ps r → GoesOnFrom
 
 -- ---- a line
 
--- What a line adds to the records by these rules: if it is an op, its record with its number and phase. A line that begins a phase has no answer and
--- adds none.
+-- What a line adds to the records by these rules: if it is an op, its record with its number and phase.
+-- A line that begins a phase has no answer and adds none.
 abbrev pub IsRecorded : Rules → ℕ → ℕ → Line → Option Answer → List Played → Type 0
 IsRecorded rules line phase Phase None added = added ≡ []
 IsRecorded rules line phase Phase (Some answer) added = ⊥

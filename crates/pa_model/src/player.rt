@@ -64,8 +64,8 @@ impl Player<Told<ListOutput>, Kept<LineList>> {
 }
 
 impl Player<Told<TextOutput>, Kept<LineText>> {
-    /// No line yet, as in `new`, of a player that prints its lines and its run. Memory is reserved for this many lines and their
-    /// records.
+    /// No line yet, as in `new`, of a player that prints its lines and its run.
+    /// Memory is reserved for this many lines and their records.
     pub fn printing(
         alloc: Global,
         head: Head,

@@ -19,8 +19,8 @@ const LINE: usize = 8;
 
 /// Plays a trace within the limits on one thread, and returns the whole run: a record for each op line, the journals of the
 /// roots, the entries of the pool, the histories of the cells, and the report by phase and partition. The trace's threads
-/// take their turns in the order of its lines. The run has a run of the core, in which each op is played as events. Out of
-/// memory is the only error.
+/// take their turns in the order of its lines. The run has a run of the core, in which each op is played as events.
+/// Out of memory is the only error.
 pub fn play(alloc: Global, trace: &Trace) -> Result<Run, OutOfMemory>
     requires within { IsWithinLimits trace.now }
     ensures run { IfOk result (IsFileRun trace.now) }

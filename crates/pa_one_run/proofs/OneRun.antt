@@ -24,7 +24,8 @@ use Rattle.pa_one_run.proofs.lines.Cuts.{cut_start, IsCut, cut_next, IsRecorded,
 -- ---- what comes before a line, if nothing comes between
 
 -- two runs that agree before a line agree before a later one, if no record comes between
-agrees_later : (a b : Parts) (n m : ℕ) (before rest rest' : List Played) → IsFiled a → IsFiled b → IsCut a n before rest → IsCut b n before rest' → n ≤ m →
+agrees_later : (a b : Parts) (n m : ℕ) (before rest rest' : List Played) → IsFiled a → IsFiled b → IsCut a n before rest →
+    IsCut b n before rest' → n ≤ m →
     ((x : Played) → Contains rest x → m ≤ x.line) → ((x : Played) → Contains rest' x → m ≤ x.line) → Agrees n a b → Agrees m a b
 agrees_later a b n m before rest rest' h k here here' up late late' agrees =
     let gap = recorded_cases a n m before rest here late in
@@ -35,7 +36,8 @@ agrees_later a b n m before rest rest' h k here here' up late late' agrees =
       rules = agrees.rules;
       pool = sym (below_gap pool_line n m a.pools up (λ e among. gap e.line (pool_recorded a e h among))) ∙ agrees.pool
           ∙ below_gap pool_line n m b.pools up (λ e among. gap' e.line (pool_recorded b e k among));
-      journals = λ p. sym (below_gap entry_line n m (a.roots p) up (λ e among. gap e.line (entries_recorded a p e h among))) ∙ agrees.journals p
+      journals = λ p. sym (below_gap entry_line n m (a.roots p) up (λ e among. gap e.line (entries_recorded a p e h among))) ∙
+          agrees.journals p
           ∙ below_gap entry_line n m (b.roots p) up (λ e among. gap' e.line (entries_recorded b p e k among));
       cells = λ c. sym (below_gap cell_line n m (a.cells c) up (λ e among. gap e.line (cells_recorded a c e h among))) ∙ agrees.cells c
           ∙ below_gap cell_line n m (b.cells c) up (λ e among. gap' e.line (cells_recorded b c e k among));
@@ -53,7 +55,8 @@ agrees_next a b before rest rest' x h k parts parts' agrees =
       partitions = agrees.partitions;
       rules = agrees.rules;
       pool = next_below pool_line x.line a.pools b.pools h.order.pool k.order.pool agrees.pool pool;
-      journals = λ p. next_below entry_line x.line (a.roots p) (b.roots p) (h.order.journals p) (k.order.journals p) (agrees.journals p) (entries p);
+      journals = λ p. next_below entry_line x.line (a.roots p) (b.roots p) (h.order.journals p) (k.order.journals p) (agrees.journals p)
+          (entries p);
       cells = λ c. next_below cell_line x.line (a.cells c) (b.cells c) (rising_strictly cell_line (a.cells c) (h.order.exchanges c))
           (rising_strictly cell_line (b.cells c) (k.order.exchanges c)) (agrees.cells c) (exchanges c);
     }
@@ -74,7 +77,8 @@ all_below a n before cut line of = elim (recorded_cases a n (line + 1) before []
   | inr more ↦ absurd (omega arith)
 ]
 
-at_end : (a b : Parts) (n : ℕ) (before : List Played) → IsFiled a → IsFiled b → IsCut a n before [] → IsCut b n before [] → Agrees n a b → IsOne a b [] []
+at_end : (a b : Parts) (n : ℕ) (before : List Played) → IsFiled a → IsFiled b → IsCut a n before [] → IsCut b n before [] → Agrees n a b →
+    IsOne a b [] []
 at_end a b n before h k here here' agrees =
     let low = all_below a n before here in
     let low' = all_below b n before here' in
@@ -89,12 +93,14 @@ at_end a b n before h k here here' agrees =
     }
 
 -- if the next records of two runs are of one op line, they are one record, and the runs agree before the next line
-next_one : (a b : Parts) (n : ℕ) (before rest rest' : List Played) (x y : Played) → IsFiled a → IsFiled b → IsCut a n before (x ∷ rest) → IsCut b n before (y ∷ rest') →
+next_one : (a b : Parts) (n : ℕ) (before rest rest' : List Played) (x y : Played) → IsFiled a → IsFiled b → IsCut a n before (x ∷ rest) →
+    IsCut b n before (y ∷ rest') →
     op_line_of x ≡ op_line_of y → Agrees n a b → (x ≡ y) × Agrees x.line a b
 next_one a b n before rest rest' x y h k here here' same agrees =
     let lines : x.line ≡ y.line = ap (λ (z : OpLine). z.line) same in
     let there : Agrees x.line a b =
-    agrees_later a b n x.line before (x ∷ rest) (y ∷ rest') h k here here' (here.late x (first_in x rest)) (cut_here a before rest x h here.parts).late
+    agrees_later a b n x.line before (x ∷ rest) (y ∷ rest') h k here here' (here.late x (first_in x rest))
+    (cut_here a before rest x h here.parts).late
     (λ z among. let up = (cut_here b before rest' y k here'.parts).late z among in omega arith) agrees in
     let answers = answers_agree a b before rest rest' x y h k here.parts here'.parts same there
     (placed_alike a b before rest rest' x y h k here.parts here'.parts same there)
@@ -104,15 +110,18 @@ next_one a b n before rest rest' x y h k here here' same agrees =
 head_of : (x y : OpLine) (xs ys : List OpLine) → x ∷ xs ≡ y ∷ ys → x ≡ y
 head_of x y xs ys e = ap (λ z. get_or z 0 x) e
 
-walk : (a b : Parts) (n : ℕ) (before rest rest' : List Played) → IsFiled a → IsFiled b → IsCut a n before rest → IsCut b n before rest' → map op_line_of rest ≡ map op_line_of rest' → Agrees n a b →
+walk : (a b : Parts) (n : ℕ) (before rest rest' : List Played) → IsFiled a → IsFiled b → IsCut a n before rest → IsCut b n before rest' →
+    map op_line_of rest ≡ map op_line_of rest' → Agrees n a b →
     IsOne a b rest rest'
 walk a b n before [] [] h k here here' same agrees = at_end a b n before h k here here' agrees
 walk a b n before [] (y ∷ rest') h k here here' same agrees = absurd cc
 walk a b n before (x ∷ rest) [] h k here here' same agrees = absurd cc
 walk a b n before (x ∷ rest) (y ∷ rest') h k here here' same agrees =
-    let (one, there) = next_one a b n before rest rest' x y h k here here' (head_of _ _ (map op_line_of rest) (map op_line_of rest') same) agrees in
+    let (one, there) = next_one a b n before rest rest' x y h k here here'
+    (head_of _ _ (map op_line_of rest) (map op_line_of rest') same) agrees in
     let here'' : IsCut b n before (x ∷ rest') = subst (λ z. IsCut b n before (z ∷ rest')) (sym one) here' in
-    let ih = walk a b (x.line + 1) (before ++ x ∷ []) rest rest' h k (cut_next a before rest x h here.parts) (cut_next b before rest' x k here''.parts) (ap (drop 1) same)
+    let ih = walk a b (x.line + 1) (before ++ x ∷ []) rest rest' h k (cut_next a before rest x h here.parts)
+    (cut_next b before rest' x k here''.parts) (ap (drop 1) same)
     (agrees_next a b before rest rest' x h k here.parts here''.parts there) in
     record {
       records = ap (λ z. z ∷ rest) one ∙ ap (λ zs. y ∷ zs) ih.records;
@@ -121,7 +130,8 @@ walk a b n before (x ∷ rest) (y ∷ rest') h k here here' same agrees =
       exchanges = ih.exchanges;
     }
 
-pub one_filed : (a b : Parts) → IsFiled a → IsFiled b → a.supers ≡ b.supers → a.partitions ≡ b.partitions → a.rules ≡ b.rules → map op_line_of a.ps ≡ map op_line_of b.ps → IsOne a b a.ps b.ps
+pub one_filed : (a b : Parts) → IsFiled a → IsFiled b → a.supers ≡ b.supers → a.partitions ≡ b.partitions → a.rules ≡ b.rules →
+    map op_line_of a.ps ≡ map op_line_of b.ps → IsOne a b a.ps b.ps
 one_filed a b h k supers partitions rules same =
     walk a b 0 [] a.ps b.ps h k (cut_start a) (cut_start b) same
     (record {
@@ -153,7 +163,8 @@ one_file_run t r r' limits (legal, order) (legal', order') =
     (subst (λ z. IsReport phases t.partitions t.threads ps' z told.roots told'.report) (sym one.pool)
     (subst (λ z. IsReport phases t.partitions t.threads ps' told'.pools z told'.report) journals legal'.report)) in
     record {
-      entries = sym (records_are_lines.told (rules_of t) t.lines told.entries legal.lines) ∙ ap (map entry_of) one.records ∙ records_are_lines.told (rules_of t) t.lines told'.entries legal'.lines;
+      entries = sym (records_are_lines.told (rules_of t) t.lines told.entries legal.lines) ∙ ap (map entry_of) one.records ∙
+          records_are_lines.told (rules_of t) t.lines told'.entries legal'.lines;
       roots = one.entries;
       pool = one.pool;
       cells = one.exchanges;

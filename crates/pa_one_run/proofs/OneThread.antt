@@ -55,7 +55,8 @@ journals_sorted partitions ps pools roots alone h p = sorted_by (λ (e : RootEnt
     let (y, of', makes') = h.lines p j g at' in
     h.order p i j e g x y at at' of of' (inl (alone x y of.0 of'.0, omega arith)))
 
-pool_sorted : (supers partitions : ℕ) (ps : List Played) (pools : List PoolEntry) (roots : Journals) → IsAlone ps → AreRoots partitions ps pools roots → IsPoolOf supers ps pools roots →
+pool_sorted : (supers partitions : ℕ) (ps : List Played) (pools : List PoolEntry) (roots : Journals) → IsAlone ps →
+    AreRoots partitions ps pools roots → IsPoolOf supers ps pools roots →
     IsNonDecreasingBy (λ (e : PoolEntry). e.line) pools
 pool_sorted supers partitions ps pools roots alone rows h = sorted_by (λ (e : PoolEntry). e.line) pools (λ i j e g at at' less.
     let (k, f, entry, asks, line) = h.named i e at in
@@ -74,13 +75,16 @@ cells_sorted cells ps alone h k = rises_by (λ (e : CellEntry). e.line) (cells k
 
 -- ---- contents
 
-exact : (usable_of : ℕ → ℕ) (cells : ℕ → List CellEntry) (ps : List Played) (x : Played) (a : Answer) → IsAlone ps → Contains ps x → IsReadAllowed usable_of cells ps x a → IsReadExact ps a
+exact : (usable_of : ℕ → ℕ) (cells : ℕ → List CellEntry) (ps : List Played) (x : Played) (a : Answer) → IsAlone ps → Contains ps x →
+    IsReadAllowed usable_of cells ps x a → IsReadExact ps a
 exact usable_of cells ps x (Value seen value) alone among (inl content) = content
-exact usable_of cells ps x (Value seen value) alone among (inr (gone, (reads, y, (n, freed, next, first), other, phase))) = absurd (other (alone y x freed.0 among))
+exact usable_of cells ps x (Value seen value) alone among (inr (gone, (reads, y, (n, freed, next, first), other, phase))) =
+    absurd (other (alone y x freed.0 among))
 exact usable_of cells ps x (Dangling seen value) alone among allowed = allowed
 exact usable_of cells ps x a alone among allowed = tt
 
-exact_contents : (usable_of : ℕ → ℕ) (cells : ℕ → List CellEntry) (ps : List Played) → IsAlone ps → AreContents usable_of cells ps → AreExactContents ps
+exact_contents : (usable_of : ℕ → ℕ) (cells : ℕ → List CellEntry) (ps : List Played) → IsAlone ps → AreContents usable_of cells ps →
+    AreExactContents ps
 exact_contents usable_of cells ps alone h x among = exact usable_of cells ps x x.answer alone among (h x among)
 
 -- ---- numbers
@@ -101,7 +105,8 @@ left_by : (m : Mark) (p : Step) → m.step ≡ Some p → left_number m ≡ numb
 left_by m p step = rw step refl
 
 -- a path's last word is its first, or a mark left it
-path_left : (ms : List Mark) (s : SlotName) (u : ℕ) (vs : List ℕ) (w : ℕ) → IsPath ms s u vs w → (u ≡ w) ⊎ ((m : Mark) × Contains ms m × (m.slot ≡ s) × (left_number m ≡ number_of w))
+path_left : (ms : List Mark) (s : SlotName) (u : ℕ) (vs : List ℕ) (w : ℕ) → IsPath ms s u vs w → (u ≡ w) ⊎
+    ((m : Mark) × Contains ms m × (m.slot ≡ s) × (left_number m ≡ number_of w))
 path_left ms s u [] w h = inl h
 path_left ms s u (v ∷ vs) w (m, p, first, can, is, rest) = elim (path_left ms s v vs w rest) [
   | inl e ↦
@@ -113,9 +118,11 @@ path_left ms s u (v ∷ vs) w (m, p, first, can, is, rest) = elim (path_left ms 
 ]
 
 -- at a word of a run that has a later one a step was made
-step_at : (ms : List Mark) (s : SlotName) (u : ℕ) (vs : List ℕ) (x y : ℕ) → IsRunFrom ms s u vs → Contains (u ∷ vs) x → Contains (u ∷ vs) y → number_of x < number_of y →
+step_at : (ms : List Mark) (s : SlotName) (u : ℕ) (vs : List ℕ) (x y : ℕ) → IsRunFrom ms s u vs → Contains (u ∷ vs) x →
+    Contains (u ∷ vs) y → number_of x < number_of y →
     (n : Mark) × (p : Step) × IsFirstAt ms s x n p
-step_at ms s u [] x y run first second less = let same : number_of x ≡ number_of y = ap number_of (sym (in_one u x first) ∙ in_one u y second) in absurd (omega arith)
+step_at ms s u [] x y run first second less = let same : number_of x ≡ number_of y =
+    ap number_of (sym (in_one u x first) ∙ in_one u y second) in absurd (omega arith)
 step_at ms s u (v ∷ vs) x y (m, p, at, can, is, rest) first second less = elim (in_cases u x (v ∷ vs) first) [
   | inl e ↦ (m, p, subst (λ z. IsFirstAt ms s z m p) e at)
   | inr after ↦ elim (in_cases u y (v ∷ vs) second) [
@@ -150,23 +157,27 @@ finds_left ms slots rises seen front back m parts h =
           | inl e ↦ let zero_number : number_of 0 ≡ number_of (word_from front m.slot 0) = ap number_of e in omega arith
           | inr (k, before, slot, left) ↦
               let there = in_front front (m ∷ back) ms k parts before in
-              let least = seen k m there (in_middle front back ms m parts) (pairs_across Rises front (m ∷ back) k m cut before (first_in m back)) slot in
+              let least = seen k m there (in_middle front back ms m parts)
+              (pairs_across Rises front (m ∷ back) k m cut before (first_in m back)) slot in
               omega arith
         ]
 
-    no_more : (vs : List ℕ) → IsRunFrom ms m.slot 0 vs → Contains (0 ∷ vs) m.found → Contains (0 ∷ vs) (word_from front m.slot 0) → number_of (word_from front m.slot 0) < number_of m.found → ⊥
+    no_more : (vs : List ℕ) → IsRunFrom ms m.slot 0 vs → Contains (0 ∷ vs) m.found → Contains (0 ∷ vs) (word_from front m.slot 0) →
+        number_of (word_from front m.slot 0) < number_of m.found → ⊥
     no_more vs run found lies less =
         let (n, p, at) = step_at ms m.slot 0 vs (word_from front m.slot 0) m.found run lies found less in
         let same : number_of n.found ≡ number_of (word_from front m.slot 0) = ap number_of at.found in
         elim (Contains-append_cases front (m ∷ back) n (subst (λ z. Contains z n) parts at.among)) [
           | inl before ↦
               let low = h.runs.counted n before (made_some n.step p at.step) in
-              let word : number_of (word_from front n.slot 0) ≡ number_of (word_from front m.slot 0) = ap (λ s. number_of (word_from front s 0)) at.slot in
+              let word : number_of (word_from front n.slot 0) ≡ number_of (word_from front m.slot 0) =
+              ap (λ s. number_of (word_from front s 0)) at.slot in
               omega arith
           | inr from ↦ elim (in_cases m n back from) [
             | inl e ↦ let here : number_of m.found ≡ number_of n.found = ap (λ (z : Mark). number_of z.found) e in omega arith
             | inr after ↦
-                let least = seen m n (in_middle front back ms m parts) at.among (pairs_head Rises m n back (pairs_after Rises front (m ∷ back) cut) after) (sym at.slot) in
+                let least = seen m n (in_middle front back ms m parts) at.among
+                (pairs_head Rises m n back (pairs_after Rises front (m ∷ back) cut) after) (sym at.slot) in
                 let more = found_left m in
                 omega arith
           ]
@@ -178,7 +189,8 @@ numbers ms slots rises seen m among =
     let h = front_of ms slots front (m ∷ back) rises (finds_left ms slots rises seen) parts in
     ap number_of (finds_left ms slots rises seen front back m parts h) ∙ h.counted m.slot ∙ sym (steps_at ms front back m rises parts)
 
-pub one_thread : (t : Trace) (r : Told) → IsWithinLimits t → t.threads ≡ 1 → IsLegalTold t r → IsInFileOrder (records_of t r) r.pools r.roots r.cells
+pub one_thread : (t : Trace) (r : Told) → IsWithinLimits t → t.threads ≡ 1 → IsLegalTold t r →
+    IsInFileOrder (records_of t r) r.pools r.roots r.cells
 one_thread t r limits one h =
     let ps = records_of t r in
     let lines = records_are_lines.lines (rules_of t) t.lines r.entries h.lines in
@@ -190,6 +202,7 @@ one_thread t r limits one h =
       journals = journals_sorted t.partitions ps r.pools r.roots alone h.roots;
       pool = pool_sorted t.region t.partitions ps r.pools r.roots alone h.roots h.pool;
       exchanges = cells_sorted r.cells ps alone h.cells;
-      numbers = numbers (marks_of ps) h.slots (marks_rise ps (lines_rise (rules_of t) t.lines ps lines)) (finds_no_less r.cells ps alone h.seen);
+      numbers = numbers (marks_of ps) h.slots (marks_rise ps (lines_rise (rules_of t) t.lines ps lines))
+          (finds_no_less r.cells ps alone h.seen);
       contents = exact_contents (usable_of t.version) r.cells ps alone h.contents;
     }

@@ -6,8 +6,8 @@ pub fn one_file_run()
     ensures { AtMostOneFileRun }
 {}
 
-/// The law that a legal run of one thread is the run in the order of the lines, so a trace of one thread has at most one legal
-/// run.
+/// The law that a legal run of one thread is the run in the order of the lines,
+/// so a trace of one thread has at most one legal run.
 pub fn one_thread_in_file_order()
     ensures { OneThreadInFileOrder }
 {}

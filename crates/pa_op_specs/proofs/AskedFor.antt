@@ -32,7 +32,8 @@ use Rattle.pa_logs.proofs.Listing.{entered_append}
 abbrev pub root_at : ℕ → ℕ → List RootAct → ℕ → List RootEntry
 root_at line p acts q = if q == p then map (root_entry line) acts else []
 
-at_root : (line p q : ℕ) (acts : List RootAct) → ((q ≡ p) × (root_at line p acts q ≡ map (root_entry line) acts)) ⊎ ((q ≡ p → ⊥) × (root_at line p acts q ≡ []))
+at_root : (line p q : ℕ) (acts : List RootAct) → ((q ≡ p) × (root_at line p acts q ≡ map (root_entry line) acts)) ⊎
+    ((q ≡ p → ⊥) × (root_at line p acts q ≡ []))
 at_root line p q acts = elim (eqb_tells q p) [
   | inl y ↦ inl (y.1, rw y.0 refl)
   | inr n ↦ inr (n.1, rw n.0 refl)
@@ -52,12 +53,14 @@ pub record Asks (line p : ℕ) (acts : List RootAct) (es : List Entry) (w : View
   pub roots_are : (q : ℕ) → q < 4 → map (λ (m : Made). m.numbers) (entered_in q es) ≡ map root_numbers (root_at line p acts q)
   pub pools : List PoolEntry
   pub pools_are : map (λ (m : Made). m.numbers) (entered_in 4 es) ≡ map pool_numbers pools
-  pub asked : (x : ToldRecord) (it : Enters x) → (entered_in 4 x.stretch ≡ entered_in 4 es) → (it.roots ≡ root_at line p acts) → (it.pools ≡ pools) →
+  pub asked : (x : ToldRecord) (it : Enters x) → (entered_in 4 x.stretch ≡ entered_in 4 es) → (it.roots ≡ root_at line p acts) →
+      (it.pools ≡ pools) →
       AskedNone x it ⊎ AskedOnce (list_of 4 w) x it
   pub signs : filter_map sign_of es ≡ flat_map (act_signs line p) acts
 
 -- what a record with that log segment entered
-abbrev pub it_asks : (line p : ℕ) (acts : List RootAct) (es : List Entry) (w : View) (x : ToldRecord) → Asks line p acts es w → ((q : ℕ) → entered_in q x.stretch ≡ entered_in q es) → Enters x
+abbrev pub it_asks : (line p : ℕ) (acts : List RootAct) (es : List Entry) (w : View) (x : ToldRecord) → Asks line p acts es w →
+    ((q : ℕ) → entered_in q x.stretch ≡ entered_in q es) → Enters x
 it_asks line p acts es w x are same = record {
   roots = root_at line p acts;
   pools = are.pools;
@@ -66,7 +69,8 @@ it_asks line p acts es w x are same = record {
 }
 
 -- the acts of the line are these
-pub only_acts : (o : Outcome) (x : ToldRecord) (it : Enters x) (line p : ℕ) (acts : List RootAct) → LineActs o x it → p < 4 → it.roots ≡ root_at line p acts →
+pub only_acts : (o : Outcome) (x : ToldRecord) (it : Enters x) (line p : ℕ) (acts : List RootAct) → LineActs o x it → p < 4 →
+    it.roots ≡ root_at line p acts →
     OnlyActs o.roots x.played.line p acts
 only_acts o x it line p acts are low roots = (
   are.here p low ∙ (ap (λ (f : ℕ → List RootEntry). acts_in (f p)) roots ∙ (ap acts_in (here_at line p acts) ∙ acts_back acts)),
@@ -98,7 +102,8 @@ asks_none line p w = record {
   roots_are = λ q low. ap (map root_numbers) (sym (none q));
   pools = [];
   pools_are = refl;
-  asked = λ x it same roots pools. inl (record { pools = pools; roots = λ q. ap (λ (f : ℕ → List RootEntry). filter asks (f q)) roots ∙ ap (filter asks) (none q) });
+  asked = λ x it same roots pools. inl
+      (record { pools = pools; roots = λ q. ap (λ (f : ℕ → List RootEntry). filter asks (f q)) roots ∙ ap (filter asks) (none q) });
   signs = refl;
 }
   where
@@ -119,14 +124,17 @@ one_root_at line p q act m says = elim (at_root line p q (act ∷ [])) [
   | inr n ↦ ap (map (λ (k : Made). k.numbers)) (entered_elsewhere p q (m ∷ []) n.0) ∙ sym (ap (map root_numbers) n.1)
 ]
 
-pub asks_one : (j r p line : ℕ) (act : RootAct) (v u w : View) (one : EntersOne j r p (root_entry line act) v u) → p < 4 → asked_by act ≡ None →
+pub asks_one : (j r p line : ℕ) (act : RootAct) (v u w : View) (one : EntersOne j r p (root_entry line act) v u) → p < 4 →
+    asked_by act ≡ None →
     Asks line p (act ∷ []) (Entered p one.made ∷ []) w
 asks_one j r p line act v u w one low quiet = record {
   roots_are = λ q small. one_root_at line p q act one.made one.is_made.says;
   pools = [];
   pools_are = ap (map (λ (m : Made). m.numbers)) (none_of_pool p one.made low);
-  asked = λ x it same roots pools. inl (record { pools = pools; roots = λ q. ap (λ (f : ℕ → List RootEntry). filter asks (f q)) roots ∙ none q });
-  signs = shapes_have_signs.entries line p (one.made ∷ []) (act ∷ []) low (ap (λ ns. ns ∷ []) one.is_made.says) (λ a among. ap asked_by (sym (in_one act a among)) ∙ quiet);
+  asked = λ x it same roots pools. inl
+      (record { pools = pools; roots = λ q. ap (λ (f : ℕ → List RootEntry). filter asks (f q)) roots ∙ none q });
+  signs = shapes_have_signs.entries line p (one.made ∷ []) (act ∷ []) low (ap (λ ns. ns ∷ []) one.is_made.says)
+      (λ a among. ap asked_by (sym (in_one act a among)) ∙ quiet);
 }
   where
     none : (q : ℕ) → filter asks (root_at line p (act ∷ []) q) ≡ []
@@ -142,13 +150,16 @@ two_of_pool p k m low = ap (λ ms. k ∷ ms) (none_of_pool p m low)
 
 two_of_root : (p q : ℕ) (k m : Made) → q < 4 → entered_in q (Entered 4 k ∷ Entered p m ∷ []) ≡ entered_in q (Entered p m ∷ [])
 two_of_root p q k m small =
-    entered_append q (Entered 4 k ∷ []) (Entered p m ∷ []) ∙ ap (λ ms. ms ++ entered_in q (Entered p m ∷ [])) (entered_elsewhere 4 q (k ∷ []) (λ e. omega arith))
+    entered_append q (Entered 4 k ∷ []) (Entered p m ∷ []) ∙
+    ap (λ ms. ms ++ entered_in q (Entered p m ∷ [])) (entered_elsewhere 4 q (k ∷ []) (λ e. omega arith))
 
-pub asks_two : (a j r p line : ℕ) (taken : PoolEntry) (act : RootAct) (v u w : View) (two : EntersTwo a j r p [] taken (root_entry line act) v u) → p < 4 →
+pub asks_two : (a j r p line : ℕ) (taken : PoolEntry) (act : RootAct) (v u w : View)
+    (two : EntersTwo a j r p [] taken (root_entry line act) v u) → p < 4 →
     asked_by act ≡ Some a → taken.partition ≡ p → IsBeginning (list_of 4 u) (list_of 4 w) →
     Asks line p (act ∷ []) (Entered 4 two.pool ∷ Entered p two.made ∷ []) w
 asks_two a j r p line taken act v u w two low names at more = record {
-  roots_are = λ q small. ap (map (λ (m : Made). m.numbers)) (two_of_root p q two.pool two.made small) ∙ one_root_at line p q act two.made two.is_made.says;
+  roots_are = λ q small. ap (map (λ (m : Made). m.numbers)) (two_of_root p q two.pool two.made small) ∙
+      one_root_at line p q act two.made two.is_made.says;
   pools = taken ∷ [];
   pools_are = ap (map (λ (m : Made). m.numbers)) (two_of_pool p two.pool two.made low) ∙ ap (λ ns. ns ∷ []) two.is_pool.says;
   asked = λ x it same roots pools. inr (record {

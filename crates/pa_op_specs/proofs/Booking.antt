@@ -60,7 +60,8 @@ own_log before after x does =
     ap (λ (n : ℕ). log_of n after.view) does.same.0 ∙ logs
 
 -- an op books what it owes
-pub op_books : (home size : SlotName → ℕ) (x : ToldRecord) (before after : WorkerValue) → Does before.stock after.stock x → AddsNothing x.stretch →
+pub op_books : (home size : SlotName → ℕ) (x : ToldRecord) (before after : WorkerValue) → Does before.stock after.stock x →
+    AddsNothing x.stretch →
     OwesBy home size (x.played ∷ []) before.owed after.owed → BooksBy home size (x.played ∷ []) before after
 op_books home size x before after does none owes p q low kind =
     let k = 4 * p + q in
@@ -94,7 +95,8 @@ op_covered before after x os ps does none less stake covered has q =
 pub books_none : (home size : SlotName → ℕ) (w : WorkerValue) → BooksBy home size [] w w
 books_none home size w p q low kind = omega arith
 
-pub books_append : (home size : SlotName → ℕ) (xs ys : List Played) (u v w : WorkerValue) → BooksBy home size xs u v → BooksBy home size ys v w →
+pub books_append : (home size : SlotName → ℕ) (xs ys : List Played) (u v w : WorkerValue) → BooksBy home size xs u v →
+    BooksBy home size ys v w →
     BooksBy home size (xs ++ ys) u w
 books_append home size xs ys u v w first rest p q low kind =
     let s = weight_append (is_of_kind q) (bytes_of home size p) xs ys in

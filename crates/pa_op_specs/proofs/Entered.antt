@@ -123,7 +123,8 @@ touched_enters stake line es v w touched = record {
 }
 
 -- the stake was lent, and came back with these entries
-pub lends_enters : (stake line : ℕ) (es : List Entry) (v w : View) → Lends stake es v w → ((e : Entry) → Contains es e → TellsOf line v w e) →
+pub lends_enters : (stake line : ℕ) (es : List Entry) (v w : View) → Lends stake es v w →
+    ((e : Entry) → Contains es e → TellsOf line v w e) →
     Entering stake line es v w
 lends_enters stake line es v w lends each = record {
   logs = lends.logs;
@@ -144,9 +145,11 @@ one_enters j r p line act v w it low = lends_enters r line (Entered p it.made �
 
 -- an entry of the pool and then one in a root's list, after what was done first
 pub two_enters : (asked j r p line : ℕ) (first : List Entry) (taken : PoolEntry) (act : RootAct) (v w : View)
-    (it : EntersTwo asked j r p first taken (root_entry line act) v w) → p < 5 → taken.line ≡ line → ((e : Entry) → Contains first e → TellsOf line v w e) →
+    (it : EntersTwo asked j r p first taken (root_entry line act) v w) → p < 5 → taken.line ≡ line →
+    ((e : Entry) → Contains first e → TellsOf line v w e) →
     Entering r line (first ++ (Entered 4 it.pool ∷ Entered p it.made ∷ [])) v w
-two_enters asked j r p line first taken act v w it low same before = lends_enters r line (first ++ (Entered 4 it.pool ∷ Entered p it.made ∷ [])) v w it.lends
+two_enters asked j r p line first taken act v w it low same before =
+    lends_enters r line (first ++ (Entered 4 it.pool ∷ Entered p it.made ∷ [])) v w it.lends
     (λ e among. elim (Contains-append_cases first (Entered 4 it.pool ∷ Entered p it.made ∷ []) e among) [
       | inl sooner ↦ before e sooner
       | inr later ↦ elim (in_cases (Entered 4 it.pool) e (Entered p it.made ∷ []) later) [
@@ -159,7 +162,8 @@ two_enters asked j r p line first taken act v w it low same before = lends_enter
     ])
 
 -- an entry still says so of what was seen before that, and after
-tells_more : (line : ℕ) (v u w x : View) (e : Entry) → ((t : Title) → seen_of v t ≤ seen_of u t) → ((t : Title) → seen_of w t ≤ seen_of x t) →
+tells_more : (line : ℕ) (v u w x : View) (e : Entry) → ((t : Title) → seen_of v t ≤ seen_of u t) →
+    ((t : Title) → seen_of w t ≤ seen_of x t) →
     TellsOf line u w e → TellsOf line v x e
 tells_more line v u w x (Counted t step found value) before after is = let a = before t in let b = after t in (omega arith, omega arith)
 tells_more line v u w x (Looked t found) before after is = let a = before t in let b = after t in (omega arith, omega arith)
@@ -193,7 +197,8 @@ pub entered_here : (p : ℕ) (ms : List Made) → entered_in p (map (Entered p) 
 entered_here p [] = refl
 entered_here p (m ∷ ms) = go (p == p) refl (entered_here p ms)
   where
-    go : (b : Bool) → (p == p) ≡ b → entered_in p (map (Entered p) ms) ≡ ms → (if b then m ∷ [] else []) ++ entered_in p (map (Entered p) ms) ≡ m ∷ ms
+    go : (b : Bool) → (p == p) ≡ b → entered_in p (map (Entered p) ms) ≡ ms → (if b then m ∷ [] else []) ++
+        entered_in p (map (Entered p) ms) ≡ m ∷ ms
     go true is again = ap (λ xs. m ∷ xs) again
     go false differs again = absurd (grind (arith, nat_tests))
 
@@ -201,7 +206,8 @@ pub entered_elsewhere : (p q : ℕ) (ms : List Made) → (q ≡ p → ⊥) → e
 entered_elsewhere p q [] other = refl
 entered_elsewhere p q (m ∷ ms) other = go (p == q) refl (entered_elsewhere p q ms other)
   where
-    go : (b : Bool) → (p == q) ≡ b → entered_in q (map (Entered p) ms) ≡ [] → (if b then m ∷ [] else []) ++ entered_in q (map (Entered p) ms) ≡ []
+    go : (b : Bool) → (p == q) ≡ b → entered_in q (map (Entered p) ms) ≡ [] → (if b then m ∷ [] else []) ++
+        entered_in q (map (Entered p) ms) ≡ []
     go true is again = absurd (other (grind (arith, nat_tests)))
     go false is again = again
 
@@ -268,7 +274,8 @@ line_acts o x it is acts = record {
 }
 
 -- there are no acts of the line in a journal in which the record entered none
-pub none_here : (o : Outcome) (x : ToldRecord) (it : Enters x) → LineActs o x it → (p : ℕ) → it.roots p ≡ [] → acts_of o.roots x.played.line p ≡ []
+pub none_here : (o : Outcome) (x : ToldRecord) (it : Enters x) → LineActs o x it → (p : ℕ) → it.roots p ≡ [] →
+    acts_of o.roots x.played.line p ≡ []
 none_here o x it acts p none = go (nat_lt p 4) refl
   where
     go : (b : Bool) → nat_lt p 4 ≡ b → acts_of o.roots x.played.line p ≡ []
@@ -287,9 +294,11 @@ act_on [] line e among is = absurd (not_in_none e among)
 act_on (f ∷ es) line e among is = go (f.line == line) refl (λ later. act_on es line e later is)
   where
     go : (b : Bool) → (f.line == line) ≡ b → (Contains es e → Contains (acts_in (filter (λ (g : RootEntry). g.line == line) es)) e.act) →
-        Contains (acts_in (if b then f ∷ filter (λ (g : RootEntry). g.line == line) es else filter (λ (g : RootEntry). g.line == line) es)) e.act
+        Contains (acts_in (if b then f ∷ filter (λ (g : RootEntry). g.line == line) es else filter (λ (g : RootEntry). g.line == line) es))
+        e.act
     go true here again = elim (in_cases f e es among) [
-      | inl same ↦ subst (λ (g : RootEntry). Contains (f.act ∷ acts_in (filter (λ (h : RootEntry). h.line == line) es)) g.act) same (first_in f.act _)
+      | inl same ↦ subst (λ (g : RootEntry). Contains (f.act ∷ acts_in (filter (λ (h : RootEntry). h.line == line) es)) g.act) same
+          (first_in f.act _)
       | inr later ↦ later_in f.act e.act _ (again later)
     ]
     go false differs again = elim (in_cases f e es among) [
@@ -312,7 +321,8 @@ entered_each x it P each p m e low among says =
     let (f, there, same) = at_numbers (entered_in p x.stretch) (it.roots p) m (it.roots_are p low) among in
     subst (λ (g : RootEntry). P p g.act) {x = f} (one_root f e (sym same ∙ says)) (each p f low there)
   where
-    at_numbers : (ms : List Made) (fs : List RootEntry) (m : Made) → map (λ (n : Made). n.numbers) ms ≡ map root_numbers fs → Contains ms m →
+    at_numbers : (ms : List Made) (fs : List RootEntry) (m : Made) → map (λ (n : Made). n.numbers) ms ≡ map root_numbers fs →
+        Contains ms m →
         (f : RootEntry) × Contains fs f × (m.numbers ≡ root_numbers f)
     at_numbers [] fs m are among = absurd (not_in_none m among)
     at_numbers (n ∷ ms) [] m are among = absurd cc
@@ -327,7 +337,8 @@ entered_each x it P each p m e low among says =
 -- its op makes it, if that makes each of these
 pub makes_each : (x : ToldRecord) (it : Enters x) (pools : List PoolEntry) →
     ((p : ℕ) (e : RootEntry) → p < 4 → Contains (it.roots p) e → MakesEntry pools p e.act x.played) →
-    (p : ℕ) (m : Made) (e : RootEntry) → p < 4 → Contains (entered_in p x.stretch) m → m.numbers ≡ root_numbers e → MakesEntry pools p e.act x.played
+    (p : ℕ) (m : Made) (e : RootEntry) → p < 4 → Contains (entered_in p x.stretch) m → m.numbers ≡ root_numbers e →
+    MakesEntry pools p e.act x.played
 makes_each x it pools each = entered_each x it (λ p act. MakesEntry pools p act x.played) each
 
 -- ---- the op
@@ -352,7 +363,8 @@ pub record SaysEntered (s after : StockValue) (x : ToldRecord) : Type 0 where
   pub homes : (p : ℕ) → s.partitions ≤ p → (it.roots p ≡ []) ⊎ HasSeenSome s.thread p s.view
   pub owes : OwesOf s.registers x.played.op x.played.answer x.stretch
   pub words : KeepsWords x.played.answer s.view after.view
-  pub answers : (o : Outcome) → IsOutcome o → o.partitions ≡ s.partitions → x.played.rules ≡ o.rules → IsSeenOf o after.view → LineActs o x it
+  pub answers : (o : Outcome) → IsOutcome o → o.partitions ≡ s.partitions → x.played.rules ≡ o.rules → IsSeenOf o after.view →
+      LineActs o x it
       → AnswersIn o s after x
 
 no_entries : (ms : List Made) → map (λ (m : Made). m.numbers) ms ≡ [] → ms ≡ []

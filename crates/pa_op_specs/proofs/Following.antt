@@ -24,7 +24,8 @@ composes w u v [] ys same rest = subst (λ z. PlaysAll z ys v) same rest
 composes w u v (x ∷ xs) ys (next, one, more) rest = (next, one, composes next u v xs ys more rest)
 
 -- a worker forgets nothing of any list
-begins : (w v : WorkerValue) (xs : List ToldRecord) → PlaysAll w xs v → (k : ℕ) → IsBeginning (list_of k w.stock.view) (list_of k v.stock.view)
+begins : (w v : WorkerValue) (xs : List ToldRecord) → PlaysAll w xs v → (k : ℕ) →
+    IsBeginning (list_of k w.stock.view) (list_of k v.stock.view)
 begins w v [] same k = ([], ap (λ (z : WorkerValue). list_of k z.stock.view) same ∙ sym (append-nil (list_of k w.stock.view)))
 begins w v (x ∷ xs) (next, one, more) k =
     let (a, e) = one.does.lists k in
@@ -32,18 +33,23 @@ begins w v (x ∷ xs) (next, one, more) k =
     (a ++ b, f ∙ (ap (λ l. l ++ b) e ∙ append_assoc (list_of k w.stock.view) a b))
 
 -- what has seen less has seen it of the same run
-place_on : (list later older rest : List Made) (m : Made) → IsBeginning list later → list ≡ older ++ m ∷ rest → (more : List Made) × (later ≡ older ++ m ∷ more)
+place_on : (list later older rest : List Made) (m : Made) → IsBeginning list later → list ≡ older ++ m ∷ rest → (more : List Made) ×
+    (later ≡ older ++ m ∷ more)
 place_on list later older rest m (more, e) at = (rest ++ more, e ∙ (ap (λ l. l ++ more) at ∙ append_assoc older (m ∷ rest) more))
 
 pub seen_before : (o : Outcome) (v w : View) → ((k : ℕ) → IsBeginning (list_of k v) (list_of k w)) → IsSeenOf o w → IsSeenOf o v
 seen_before o v w begin seen = record {
-  roots = λ p older rest m e low at says. let (more, on) = place_on (list_of p v) (list_of p w) older rest m (begin p) at in seen.roots p older more m e low on says;
-  pools = λ older rest m e at says. let (more, on) = place_on (list_of 4 v) (list_of 4 w) older rest m (begin 4) at in seen.pools older more m e on says;
-  exchanges = λ older rest m e at says. let (more, on) = place_on (list_of 5 v) (list_of 5 w) older rest m (begin 5) at in seen.exchanges older more m e on says;
+  roots = λ p older rest m e low at says. let (more, on) = place_on (list_of p v) (list_of p w) older rest m (begin p) at in
+      seen.roots p older more m e low on says;
+  pools = λ older rest m e at says. let (more, on) = place_on (list_of 4 v) (list_of 4 w) older rest m (begin 4) at in
+      seen.pools older more m e on says;
+  exchanges = λ older rest m e at says. let (more, on) = place_on (list_of 5 v) (list_of 5 w) older rest m (begin 5) at in
+      seen.exchanges older more m e on says;
 }
 
 -- the run fits the first op, and the rest
-first_fits : (o : Outcome) (w next v : WorkerValue) (x : ToldRecord) (xs : List ToldRecord) → PlaysOne w next x → PlaysAll next xs v → FitsAll o w.stock.partitions v.stock.view (x ∷ xs) →
+first_fits : (o : Outcome) (w next v : WorkerValue) (x : ToldRecord) (xs : List ToldRecord) → PlaysOne w next x → PlaysAll next xs v →
+    FitsAll o w.stock.partitions v.stock.view (x ∷ xs) →
     FitsRun o w.stock.partitions next.stock.view x × FitsAll o next.stock.partitions v.stock.view xs
 first_fits o w next v x xs one more fits = (
   record {
@@ -63,7 +69,8 @@ first_fits o w next v x xs one more fits = (
 )
 
 -- the first op's answer, and that the rest fits
-pub first_answer : (o : Outcome) (w next v : WorkerValue) (x : ToldRecord) (xs : List ToldRecord) → PlaysOne w next x → PlaysAll next xs v → FitsAll o w.stock.partitions v.stock.view (x ∷ xs) →
+pub first_answer : (o : Outcome) (w next v : WorkerValue) (x : ToldRecord) (xs : List ToldRecord) → PlaysOne w next x → PlaysAll next xs v →
+    FitsAll o w.stock.partitions v.stock.view (x ∷ xs) →
     AnswersIn o w.stock next.stock x × FitsAll o next.stock.partitions v.stock.view xs
 first_answer o w next v x xs one more fits =
     let (first, rest) = first_fits o w next v x xs one more fits in
@@ -83,7 +90,8 @@ lists o w v (x ∷ xs) (next, one, more) fits =
     let (answer, rest) = first_answer o w next v x xs one more fits in
     (listed_in next.stock, answer.lists, lists o next v xs more rest)
 
-pub told : (o : Outcome) (w v : WorkerValue) (xs : List ToldRecord) → PlaysAll w xs v → FitsAll o w.stock.partitions v.stock.view xs → AreTold o.sizes xs
+pub told : (o : Outcome) (w v : WorkerValue) (xs : List ToldRecord) → PlaysAll w xs v → FitsAll o w.stock.partitions v.stock.view xs →
+    AreTold o.sizes xs
 told o w v [] plays fits = λ x among. absurd (not_in_none x among)
 told o w v (y ∷ ys) (next, one, more) fits = λ x among.
     let (answer, rest) = first_answer o w next v y ys one more fits in
@@ -92,13 +100,15 @@ told o w v (y ∷ ys) (next, one, more) fits = λ x among.
       | inr later ↦ told o next v ys more rest x later
     ]
 
-pub counts : (o : Outcome) (w v : WorkerValue) (xs : List ToldRecord) → PlaysAll w xs v → FitsAll o w.stock.partitions v.stock.view xs → CountsBy o.homes (played_in xs) w.counts v.counts
+pub counts : (o : Outcome) (w v : WorkerValue) (xs : List ToldRecord) → PlaysAll w xs v → FitsAll o w.stock.partitions v.stock.view xs →
+    CountsBy o.homes (played_in xs) w.counts v.counts
 counts o w v [] same fits = subst (λ (z : WorkerValue). CountsBy o.homes [] w.counts z.counts) (sym same) (counts_none o.homes w.counts)
 counts o w v (x ∷ xs) (next, one, more) fits =
     let (first, rest) = first_fits o w next v x xs one more fits in
     counts_append o.homes (x.played ∷ []) (played_in xs) w.counts next.counts v.counts (one.counts o first) (counts o next v xs more rest)
 
-pub bytes : (o : Outcome) (w v : WorkerValue) (xs : List ToldRecord) → PlaysAll w xs v → FitsAll o w.stock.partitions v.stock.view xs → BooksBy o.homes o.sizes (played_in xs) w v
+pub bytes : (o : Outcome) (w v : WorkerValue) (xs : List ToldRecord) → PlaysAll w xs v → FitsAll o w.stock.partitions v.stock.view xs →
+    BooksBy o.homes o.sizes (played_in xs) w v
 bytes o w v [] same fits = subst (λ (z : WorkerValue). BooksBy o.homes o.sizes [] w z) (sym same) (books_none o.homes o.sizes w)
 bytes o w v (x ∷ xs) (next, one, more) fits =
     let (first, rest) = first_fits o w next v x xs one more fits in

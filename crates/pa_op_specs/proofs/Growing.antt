@@ -40,7 +40,8 @@ owed_set : (q k : ℕ) (o : Owed) (os : List Owed) → length os ≡ 4 → k < 4
     owed_in q (slice_set os k o) + owed_to q (owed_at os k) ≡ owed_in q os + owed_to q o
 owed_set q k o os four low =
     let inside : k < length os = omega arith in
-    set_sums (owed_in q os) (owed_in q (slice_set os k o)) (owed_to q (owed_at os k)) (owed_to q o) (sum_by (owed_to q) os) (sum_by (owed_to q) (slice_set os k o))
+    set_sums (owed_in q os) (owed_in q (slice_set os k o)) (owed_to q (owed_at os k)) (owed_to q o) (sum_by (owed_to q) os)
+    (sum_by (owed_to q) (slice_set os k o))
     (owed_sum q os four) (owed_sum q (slice_set os k o) (length-set os k o ∙ four)) (sum_set (owed_to q) os k o nothing_owed inside)
 
 more_is : (b : Bool) (n m : ℕ) → more_if b n m ≡ m + (if b then n else 0)
@@ -52,11 +53,13 @@ grew_so i j m n b c d = omega arith
 
 -- a step owes its bytes to the words of its kind
 grown : (q k found bytes : ℕ) (step : Step) (os : List Owed) → length os ≡ 4 → k < 4 →
-    owed_in q (slice_set os k (owed_after_step step found bytes (owed_at os k))) ≡ owed_in q os + (if is_of_kind q step found then bytes else 0)
+    owed_in q (slice_set os k (owed_after_step step found bytes (owed_at os k))) ≡ owed_in q
+    os + (if is_of_kind q step found then bytes else 0)
 grown q k found bytes step os four low =
     let o = owed_after_step step found bytes (owed_at os k) in
     let more = owed_kind step found bytes q (owed_at os k) ∙ more_is (is_of_kind q step found) bytes (owed_to q (owed_at os k)) in
-    grew_so (owed_in q os) (owed_in q (slice_set os k o)) (owed_to q (owed_at os k)) (owed_to q o) (if is_of_kind q step found then bytes else 0)
+    grew_so (owed_in q os) (owed_in q (slice_set os k o)) (owed_to q (owed_at os k)) (owed_to q o)
+    (if is_of_kind q step found then bytes else 0)
     (owed_set q k o os four low) more
 
 -- ---- and not more than the log segment owes
@@ -68,7 +71,8 @@ no_more : (i j b c : ℕ) → j ≡ i + b → c ≡ b → j ≤ i + c
 no_more i j b c d e = omega arith
 
 -- by a step through a register
-done_less : (q : ℕ) (rs : List StockRegister) (op : Op) (step : Step) (handle : Option Handle) (answer : Answer) (os : List Owed) → length os ≡ 4 →
+done_less : (q : ℕ) (rs : List StockRegister) (op : Op) (step : Step) (handle : Option Handle) (answer : Answer) (os : List Owed) →
+    length os ≡ 4 →
     step_of op ≡ Some step → ((h : Handle) → handle ≡ Some h → (h.partition < 4) × (bytes_through rs op ≡ h.title.len)) →
     owed_in q (owed_after step handle (done_seen answer) os) ≤ owed_in q os + owed_by q (step_in op answer) (bytes_stepped rs op answer)
 done_less q rs op step None answer os four made has = at_least (owed_in q os) (owed_by q (step_in op answer) (bytes_stepped rs op answer))
@@ -77,22 +81,26 @@ done_less q rs op step (Some h) (answers.Done seen) os four made has =
     let found = seen.found.0 in
     let bytes = bytes_through rs op in
     let owes : owed_by q (done_step (step_of op) (value_by op) seen) bytes ≡ (if is_of_kind q step found then h.title.len else 0) =
-    ap (λ (z : Option Step). owed_by q (done_step z (value_by op) seen) bytes) made ∙ ap (λ (n : ℕ). if is_of_kind q step found then n else 0) here.1 in
+    ap (λ (z : Option Step). owed_by q (done_step z (value_by op) seen) bytes) made ∙
+    ap (λ (n : ℕ). if is_of_kind q step found then n else 0) here.1 in
     no_more (owed_in q os) (owed_in q (slice_set os h.partition (owed_after_step step found h.title.len (owed_at os h.partition))))
     (if is_of_kind q step found then h.title.len else 0) (owed_by q (done_step (step_of op) (value_by op) seen) bytes)
     (grown q h.partition found h.title.len step os four here.0) owes
-done_less q rs op step (Some h) answer os four made has = at_least (owed_in q os) (owed_by q (step_in op answer) (bytes_stepped rs op answer))
+done_less q rs op step (Some h) answer os four made has =
+    at_least (owed_in q os) (owed_by q (step_in op answer) (bytes_stepped rs op answer))
 
 -- by the issue of a slot that the register then owns
 made_less : (q : ℕ) (rs : List StockRegister) (op : Op) (r : StockRegister) (answer : Answer) (os : List Owed) → length os ≡ 4 →
     ((h : Handle) → r ≡ Own h → h.partition < 4) → IsMadeIn r answer →
-    owed_in q (owed_after steps.Issue (owned_in r) (made_seen answer) os) ≤ owed_in q os + owed_by q (step_in op answer) (bytes_stepped rs op answer)
+    owed_in q (owed_after steps.Issue (owned_in r) (made_seen answer) os) ≤ owed_in q os + owed_by q (step_in op answer)
+    (bytes_stepped rs op answer)
 made_less q rs op Empty answer os four low is = at_least (owed_in q os) (owed_by q (step_in op answer) (bytes_stepped rs op answer))
 made_less q rs op (Own h) (answers.Made seen usable) os four low is =
     let found = seen.found.0 in
     no_more (owed_in q os) (owed_in q (slice_set os h.partition (owed_after_step steps.Issue found h.title.len (owed_at os h.partition))))
     (if is_of_kind q steps.Issue found then h.title.len else 0) (if is_of_kind q steps.Issue found then usable + 8 else 0)
-    (grown q h.partition found h.title.len steps.Issue os four (low h refl)) (ap (λ (n : ℕ). if is_of_kind q steps.Issue found then n else 0) is)
+    (grown q h.partition found h.title.len steps.Issue os four (low h refl))
+    (ap (λ (n : ℕ). if is_of_kind q steps.Issue found then n else 0) is)
 made_less q rs op (Own h) answer os four low is = at_least (owed_in q os) (owed_by q (step_in op answer) (bytes_stepped rs op answer))
 made_less q rs op (Ref h) answer os four low is = at_least (owed_in q os) (owed_by q (step_in op answer) (bytes_stepped rs op answer))
 made_less q rs op Freed answer os four low is = at_least (owed_in q os) (owed_by q (step_in op answer) (bytes_stepped rs op answer))
@@ -129,6 +137,8 @@ module _ (q r : ℕ) (answer : Answer) (os : List Owed) (four : length os ≡ 4)
 
   pub alloc_less : (partition size : ℕ) (s after : StockValue) → IsStock after → IsMadeIn (register_in after.registers r) answer →
       owed_in q (owed_after steps.Issue (owned_in (register_in after.registers r)) (made_seen answer) os)
-      ≤ owed_in q os + owed_by q (step_in (ops.Alloc r partition size) answer) (bytes_stepped s.registers (ops.Alloc r partition size) answer)
-  alloc_less partition size s after sound is = made_less q s.registers (ops.Alloc r partition size) (register_in after.registers r) answer os four
+      ≤ owed_in q os + owed_by q (step_in (ops.Alloc r partition size) answer)
+      (bytes_stepped s.registers (ops.Alloc r partition size) answer)
+  alloc_less partition size s after sound is =
+      made_less q s.registers (ops.Alloc r partition size) (register_in after.registers r) answer os four
       (λ h e. (register_has after r h sound below (inl e)).1.partition) is

@@ -30,7 +30,8 @@ owes_touches q (Counted t step found value ∷ es) = owes_both q (Counted t step
 owes_touches q (Looked t found ∷ es) = owes_both q (Looked t found) es (owes_touches q es)
 owes_touches q (Read t place value since owned unclean ∷ es) = owes_both q (Read t place value since owned unclean) es (owes_touches q es)
 owes_touches q (Added word bytes ∷ es) = let e = owes_touches q es in let a = sum_by-cons (owes_as q) (Added word bytes) es in omega arith
-owes_touches q (Entered keeper made ∷ es) = let e = owes_touches q es in let a = sum_by-cons (owes_as q) (Entered keeper made) es in omega arith
+owes_touches q (Entered keeper made ∷ es) = let e = owes_touches q es in let a = sum_by-cons (owes_as q) (Entered keeper made) es in
+    omega arith
 owes_touches q (Uncut t ∷ es) = let e = owes_touches q es in let a = sum_by-cons (owes_as q) (Uncut t) es in omega arith
 
 owes_looks : (q : ℕ) (t : Title) (looks rest : List Entry) → AreLooks t looks → sum_by (owes_as q) (looks ++ rest) ≡ sum_by (owes_as q) rest
@@ -54,7 +55,8 @@ owes_step q t step found value es (looks, are, is) =
 
 -- what an allocation owes, of a slot that was made with this many bytes
 pub owes_made : (registers : List StockRegister) (op : Op) (seen : Seen) (usable bytes : ℕ) (es : List Entry) →
-    IsStepTold (title_of (λ (s : SlotName). bytes) seen.slot) steps.Issue seen.found.0 0 es → bytes_stepped registers op (answers.Made seen usable) ≡ bytes →
+    IsStepTold (title_of (λ (s : SlotName). bytes) seen.slot) steps.Issue seen.found.0 0 es →
+    bytes_stepped registers op (answers.Made seen usable) ≡ bytes →
     OwesOf registers op (answers.Made seen usable) es
 owes_made registers op seen usable bytes es told long q =
     owes_step q (title_of (λ (s : SlotName). bytes) seen.slot) steps.Issue seen.found.0 0 es told

@@ -49,7 +49,8 @@ pub same_titles : (v w : View) (ts : List Title) → ((t : Title) → Contains t
 same_titles v w [] each = refl
 same_titles v w (t ∷ ts) each =
     let again = same_titles v w ts (λ u among. each u (later_in t u ts among)) in
-    let here : at_number_seen w t ≡ at_number_seen v t = ap (λ n. record { slot = record { start = t.start; born = t.born }; number = n }) (each t (first_in t ts)) in
+    let here : at_number_seen w t ≡ at_number_seen v t =
+    ap (λ n. record { slot = record { start = t.start; born = t.born }; number = n }) (each t (first_in t ts)) in
     ap (λ m. m ∷ map (at_number_seen w) ts) here ∙ ap (λ ms. at_number_seen v t ∷ ms) again
 
 -- A record of a worker's op with such a log segment.
@@ -67,17 +68,20 @@ pub record Says (o : Outcome) (s after : StockValue) (x : ToldRecord) : Type 0 w
   pub row : Row (row_facts o) x.played.op (regs_of s.registers) x.played.answer (regs_of after.registers)
   pub lists : CacheRow o.partitions o.roots x.played x.played.answer (listed_in s) (listed_in after)
   pub reader : ReadsIts o.sizes (regs_of s.registers) x.played.op x
-  pub home : (m : Mark) → mark_of_answer x.played.line x.played.op x.played.answer ≡ Some m → (p : ℕ) × HasSize o.roots p m.slot (o.sizes m.slot)
+  pub home : (m : Mark) → mark_of_answer x.played.line x.played.op x.played.answer ≡ Some m → (p : ℕ) ×
+      HasSize o.roots p m.slot (o.sizes m.slot)
 
 -- no act is of the line of a record that entered nothing
-no_acts : (o : Outcome) (x : ToldRecord) → IsOutcome o → ActsAreOf o x → ((q : ℕ) → entered_in q x.stretch ≡ []) → NoActs o.roots x.played.line
+no_acts : (o : Outcome) (x : ToldRecord) → IsOutcome o → ActsAreOf o x → ((q : ℕ) → entered_in q x.stretch ≡ []) →
+    NoActs o.roots x.played.line
 no_acts o x is acts none q = go (nat_lt q 4) refl
   where
     go : (b : Bool) → nat_lt q 4 ≡ b → acts_of o.roots x.played.line q ≡ []
     go true low = acts q [] (grind (arith, nat_tests)) (ap (λ (ms : List Made). map (λ m. m.numbers) ms) (none q))
     go false high =
         let past : o.partitions ≤ q = let few = is.few in let far : 4 ≤ q = grind (arith, nat_tests) in omega arith in
-        ap (λ (es : List RootEntry). map (λ (e : RootEntry). e.act) (filter (λ (e : RootEntry). e.line == x.played.line) es)) (is.past q past)
+        ap (λ (es : List RootEntry). map (λ (e : RootEntry). e.act) (filter (λ (e : RootEntry). e.line == x.played.line) es))
+        (is.past q past)
 
 -- if no act is of a line, no entry is
 kept_of_line : (es : List RootEntry) (line : ℕ) (e : RootEntry) → Contains es e → e.line ≡ line →
@@ -86,8 +90,10 @@ kept_of_line [] line e among is none = not_in_none e among
 kept_of_line (f ∷ es) line e among is none =
     go (f.line == line) refl (λ later empty. kept_of_line es line e later is empty) none
   where
-    go : (b : Bool) → (f.line == line) ≡ b → (Contains es e → map (λ (g : RootEntry). g.act) (filter (λ (g : RootEntry). g.line == line) es) ≡ [] → ⊥) →
-        map (λ (g : RootEntry). g.act) (if b then f ∷ filter (λ (g : RootEntry). g.line == line) es else filter (λ (g : RootEntry). g.line == line) es) ≡ [] → ⊥
+    go : (b : Bool) → (f.line == line) ≡ b →
+        (Contains es e → map (λ (g : RootEntry). g.act) (filter (λ (g : RootEntry). g.line == line) es) ≡ [] → ⊥) →
+        map (λ (g : RootEntry). g.act)
+        (if b then f ∷ filter (λ (g : RootEntry). g.line == line) es else filter (λ (g : RootEntry). g.line == line) es) ≡ [] → ⊥
     go true y again empty = cc
     go false differs again empty = elim (in_cases f e es among) [
       | inl same ↦ (let here : f.line ≡ line = ap (λ (g : RootEntry). g.line) same ∙ is in grind (arith, nat_tests))
@@ -100,8 +106,10 @@ pub record IsQuiet (op : Op) (answer : Answer) : Type 0 where
   pub no_swap : (j : ℕ) → answer ≡ answers.Swapped j → ⊥
   pub cells : (list : List Made) (x : ToldRecord) → entered_in 5 x.stretch ≡ [] → EntersCells op list x
 
-pub touched_does : (s : StockValue) (w : View) (registers : List StockRegister) (caches : WorkerLists) (op : Op) (answer : Answer) (es : List Entry) →
-    caches.version ≡ s.caches.version → Touched s.thread es s.view w → IsQuiet op answer → OwesOf s.registers op answer es → KeepsWords answer s.view w →
+pub touched_does : (s : StockValue) (w : View) (registers : List StockRegister) (caches : WorkerLists) (op : Op) (answer : Answer)
+    (es : List Entry) →
+    caches.version ≡ s.caches.version → Touched s.thread es s.view w → IsQuiet op answer → OwesOf s.registers op answer es →
+    KeepsWords answer s.view w →
     ((line phase : ℕ) (o : Outcome) → IsOutcome o → IsSeenOf o w → NoActs o.roots line →
     Says o s (record s { view = w; registers = registers; caches = caches }) (quiet_record s w line phase op answer es)) →
     (line : ℕ) → DoesOp line op answer s (record s { view = w; registers = registers; caches = caches })
@@ -165,7 +173,8 @@ touched_does s w registers caches op answer es kept touched quiet owes words say
 
 -- what a quiet op does, if the lists are as they were
 pub quiet_does : (s : StockValue) (w : View) (registers : List StockRegister) (op : Op) (answer : Answer) (es : List Entry) →
-    HoldsLists s.caches s.view → Touched s.thread es s.view w → IsQuiet op answer → OwesOf s.registers op answer es → KeepsWords answer s.view w →
+    HoldsLists s.caches s.view → Touched s.thread es s.view w → IsQuiet op answer → OwesOf s.registers op answer es →
+    KeepsWords answer s.view w →
     ((line phase : ℕ) (o : Outcome) → IsOutcome o → IsSeenOf o w → NoActs o.roots line →
     SameLists (listed_in (record s { view = w; registers = registers })) (listed_in s) →
     Says o s (record s { view = w; registers = registers }) (quiet_record s w line phase op answer es)) →

@@ -78,6 +78,7 @@ IsPlain answers.TooLarge = Unit {0}
 IsPlain (answers.Full entry) = ⊥
 IsPlain (answers.Swapped entry) = ⊥
 IsPlain (answers.Purged slots) = ⊥
+IsPlain answers.Uncounted = Unit {0}
 
 -- what follows for such an answer
 record Plainly (op : Op) (answer : Answer) : Type 0 where
@@ -85,7 +86,8 @@ record Plainly (op : Op) (answer : Answer) : Type 0 where
   no_swap : (j : ℕ) → answer ≡ answers.Swapped j → ⊥
   told : (sizes : SlotName → ℕ) → IsToldBy sizes op answer []
   owes : (registers : List StockRegister) → OwesOf registers op answer []
-  lists : (partitions : ℕ) (roots : Journals) (x : Played) (cache after : Cache) → NoActs roots x.line → SameLists after cache → CacheRow partitions roots x answer cache after
+  lists : (partitions : ℕ) (roots : Journals) (x : Played) (cache after : Cache) → NoActs roots x.line → SameLists after cache →
+      CacheRow partitions roots x answer cache after
   home : (line : ℕ) (m : Mark) → mark_of_answer line op answer ≡ Some m → ⊥
 
 plainly : (op : Op) (answer : Answer) → IsPlain answer → Plainly op answer
@@ -112,11 +114,13 @@ plainly op answer is = record {
 -- the op does what it should, if its row says so, and its register if it reads
 pub plain_does : (s : StockValue) (op : Op) (answer : Answer) → IsStock s → IsNoSwap op → IsPlain answer →
     ((o : Outcome) → IsOutcome o → IsSeenOf o s.view → Row (row_facts o) op (regs_of s.registers) answer (regs_of s.registers)) →
-    ((o : Outcome) (line phase : ℕ) → IsOutcome o → IsSeenOf o s.view → ReadsIts o.sizes (regs_of s.registers) op (quiet_record s s.view line phase op answer [])) →
+    ((o : Outcome) (line phase : ℕ) → IsOutcome o → IsSeenOf o s.view →
+    ReadsIts o.sizes (regs_of s.registers) op (quiet_record s s.view line phase op answer [])) →
     (line : ℕ) → DoesOp line op answer s s
 plain_does s op answer is no_swap plain row reads =
     let p = plainly op answer plain in
-    quiet_does s s.view s.registers op answer [] is.lists (touched_none s.thread s.view) (record { room = p.room; no_swap = p.no_swap; cells = enters_no_cells op no_swap })
+    quiet_does s s.view s.registers op answer [] is.lists (touched_none s.thread s.view)
+    (record { room = p.room; no_swap = p.no_swap; cells = enters_no_cells op no_swap })
     (p.owes s.registers) (λ refused q known. refl)
     (λ line phase o run sees none same. record {
       told = p.told o.sizes;
@@ -156,10 +160,12 @@ free_refuses s i answer is refused =
     (λ o run sees. free_refused (λ (h : Handle). name_of h.title) r answer (regs_of s.registers) i refused) (λ o line phase run sees. tt)
 
 -- a register without a handle
-no_reader : (s : StockValue) (sizes : SlotName → ℕ) (i : ℕ) (x : ToldRecord) → HasNoHandle (register_in s.registers i) → x.stretch ≡ [] → IsReadThrough sizes (regs_of s.registers i) x
+no_reader : (s : StockValue) (sizes : SlotName → ℕ) (i : ℕ) (x : ToldRecord) → HasNoHandle (register_in s.registers i) → x.stretch ≡ [] →
+    IsReadThrough sizes (regs_of s.registers i) x
 no_reader s sizes i x none empty = record {
   issued = λ n has. absurd (go (register_in s.registers i) none n has);
-  owned = λ n t p v since owner unclean own among. absurd (not_in_none _ (subst (λ es. Contains es (Read t p v since owner unclean)) empty among));
+  owned = λ n t p v since owner unclean own among. absurd
+      (not_in_none _ (subst (λ es. Contains es (Read t p v since owner unclean)) empty among));
 }
   where
     go : (r : StockRegister) → HasNoHandle r → (n : SlotName) → HoldsHandle (as_reg r) n → ⊥

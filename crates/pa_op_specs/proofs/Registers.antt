@@ -27,7 +27,8 @@ pub set_at : {A : Type 0} (xs : List A) (c k : ℕ) (y d : A) → c < length xs 
 set_at {A} xs c k y d within = go (k == c) refl
   where
     go : (b : Bool) → (k == c) ≡ b → slice_index_or (slice_set xs c y) k d ≡ (if b then y else slice_index_or xs k d)
-    go true is = let e : c ≡ k = grind (arith, nat_tests) in subst (λ (n : ℕ). slice_index_or (slice_set xs c y) n d ≡ y) e (get_or-set_same xs c y d within)
+    go true is = let e : c ≡ k = grind (arith, nat_tests) in
+        subst (λ (n : ℕ). slice_index_or (slice_set xs c y) n d ≡ y) e (get_or-set_same xs c y d within)
     go false is = get_or-set_other xs c k y d (λ e. grind (arith, nat_tests))
 
 -- the registers of the rules with one of them changed

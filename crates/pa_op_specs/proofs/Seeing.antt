@@ -58,14 +58,16 @@ title_by : (t : Title) (n : ℕ) → n ≡ t.len → record { start = t.start; l
 title_by t n e = ap (λ m. record t { len = m }) e
 
 -- the slot of a title that an act hands out has the act's class
-class_by : (roots : Journals) (p : ℕ) (e : RootEntry) (class : Option ℕ) (t : Title) (c : ℕ) → Contains (roots p) e → HandsOut class t e.act → class ≡ Some c →
+class_by : (roots : Journals) (p : ℕ) (e : RootEntry) (class : Option ℕ) (t : Title) (c : ℕ) → Contains (roots p) e →
+    HandsOut class t e.act → class ≡ Some c →
     IsOfClass roots (name_of t) p c
 class_by roots p e class t c among out is =
     let h : HandsOut (Some c) t e.act = subst (λ k. HandsOut k t e.act) is out in
     (e, h.0, h.1, among, h.2, h.3)
 
 -- that class is one of the version's, if each fill is of one
-real_by : (version : ℕ) (e : RootEntry) (class : Option ℕ) (t : Title) (c : ℕ) → FillsFrom version e.act → HandsOut class t e.act → class ≡ Some c →
+real_by : (version : ℕ) (e : RootEntry) (class : Option ℕ) (t : Title) (c : ℕ) → FillsFrom version e.act → HandsOut class t e.act →
+    class ≡ Some c →
     HasClass version c
 real_by version e class t c fills out is =
     let h : HandsOut (Some c) t e.act = subst (λ k. HandsOut k t e.act) is out in
@@ -81,7 +83,8 @@ slot_in_run o v h is seen made =
       length = long;
       home = is.homes h.partition e h.class h.title there out;
       title = title_by h.title (o.sizes (name_of h.title)) long;
-      size = subst (λ n. HasSize o.roots h.partition (name_of h.title) n) (sym long) (size_by o.roots h.partition e h.class h.title there out);
+      size = subst (λ n. HasSize o.roots h.partition (name_of h.title) n) (sym long)
+          (size_by o.roots h.partition e h.class h.title there out);
       class = λ c is_class. class_by o.roots h.partition e h.class h.title c there out is_class;
       real = λ c is_class. real_by o.rules.version e h.class h.title c (is.fills h.partition e there) out is_class;
     }
@@ -109,5 +112,6 @@ now_seen t n m k e = elim (title_tells t t) [
 ]
 
 -- the mark belongs to a record and has the slot's size
-pub home_of : (o : Outcome) (p : ℕ) (n m : Mark) → Some n ≡ Some m → HasSize o.roots p n.slot (o.sizes n.slot) → HasSize o.roots p m.slot (o.sizes m.slot)
+pub home_of : (o : Outcome) (p : ℕ) (n m : Mark) → Some n ≡ Some m → HasSize o.roots p n.slot (o.sizes n.slot) →
+    HasSize o.roots p m.slot (o.sizes m.slot)
 home_of o p n m e size = subst (λ (k : Mark). HasSize o.roots p k.slot (o.sizes k.slot)) (of_some n m e) size

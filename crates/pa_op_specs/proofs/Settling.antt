@@ -105,15 +105,18 @@ module _ (es : List Entry) (are : AreAdditions es) where
   touched xs = filter-append is_touch xs es ∙ (ap (λ (l : List Entry). touches xs ++ l) (touch_none es are) ∙ append-nil (touches xs))
 
   entered : (q : ℕ) (xs : List Entry) → entered_in q (xs ++ es) ≡ entered_in q xs
-  entered q xs = entered_append q xs es ∙ (ap (λ (l : List Made). entered_in q xs ++ l) (enter_none q es are) ∙ append-nil (entered_in q xs))
+  entered q xs = entered_append q xs es ∙
+      (ap (λ (l : List Made). entered_in q xs ++ l) (enter_none q es are) ∙ append-nil (entered_in q xs))
 
   owed_still : (q : ℕ) (xs : List Entry) → sum_by (owes_as q) (xs ++ es) ≡ sum_by (owes_as q) xs
   owed_still q xs = let a = sum_by-append (owes_as q) xs es in let b = owe_none q es are in omega arith
 
-  step_on : (t : Title) (step : Step) (found value : ℕ) (xs : List Entry) → IsStepTold t step found value xs → IsStepTold t step found value (xs ++ es)
+  step_on : (t : Title) (step : Step) (found value : ℕ) (xs : List Entry) → IsStepTold t step found value xs →
+      IsStepTold t step found value (xs ++ es)
   step_on t step found value xs (looks, all, is) = (looks, all, touched xs ∙ is)
 
-  read_on : (t : Title) (place found value : ℕ) (owned : Bool) (xs : List Entry) → IsReadTold t place found value owned xs → IsReadTold t place found value owned (xs ++ es)
+  read_on : (t : Title) (place found value : ℕ) (owned : Bool) (xs : List Entry) → IsReadTold t place found value owned xs →
+      IsReadTold t place found value owned (xs ++ es)
   read_on t place found value owned xs told = record {
     since = told.since;
     unclean = told.unclean;
@@ -125,10 +128,13 @@ module _ (es : List Entry) (are : AreAdditions es) where
     in_use = told.in_use;
   }
 
-  reads_on : (sizes : SlotName → ℕ) (op : Op) (seen : Seen) (value : ℕ) (xs : List Entry) → ReadsTold sizes op seen value xs → ReadsTold sizes op seen value (xs ++ es)
-  reads_on sizes op seen value xs (reg, place, owned, is, told) = (reg, place, owned, is, read_on (title_of sizes seen.slot) place seen.found.0 value owned xs told)
+  reads_on : (sizes : SlotName → ℕ) (op : Op) (seen : Seen) (value : ℕ) (xs : List Entry) → ReadsTold sizes op seen value xs →
+      ReadsTold sizes op seen value (xs ++ es)
+  reads_on sizes op seen value xs (reg, place, owned, is, told) =
+      (reg, place, owned, is, read_on (title_of sizes seen.slot) place seen.found.0 value owned xs told)
 
-  done_on : (sizes : SlotName → ℕ) (step : Option Step) (value : ℕ) (seen : Seen) (xs : List Entry) → IsDoneTold sizes step value seen xs → IsDoneTold sizes step value seen (xs ++ es)
+  done_on : (sizes : SlotName → ℕ) (step : Option Step) (value : ℕ) (seen : Seen) (xs : List Entry) → IsDoneTold sizes step value seen xs →
+      IsDoneTold sizes step value seen (xs ++ es)
   done_on sizes None value seen xs told = told
   done_on sizes (Some step) value seen xs told = step_on (title_of sizes seen.slot) step seen.found.0 value xs told
 
@@ -136,8 +142,10 @@ module _ (es : List Entry) (are : AreAdditions es) where
   seen_on sizes None xs told = touched xs ∙ told
   seen_on sizes (Some seen) xs (is, used) = (touched xs ∙ is, used)
 
-  told_on : (sizes : SlotName → ℕ) (op : Op) (answer : Answer) (xs : List Entry) → IsToldBy sizes op answer xs → IsToldBy sizes op answer (xs ++ es)
-  told_on sizes op (answers.Made seen usable) xs (told, long) = (step_on (title_of sizes seen.slot) steps.Issue seen.found.0 0 xs told, long)
+  told_on : (sizes : SlotName → ℕ) (op : Op) (answer : Answer) (xs : List Entry) → IsToldBy sizes op answer xs →
+      IsToldBy sizes op answer (xs ++ es)
+  told_on sizes op (answers.Made seen usable) xs (told, long) =
+      (step_on (title_of sizes seen.slot) steps.Issue seen.found.0 0 xs told, long)
   told_on sizes op (answers.Done seen) xs told = done_on sizes (step_of op) (value_by op) seen xs told
   told_on sizes op (answers.Value seen value) xs (held, told) = (held, reads_on sizes op seen value xs told)
   told_on sizes op (answers.Dangling seen value) xs (held, told) = (held, reads_on sizes op seen value xs told)
@@ -154,8 +162,10 @@ module _ (es : List Entry) (are : AreAdditions es) where
   told_on sizes op (answers.Full entry) xs told = touched xs ∙ told
   told_on sizes op (answers.Swapped entry) xs told = touched xs ∙ told
   told_on sizes op (answers.Purged slots) xs told = touched xs ∙ told
+  told_on sizes op answers.Uncounted xs told = touched xs ∙ told
 
-  reader_on : (sizes : SlotName → ℕ) (regs : Regs) (op : Op) (x : ToldRecord) → ReadsIts sizes regs op x → ReadsIts sizes regs op (lengthened es x)
+  reader_on : (sizes : SlotName → ℕ) (regs : Regs) (op : Op) (x : ToldRecord) → ReadsIts sizes regs op x →
+      ReadsIts sizes regs op (lengthened es x)
   reader_on sizes regs (ops.Alloc reg partition size) x reads = tt
   reader_on sizes regs (ops.Copy from to) x reads = tt
   reader_on sizes regs (ops.Reset reg) x reads = tt
@@ -163,7 +173,8 @@ module _ (es : List Entry) (are : AreAdditions es) where
   reader_on sizes regs (ops.Write reg value) x reads = tt
   reader_on sizes regs (ops.Read reg place) x reads = record {
     issued = reads.issued;
-    owned = λ s t p value since owner unclean own among. reads.owned s t p value since owner unclean own (there x.stretch (Read t p value since owner unclean) tt among);
+    owned = λ s t p value since owner unclean own among. reads.owned s t p value since owner unclean own
+        (there x.stretch (Read t p value since owner unclean) tt among);
   }
   reader_on sizes regs (ops.Swap cell reg) x reads = tt
   reader_on sizes regs ops.Purge x reads = tt
@@ -188,7 +199,8 @@ module _ (es : List Entry) (are : AreAdditions es) where
   }
   cells_on ops.Purge list x none = entered 5 x.stretch ∙ none
 
-  numbers_on : (q : ℕ) (xs : List Entry) → map (λ (m : Made). m.numbers) (entered_in q (xs ++ es)) ≡ map (λ (m : Made). m.numbers) (entered_in q xs)
+  numbers_on : (q : ℕ) (xs : List Entry) →
+      map (λ (m : Made). m.numbers) (entered_in q (xs ++ es)) ≡ map (λ (m : Made). m.numbers) (entered_in q xs)
   numbers_on q xs = ap (map (λ (m : Made). m.numbers)) (entered q xs)
 
   abbrev it_on : (x : ToldRecord) → Enters x → Enters (lengthened es x)
@@ -251,7 +263,8 @@ module _ (leaves : SettleAllLeaves) (owed : List Owed) where
   added : AreAdditions (all_added owed)
   added = tt
 
-  fits_back : (o : Outcome) (n : ℕ) (v : View) (x : ToldRecord) → FitsRun o n (after_settle_all owed v) (lengthened (all_added owed) x) → FitsRun o n v x
+  fits_back : (o : Outcome) (n : ℕ) (v : View) (x : ToldRecord) → FitsRun o n (after_settle_all owed v) (lengthened (all_added owed) x) →
+      FitsRun o n v x
   fits_back o n v x fits = record {
     many = fits.many;
     rules = fits.rules;
@@ -272,8 +285,10 @@ module _ (leaves : SettleAllLeaves) (owed : List Owed) where
     seen = record {
       saw = does.seen.saw;
       knows = does.seen.knows;
-      carries = λ m t among. does.seen.carries m t (subst (λ (ms : List Made). Contains ms m) (entered (all_added owed) added 5 x.stretch) among);
-      steps = λ t step found value among. does.seen.steps t step found value (there (all_added owed) added x.stretch (Counted t step found value) tt among);
+      carries = λ m t among. does.seen.carries m t
+          (subst (λ (ms : List Made). Contains ms m) (entered (all_added owed) added 5 x.stretch) among);
+      steps = λ t step found value among. does.seen.steps t step found value
+          (there (all_added owed) added x.stretch (Counted t step found value) tt among);
       looks = λ t found among. does.seen.looks t found (there (all_added owed) added x.stretch (Looked t found) tt among);
       grows = does.seen.grows;
     };
@@ -292,7 +307,8 @@ module _ (leaves : SettleAllLeaves) (owed : List Owed) where
           lists = a.lists;
           reader = reader_on (all_added owed) added o.sizes (regs_of s.registers) x.played.op x a.reader;
           unmaps = a.unmaps;
-          makes = λ p m e low among is. a.makes p m e low (subst (λ (ms : List Made). Contains ms m) (entered (all_added owed) added p x.stretch) among) is;
+          makes = λ p m e low among is. a.makes p m e low
+              (subst (λ (ms : List Made). Contains ms m) (entered (all_added owed) added p x.stretch) among) is;
           home = a.home;
           signs = shapes_have_signs.settled o.partitions o.roots x (all_added owed) added a.signs;
         };
@@ -323,7 +339,8 @@ booked_on leaves v mine can p q low kind =
     let after = after_settle_all v.owed v.stock.view in
     let log : log_of v.stock.thread after ≡ log_of v.stock.thread v.stock.view ++ all_added v.owed =
     subst (λ (n : ℕ). log_of n after ≡ log_of n v.stock.view ++ all_added v.owed) mine left.log in
-    let a : sum_by (added_to k) (log_of v.stock.thread after) ≡ sum_by (added_to k) (log_of v.stock.thread v.stock.view ++ all_added v.owed) =
+    let a : sum_by (added_to k) (log_of v.stock.thread after) ≡ sum_by (added_to k)
+    (log_of v.stock.thread v.stock.view ++ all_added v.owed) =
     ap (sum_by (added_to k)) log in
     let b = sum_by-append (added_to k) (log_of v.stock.thread v.stock.view) (all_added v.owed) in
     let c = left.adds p q low kind in
@@ -331,19 +348,23 @@ booked_on leaves v mine can p q low kind =
     omega arith
 
 module _ (leaves : SettleAllLeaves) where
-  one_on : (w v : WorkerValue) (x : ToldRecord) → PlaysOne w v x → least_stake v.stock.view.stakes ≡ v.stock.thread → CanSettleAll v.owed v.stock.view →
+  one_on : (w v : WorkerValue) (x : ToldRecord) → PlaysOne w v x → least_stake v.stock.view.stakes ≡ v.stock.thread →
+      CanSettleAll v.owed v.stock.view →
       PlaysOne w (settled_worker v) (lengthened (all_added v.owed) x)
   one_on w v x one mine can = record {
     records = one.records;
     does = does_on leaves v.owed w.stock v.stock x one.does mine can;
     counts = λ o fits. one.counts o (fits_back leaves v.owed o w.stock.partitions v.stock.view x fits);
     bytes = λ o fits p q low kind.
-        booked_on leaves v mine can p q low kind ∙ one.bytes o (fits_back leaves v.owed o w.stock.partitions v.stock.view x fits) p q low kind;
+        booked_on leaves v mine can p q low kind ∙
+        one.bytes o (fits_back leaves v.owed o w.stock.partitions v.stock.view x fits) p q low kind;
   }
 
-  all_on : (w v : WorkerValue) (x : ToldRecord) (xs : List ToldRecord) → PlaysAll w (x ∷ xs) v → least_stake v.stock.view.stakes ≡ v.stock.thread → CanSettleAll v.owed v.stock.view →
+  all_on : (w v : WorkerValue) (x : ToldRecord) (xs : List ToldRecord) → PlaysAll w (x ∷ xs) v →
+      least_stake v.stock.view.stakes ≡ v.stock.thread → CanSettleAll v.owed v.stock.view →
       PlaysAll w (last_lengthened (all_added v.owed) (x ∷ xs)) (settled_worker v)
-  all_on w v x [] (next, one, same) mine can = (settled_worker v, one_on w v x (subst (λ (z : WorkerValue). PlaysOne w z x) (sym same) one) mine can, refl)
+  all_on w v x [] (next, one, same) mine can =
+      (settled_worker v, one_on w v x (subst (λ (z : WorkerValue). PlaysOne w z x) (sym same) one) mine can, refl)
   all_on w v x (y ∷ xs) (next, one, more) mine can = (next, one, all_on next v y xs more mine can)
 
 same_records : (es : List Entry) (x : ToldRecord) (xs : List ToldRecord) → played_in (last_lengthened es (x ∷ xs)) ≡ played_in (x ∷ xs)

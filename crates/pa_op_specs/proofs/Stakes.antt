@@ -20,16 +20,19 @@ use Rattle.pa_op_specs.specs.Stocks.{StockValue, HoldsStake}
 use Rattle.pa_op_specs.specs.Workers.{HasItsStake, IsCovered}
 
 -- if all stakes have one number, the least one isn't below it
-least_from : (r : ℕ) (ss : List Stake) → r ≤ 16 → ((k : ℕ) → (k ≡ r → ⊥) → sum_by (λ (s : Stake). one (s.number == k)) ss ≡ 0) → r ≤ least_stake ss
+least_from : (r : ℕ) (ss : List Stake) → r ≤ 16 → ((k : ℕ) → (k ≡ r → ⊥) → sum_by (λ (s : Stake). one (s.number == k)) ss ≡ 0) →
+    r ≤ least_stake ss
 least_from r [] small only = small
 least_from r (s ∷ ss) small only =
-    let again = least_from r ss small (λ k other. let c = sum_by-cons (λ (x : Stake). one (x.number == k)) s ss in let z = only k other in omega arith) in
+    let again = least_from r ss small (λ k other. let c = sum_by-cons (λ (x : Stake). one (x.number == k)) s ss in let z = only k other in
+    omega arith) in
     elim (eqb_tells s.number r) [
       | inl y ↦ omega arith
       | inr n ↦ elim (eqb_tells s.number s.number) [
         | inl here ↦
             (let z = only s.number n.1 in
-            let c : sum_by (λ (x : Stake). one (x.number == s.number)) (s ∷ ss) ≡ one (s.number == s.number) + sum_by (λ (x : Stake). one (x.number == s.number)) ss =
+            let c : sum_by (λ (x : Stake). one (x.number == s.number)) (s ∷ ss) ≡ one (s.number == s.number) + sum_by
+            (λ (x : Stake). one (x.number == s.number)) ss =
             sum_by-cons (λ (x : Stake). one (x.number == s.number)) s ss in
             let d : one (s.number == s.number) ≡ 1 = ap one here.0 in
             absurd (omega arith))
@@ -58,7 +61,8 @@ least_is thread v holds has =
     (omega arith, omega arith)
 
 -- what a worker owes may be added
-pub can_settle : (owed : List Owed) (s : StockValue) → HoldsStake s.thread s.view → HasItsStake s → IsCovered owed s → CanSettleAll owed s.view
+pub can_settle : (owed : List Owed) (s : StockValue) → HoldsStake s.thread s.view → HasItsStake s → IsCovered owed s →
+    CanSettleAll owed s.view
 can_settle owed s holds stake covered =
     let least = least_is s.thread s.view holds stake in
     record {

@@ -35,7 +35,8 @@ register_has s i h is below (inr ref) =
     (omega arith, subst (IsMadeFor s.view) ref (is.handles.made i))
 
 -- the seat has the Own that a register owns
-pub register_owns : (s : StockValue) (i : ℕ) (h : Handle) → IsStock s → i < 64 → register_in s.registers i ≡ Own h → 0 < own_of s.view h.title
+pub register_owns : (s : StockValue) (i : ℕ) (h : Handle) → IsStock s → i < 64 → register_in s.registers i ≡ Own h →
+    0 < own_of s.view h.title
 register_owns s i h is below own =
     let part = part_of (owns_one h.title) s.registers i (let n = is.handles.count in omega arith) in
     let one_there : owns_one h.title (register_in s.registers i) ≡ 1 = ap (owns_one h.title) own ∙ ap one (title_self h.title) in
@@ -43,7 +44,8 @@ register_owns s i h is below own =
     omega arith
 
 -- the seat has a Ref if a register has one
-pub register_points : (s : StockValue) (i : ℕ) (h : Handle) → IsStock s → i < 64 → register_in s.registers i ≡ Ref h → 0 < ref_of s.view h.title
+pub register_points : (s : StockValue) (i : ℕ) (h : Handle) → IsStock s → i < 64 → register_in s.registers i ≡ Ref h →
+    0 < ref_of s.view h.title
 register_points s i h is below ref =
     let part = part_of (refs_one h.title) s.registers i (let n = is.handles.count in omega arith) in
     let one_there : refs_one h.title (register_in s.registers i) ≡ 1 = ap (refs_one h.title) ref ∙ ap one (title_self h.title) in

@@ -12,8 +12,8 @@ use Rattle.pa_region.specs.Totals.{is_of_kind, added_to}
 use Rattle.pa_totals.specs.Settled.{owed_to, owed_at}
 use Rattle.pa_op_specs.specs.Workers.{WorkerValue}
 
--- the bytes that a worker booked to word number 4 p + q, which is that of partition p and kind q: those that are owed and those that
--- its log added
+-- the bytes that a worker booked to word number 4 p + q, which is that of partition p and kind q:
+-- those that are owed and those that its log added
 abbrev pub booked : WorkerValue → ℕ → ℕ → ℕ
 booked w p q = owed_to q (owed_at w.owed p) + sum_by (added_to (4 * p + q)) (log_of w.stock.thread w.stock.view)
 

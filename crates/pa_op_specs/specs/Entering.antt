@@ -21,8 +21,8 @@ use Rattle.pa_logs.specs.Standing.{Unmaps}
 use Rattle.pa_op_specs.specs.Outcomes.{FillsFrom}
 use Rattle.pa_op_specs.specs.Stocks.{StockValue}
 
--- An exchange with cell k made one entry in the cells' list, which is of its line, and its answer is how many exchanges of the
--- cell are before it.
+-- An exchange with cell k made one entry in the cells' list, which is of its line,
+-- and its answer is how many exchanges of the cell are before it.
 pub record EntersExchange (list : List Made) (x : ToldRecord) (k : ℕ) : Type 0 where
   pub older : List Made
   pub rest : List Made

@@ -13,8 +13,8 @@ use Rattle.pa_op_specs.specs.Booking.{BooksBy}
 use Rattle.pa_op_specs.specs.Outcomes.{Outcome, IsOutcome, IsSeenOf, ActsAreOf, row_facts}
 use Rattle.pa_op_specs.specs.Plays.{PlaysAll}
 
--- A run of this many partitions became this, in which these records were made, by the run's rules, by a seat that had this view after
--- them.
+-- A run of this many partitions became this, in which these records were made, by the run's rules,
+-- by a seat that had this view after them.
 pub record FitsAll (o : Outcome) (partitions : ℕ) (v : View) (xs : List ToldRecord) : Type 0 where
   pub many : o.partitions ≡ partitions
   pub rules : (x : ToldRecord) → Contains xs x → x.played.rules ≡ o.rules

@@ -89,8 +89,8 @@ pub record Does (before after : StockValue) (x : ToldRecord) : Type 0 where
   pub words : KeepsWords x.played.answer before.view after.view
   pub answers : (o : Outcome) → FitsRun o before.partitions after.view x → AnswersIn o before after x
 
--- What an op on this line does, with this answer, in whatever phase the line is. An op adds nothing to the totals words: a settling
--- does.
+-- What an op on this line does, with this answer, in whatever phase the line is.
+-- An op adds nothing to the totals words: a settling does.
 abbrev pub DoesOp : (line : ℕ) → Op → Answer → (before after : StockValue) → Type 0
 DoesOp line op answer before after =
     (phase : ℕ) → (x : ToldRecord)

@@ -1,5 +1,5 @@
 -- What a worker has: a seat, registers, and lists of free slots, as contracts see it, and what is always true of it.
-use Rattle.std.specs.Prelude.{◌≡◌, ℕ, ◌+◌, ◌-◌, ◌*◌, ◌%◌, ◌<◌, ◌≤◌, List, [], length, if◌then◌else◌, ◌⊎◌, Some, Contains, slice_index_or}
+use Rattle.std.specs.Prelude.{◌≡◌, ℕ, ◌+◌, ◌*◌, ◌%◌, ◌<◌, ◌≤◌, List, [], length, if◌then◌else◌, ◌⊎◌, Some, Contains, slice_index_or}
 use Rattle.std.specs.List.{sum_by}
 use Rattle.pa_slot.specs.declared.title.Title.{Title}
 use Rattle.pa_slot.specs.Titles.{same_title, IsWellFormed}
@@ -8,9 +8,10 @@ use Rattle.pa_buckets.specs.Limits.{first_class}
 use Rattle.pa_trace.specs.declared.script.Rules.{Rules}
 use Rattle.pa_record.specs.Spans.{name_of}
 use Rattle.pa_trace.specs.Limits.{register_count, most_partitions, most_threads}
+use Rattle.pa_rules.specs.Lists.{cache_place}
 use Rattle.pa_rules.specs.Sizes.{HasClass, is_class, class_total}
 use Rattle.pa_region.specs.declared.view.View.{View}
-use Rattle.pa_region.specs.Views.{free_of, own_of, ref_of, stake_of}
+use Rattle.pa_region.specs.Views.{free_of, own_of, sealed_of, ref_of, stake_of}
 use Rattle.pa_region.specs.Waiting.{unclean_of}
 use Rattle.pa_rules.specs.declared.register.Register.{Register}
 use Rattle.pa_rules.specs.Registers.{Reg, Regs}
@@ -27,14 +28,14 @@ use Rattle.pa_rules.specs.declared.register.Register.TheVariants.{Empty, Own, Re
 abbrev pub StockRegister : Type 0
 StockRegister = Register Handle
 
--- A worker's lists of free slots: the version of the run, and a cache for each of 4 partitions and of the version's classes, those of
--- partition 0 first.
+-- A worker's lists of free slots: the version of the run, and a cache for each of 4 partitions
+-- and of the version's classes, those of partition 0 first.
 pub record WorkerLists : Type 0 where
   pub version : ℕ
   pub lists : List CacheList
 
--- A worker's thread state, as contracts see it: the number of its thread, how many partitions the run has, the view of its seat, its
--- registers, and its lists.
+-- A worker's thread state, as contracts see it: the number of its thread, how many partitions the run has,
+-- the view of its seat, its registers, and its lists.
 pub record StockValue : Type 0 where
   pub thread : ℕ
   pub partitions : ℕ
@@ -49,10 +50,6 @@ rules_at s = record { version = s.caches.version; plain_from = s.partitions }
 -- what register number i has, which is nothing if it isn't there
 abbrev pub register_in : List StockRegister → ℕ → StockRegister
 register_in registers i = slice_index_or registers i Empty
-
--- the index of the cache of a partition and a class, which is one of the version's
-abbrev pub cache_place : ℕ → ℕ → ℕ → ℕ
-cache_place version p class = p * class_total version + (class - first_class version)
 
 -- the cache to use if there is none: it has no titles
 abbrev pub no_cache : CacheList
@@ -111,13 +108,14 @@ IsMadeFor v (Ref h) = HasSeenMade h v
 IsMadeFor v Freed = Unit {0}
 IsMadeFor v Cleared = Unit {0}
 
--- What is known of handles. The seat has each Own and each Ref as many times as registers have it, and no Own is unclean. It has seen
--- how each of their slots was made.
+-- What is known of handles. The seat has each Own and each Ref as many times as registers have it, and no Own is unclean or sealed.
+-- It has seen how each of their slots was made.
 pub record HoldsHandles (registers : List StockRegister) (v : View) : Type 0 where
   pub count : length registers ≡ register_count
   pub owns : (t : Title) → own_of v t ≡ sum_by (owns_one t) registers
   pub refs : (t : Title) → ref_of v t ≡ sum_by (refs_one t) registers
   pub clean : unclean_of v ≡ 0
+  pub sealed : (t : Title) → sealed_of v t ≡ 0
   pub made : (i : ℕ) → IsMadeFor v (register_in registers i)
 
 -- the slot of this title, as one of partition p and of the class

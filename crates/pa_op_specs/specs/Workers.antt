@@ -47,8 +47,8 @@ pub record CanPlayOp (w : WorkerValue) : Type 0 where
   pub stake : HasItsStake w.stock
   pub room : length w.records < w.room
 
--- After an op that didn't run out of memory the worker isn't stopped, has its stake and one more record, and room for as many in all
--- as before.
+-- After an op that didn't run out of memory the worker isn't stopped, has its stake and one more record,
+-- and room for as many in all as before.
 pub record KeepsOn (before after : WorkerValue) : Type 0 where
   pub going : after.stopped ≡ false
   pub stake : HasItsStake after.stock

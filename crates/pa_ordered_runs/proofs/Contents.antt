@@ -81,7 +81,8 @@ module _ (a : Parts) (h : IsFiled a) (place : ℕ) (front back : List Played) (x
   abbrev LeavesAt : SlotName → List ℕ → Type 0
   LeavesAt s values = content_at a s place (front ++ x ∷ []) ≡ last_of (content_at a s place front) values
 
-  leaves_at : (m : Mark) (values : List ℕ) → mark_of x ≡ Some m → filter_map (part_leaves place x) (steps_in a x) ≡ values → LeavesAt m.slot values
+  leaves_at : (m : Mark) (values : List ℕ) → mark_of x ≡ Some m → filter_map (part_leaves place x) (steps_in a x) ≡ values →
+      LeavesAt m.slot values
   leaves_at m values is left =
       let of : is_of_slot m.slot (mark_of x) ≡ true = ap (is_of_slot m.slot) is ∙ same_slot_yes m.slot m.slot refl in
       content_next a m.slot place front x ∙ content_here m.slot place (content_at a m.slot place front) x (steps_in a x) of
@@ -108,11 +109,13 @@ module _ (a : Parts) (h : IsFiled a) (place : ℕ) (front back : List Played) (x
     number : number_of seen.found.0 + 1 ≡ number_of new
     number = sym (ap number_of stepped_to ∙ number_stepped p seen.found.0 can)
 
-    content_is : (value : ℕ) → content_at a seen.slot place (front ++ x ∷ []) ≡ value → IsContent a.ps seen.slot (number_of seen.found.0 + 1) value →
+    content_is : (value : ℕ) → content_at a seen.slot place (front ++ x ∷ []) ≡ value →
+        IsContent a.ps seen.slot (number_of seen.found.0 + 1) value →
         IsContent a.ps seen.slot (number_of new) (content_at a seen.slot place (front ++ x ∷ []))
     content_is value content had =
         let P : ℕ → ℕ → Type 0 = λ k c. IsContent a.ps seen.slot k c in
-        subst (λ k. P k (content_at a seen.slot place (front ++ x ∷ []))) number (subst (λ c. P (number_of seen.found.0 + 1) c) (sym content) had)
+        subst (λ k. P k (content_at a seen.slot place (front ++ x ∷ []))) number
+        (subst (λ c. P (number_of seen.found.0 + 1) c) (sym content) had)
 
     -- one that leaves the slot held, with this content
     holds : (value : ℕ) → held_of (stepped p seen.found.0) ≡ 1 → content_at a seen.slot place (front ++ x ∷ []) ≡ value →
@@ -124,7 +127,8 @@ module _ (a : Parts) (h : IsFiled a) (place : ℕ) (front back : List Played) (x
 
     -- one that leaves bit and content
     keeps : (p ≡ steps.Issue → ⊥) → (p ≡ steps.Free → ⊥) → ((other : Seen) (usable : ℕ) → x.answer ≡ answers.Made other usable → ⊥) →
-        ((reg value : ℕ) → x.op ≡ ops.Write reg value → ⊥) → LeavesAt seen.slot [] → IsKnown a place seen.slot front → IsKnown a place seen.slot (front ++ x ∷ [])
+        ((reg value : ℕ) → x.op ≡ ops.Write reg value → ⊥) → LeavesAt seen.slot [] → IsKnown a place seen.slot front →
+        IsKnown a place seen.slot (front ++ x ∷ [])
     keeps issue free not_made not_written content known =
         let bit : held_of new ≡ held_of old = ap held_of stepped_to ∙ bit_kept p seen.found.0 can issue free ∙ ap held_of found in
         record {
@@ -132,9 +136,11 @@ module _ (a : Parts) (h : IsFiled a) (place : ℕ) (front back : List Played) (x
               let had = known.held (sym bit ∙ held) in
               let had' = subst (λ w. IsContent a.ps seen.slot (number_of w) (content_at a seen.slot place front)) (sym found) had in
               content_is (content_at a seen.slot place front) content
-              (content_left a h x (mark_at x.line seen (Some p)) p (content_at a seen.slot place front) among is refl not_made not_written had');
+              (content_left a h x (mark_at x.line seen (Some p)) p
+              (content_at a seen.slot place front) among is refl not_made not_written had');
           freed = λ made bit_off.
-              content ∙ known.freed (made_before seen.slot (λ other usable answer slot. not_made other usable answer) made) (sym bit ∙ bit_off);
+              content ∙ known.freed (made_before seen.slot (λ other usable answer slot. not_made other usable answer) made)
+              (sym bit ∙ bit_off);
         }
 
   -- ---- by the answer
@@ -153,7 +159,8 @@ module _ (a : Parts) (h : IsFiled a) (place : ℕ) (front back : List Played) (x
   done_mark : (seen : Seen) (op : Op) (p : Step) → x.op ≡ op → x.answer ≡ answers.Done seen → step_of op ≡ Some p →
       mark_of x ≡ Some (mark_at x.line seen (Some p))
   done_mark seen op p same answer step =
-      ap (mark_of_answer x.line x.op) answer ∙ ap (λ o. Some (mark_at x.line seen (step_of o))) same ∙ ap (λ o. Some (mark_at x.line seen o)) step
+      ap (mark_of_answer x.line x.op) answer ∙ ap (λ o. Some (mark_at x.line seen (step_of o))) same ∙
+      ap (λ o. Some (mark_at x.line seen o)) step
 
   not_made_by : (seen : Seen) → x.answer ≡ answers.Done seen → (other : Seen) (usable : ℕ) → x.answer ≡ answers.Made other usable → ⊥
   not_made_by seen answer other usable e = let both : answers.Done seen ≡ answers.Made other usable = sym answer ∙ e in cc
@@ -162,11 +169,13 @@ module _ (a : Parts) (h : IsFiled a) (place : ℕ) (front back : List Played) (x
   by_op seen (ops.Alloc reg partition size) p op answer step inside known = absurd cc
   by_op seen (ops.Copy from to) p op answer step inside known =
       let is = done_mark seen (ops.Copy from to) steps.Copy op answer refl in
-      keeps seen steps.Copy is (λ e. cc) (λ e. cc) (not_made_by seen answer) (λ reg value e. (let both : ops.Copy from to ≡ ops.Write reg value = sym op ∙ e in cc))
+      keeps seen steps.Copy is (λ e. cc) (λ e. cc) (not_made_by seen answer)
+      (λ reg value e. (let both : ops.Copy from to ≡ ops.Write reg value = sym op ∙ e in cc))
       (leaves_at (mark_at x.line seen (Some steps.Copy)) [] is (copied_left a place x from to seen op answer)) known
   by_op seen (ops.Reset reg) p op answer step inside known =
       let is = done_mark seen (ops.Reset reg) steps.Reset op answer refl in
-      keeps seen steps.Reset is (λ e. cc) (λ e. cc) (not_made_by seen answer) (λ r value e. (let both : ops.Reset reg ≡ ops.Write r value = sym op ∙ e in cc))
+      keeps seen steps.Reset is (λ e. cc) (λ e. cc) (not_made_by seen answer)
+      (λ r value e. (let both : ops.Reset reg ≡ ops.Write r value = sym op ∙ e in cc))
       (leaves_at (mark_at x.line seen (Some steps.Reset)) [] is (reset_left a place x reg seen op answer)) known
   by_op seen (ops.Free reg) p op answer step inside known =
       let is = done_mark seen (ops.Free reg) steps.Free op answer refl in
@@ -192,7 +201,8 @@ module _ (a : Parts) (h : IsFiled a) (place : ℕ) (front back : List Played) (x
   quiet_goes : (m : Mark) → mark_of x ≡ Some m → IsQuiet x.answer → Goes m.slot
   quiet_goes m is quiet inside known =
       let none = quiet_step x.line x.op x.answer m quiet is in
-      stays m.slot (λ seen usable answer slot. quiet.not_made seen usable answer) (word_here front x m is ∙ ap (λ o. stepped_by o (word_after front m.slot)) none)
+      stays m.slot (λ seen usable answer slot. quiet.not_made seen usable answer)
+      (word_here front x m is ∙ ap (λ o. stepped_by o (word_after front m.slot)) none)
       (leaves_at m [] is (quiet_left a place x quiet)) known
 
   by_answer : (answer : Answer) (m : Mark) → x.answer ≡ answer → mark_of x ≡ Some m → Goes m.slot
@@ -210,15 +220,19 @@ module _ (a : Parts) (h : IsFiled a) (place : ℕ) (front back : List Played) (x
 
   by_mark : (s : SlotName) (o : Option Mark) → mark_of x ≡ o → Goes s
   by_mark s None is inside known =
-      stays s (λ seen usable answer slot. (let both : None ≡ Some (mark_at x.line seen (Some steps.Issue)) = sym is ∙ made_mark x seen usable answer in cc))
+      stays s (λ seen usable answer slot. (let both : None ≡ Some (mark_at x.line seen (Some steps.Issue)) = sym is ∙
+      made_mark x seen usable answer in cc))
       (word_same front x s is)
       (content_next a s place front x ∙ content_beside s place (content_at a s place front) x (steps_in a x) (ap (is_of_slot s) is)) known
   by_mark s (Some m) is inside known = elim (same_slot_cases m.slot s) [
     | inl same ↦ subst Goes same (by_answer x.answer m refl is) inside known
     | inr other ↦
-        stays s (λ seen usable answer slot. other (ap (λ (z : Mark). z.slot) (sym (of_some (mark_at x.line seen (Some steps.Issue)) m (sym (made_mark x seen usable answer) ∙ is))) ∙ slot))
+        stays s (λ seen usable answer slot. other
+        (ap (λ (z : Mark). z.slot)
+        (sym (of_some (mark_at x.line seen (Some steps.Issue)) m (sym (made_mark x seen usable answer) ∙ is))) ∙ slot))
         (word_other front x m s is other)
-        (content_next a s place front x ∙ content_beside s place (content_at a s place front) x (steps_in a x) (ap (is_of_slot s) is ∙ same_slot_no m.slot s other)) known
+        (content_next a s place front x ∙
+        content_beside s place (content_at a s place front) x (steps_in a x) (ap (is_of_slot s) is ∙ same_slot_no m.slot s other)) known
   ]
 
   pub known_next : (s : SlotName) → Goes s

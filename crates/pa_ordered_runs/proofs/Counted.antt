@@ -98,7 +98,8 @@ answer_counts a line words op (answers.Made seen usable) m done is =
 answer_counts a line words op (answers.Done seen) m done is =
     let entries = entry_parts a.partitions a.roots line in
     let (p, step) = done seen refl in
-    done_kept counting words op entries (λ word. refl) ∙ ap (λ ys. 0 ∷ ys) (no_entries counting a.partitions a.roots line refl (λ q act. refl))
+    done_kept counting words op entries (λ word. refl) ∙
+    ap (λ ys. 0 ∷ ys) (no_entries counting a.partitions a.roots line refl (λ q act. refl))
     ∙ sym (ap step_piece step) ∙ ap (λ (z : Mark). step_piece z.step) (of_some (mark_at line seen (step_of op)) m is)
 answer_counts a line words op (answers.Value seen value) m done is = looked_at line seen m is
 answer_counts a line words op (answers.Dangling seen value) m done is = looked_at line seen m is
@@ -169,7 +170,8 @@ module _ (a : Parts) (h : IsFiled a) (s : SlotName) where
       let all = sum_by-cons (λ y. cond {A = ℕ} (same_slot y.slot s && is_some y.step) 1 0) m ms in
       omega arith
 
-  pub counted_along : (ps : List Played) → ((x : Played) → Contains ps x → Contains a.ps x) → counted_steps s (line_by_line a ps) ≡ steps_of s (marks_of ps)
+  pub counted_along : (ps : List Played) → ((x : Played) → Contains ps x → Contains a.ps x) →
+      counted_steps s (line_by_line a ps) ≡ steps_of s (marks_of ps)
   counted_along [] there = refl
   counted_along (x ∷ ps) there =
       let parted = sum_by-append (λ (m : Moment). cond {A = ℕ} (is_counted_on s m.x m.part) 1 0) (moments_at a x) (line_by_line a ps) in
@@ -183,7 +185,8 @@ pub touch_found : (a : Parts) (front back : List Played) (x : Played) (us vs : L
     a.ps ≡ front ++ x ∷ back → steps_in a x ≡ us ++ part ∷ vs → IsTouch part → mark_of x ≡ Some k →
     number_of k.found ≡ counted_steps k.slot (line_by_line a front ++ map (moment x) us)
 touch_found a front back x us vs part k h parts cut touch is =
-    let parted = sum_by-append (λ (m : Moment). cond {A = ℕ} (is_counted_on k.slot m.x m.part) 1 0) (line_by_line a front) (map (moment x) us) in
+    let parted = sum_by-append (λ (m : Moment). cond {A = ℕ} (is_counted_on k.slot m.x m.part) 1 0) (line_by_line a front)
+    (map (moment x) us) in
     let none = counted_none k.slot x us (first_touch a x us vs part cut touch) in
     let along = counted_along a h k.slot front (λ y among. in_front front (x ∷ back) a.ps y parts among) in
     let number = h.order.numbers k (mark_in a.ps x k (in_middle front back a.ps x parts) is) in

@@ -55,10 +55,12 @@ entered_other : (p line q : ℕ) (act : RootAct) → (q ≡ p → ⊥) → filte
 entered_other p line q act other = entered_as p line q act (asked_by act) ∙ rw (ne_eqb q p other) refl
 
 -- the entries on a line, made again of their acts
-entries_again : (line : ℕ) (es : List RootEntry) → map (entry_as line) (map (λ (e : RootEntry). e.act) (on entry_line line es)) ≡ on entry_line line es
+entries_again : (line : ℕ) (es : List RootEntry) →
+    map (entry_as line) (map (λ (e : RootEntry). e.act) (on entry_line line es)) ≡ on entry_line line es
 entries_again line [] = refl
 entries_again line (e ∷ es) = elim (cases_eq e.line line) [
-  | inl here ↦ rw (eq-eqb e.line line here) (same_cons (entry_as line e.act) e _ _ (same_root (entry_as line e.act) e (sym here) refl) (entries_again line es))
+  | inl here ↦ rw (eq-eqb e.line line here)
+      (same_cons (entry_as line e.act) e _ _ (same_root (entry_as line e.act) e (sym here) refl) (entries_again line es))
   | inr other ↦ rw (ne_eqb e.line line other) (entries_again line es)
 ]
 
@@ -71,7 +73,8 @@ module _ (a : Parts) (h : IsFiled a) (line : ℕ) where
   entries = entry_parts a.partitions a.roots line
 
   not_entered : (p q : ℕ) → (q ≡ p → ⊥) → flat_map (λ act. filter_map (part_enters p line) (act_parts q act)) (acts_of a.roots line q) ≡ []
-  not_entered p q other = flat_none (λ act. filter_map (part_enters p line) (act_parts q act)) (acts_of a.roots line q) (λ act among. entered_other p line q act other)
+  not_entered p q other = flat_none (λ act. filter_map (part_enters p line) (act_parts q act)) (acts_of a.roots line q)
+      (λ act among. entered_other p line q act other)
 
   -- what a line's entries put into a journal is what it has on that line
   pub journal_on : (p : ℕ) → filter_map (part_enters p line) entries ≡ on entry_line line (a.roots p)
@@ -87,7 +90,8 @@ module _ (a : Parts) (h : IsFiled a) (line : ℕ) where
         | inr past ↦
             let none = no_acts_past a line p h (omega arith) in
             all ∙ flat_none piece (range_with_len 0 a.partitions) (λ q among. elim (cases_eq q p) [
-              | inl e ↦ ap (λ acts. flat_map (λ act. filter_map (part_enters p line) (act_parts q act)) acts) (ap (acts_of a.roots line) e ∙ none)
+              | inl e ↦ ap (λ acts. flat_map (λ act. filter_map (part_enters p line) (act_parts q act)) acts)
+                  (ap (acts_of a.roots line) e ∙ none)
               | inr other ↦ not_entered p q other
             ]) ∙ sym (no_acts (on entry_line line (a.roots p)) none)
       ]
@@ -103,14 +107,16 @@ module _ (a : Parts) (h : IsFiled a) (line : ℕ) where
   asked_as q act None e = refl
   asked_as q act (Some j) e = absurd cc
 
-  asked_once : (q j : ℕ) (act : RootAct) (o : Option ℕ) → o ≡ Some j → filter_map (part_asks line) (asking_before o (Entering q act ∷ [])) ≡ line ∷ []
+  asked_once : (q j : ℕ) (act : RootAct) (o : Option ℕ) → o ≡ Some j →
+      filter_map (part_asks line) (asking_before o (Entering q act ∷ [])) ≡ line ∷ []
   asked_once q j act None e = absurd cc
   asked_once q j act (Some i) e = refl
 
   pub pool_on : Asks → filter_map (part_asks line) entries ≡ map pool_line (on pool_line line a.pools)
   pool_on (inl none) =
       entries_kept (part_asks line) a.partitions a.roots line
-      ∙ flat_none (λ q. flat_map (λ act. filter_map (part_asks line) (act_parts q act)) (acts_of a.roots line q)) (range_with_len 0 a.partitions)
+      ∙ flat_none (λ q. flat_map (λ act. filter_map (part_asks line) (act_parts q act)) (acts_of a.roots line q))
+      (range_with_len 0 a.partitions)
       (λ q among. flat_none (λ act. filter_map (part_asks line) (act_parts q act)) (acts_of a.roots line q)
       (λ act there. asked_as q act (asked_by act) (none q act there)))
       ∙ sym (ap (map pool_line) (asks_nothing a line h none))
@@ -122,12 +128,14 @@ module _ (a : Parts) (h : IsFiled a) (line : ℕ) where
         | inr past ↦ absurd (let none : act ∷ [] ≡ [] = sym only.0 ∙ no_acts_past a line p h (omega arith) in cc)
       ] in
       entries_kept (part_asks line) a.partitions a.roots line
-      ∙ in_range piece p 0 a.partitions (omega arith) (omega arith) (λ q other. ap (λ acts. flat_map (λ act. filter_map (part_asks line) (act_parts q act)) acts) (only.1 q other))
+      ∙ in_range piece p 0 a.partitions (omega arith) (omega arith)
+      (λ q other. ap (λ acts. flat_map (λ act. filter_map (part_asks line) (act_parts q act)) acts) (only.1 q other))
       ∙ ap (λ acts. flat_map (λ act. filter_map (part_asks line) (act_parts p act)) acts) only.0
       ∙ ap (λ ys. ys ++ []) (asked_once p j act (asked_by act) asks)
       ∙ sym (ap (map pool_line) asked.only ∙ ap (λ n. n ∷ []) asked.line)
 
-  only_in : (p q : ℕ) (acts : List RootAct) (act : RootAct) → OnlyActs a.roots line p acts → Contains (acts_of a.roots line q) act → Contains acts act
+  only_in : (p q : ℕ) (acts : List RootAct) (act : RootAct) → OnlyActs a.roots line p acts → Contains (acts_of a.roots line q) act →
+      Contains acts act
   only_in p q acts act only among = elim (cases_eq q p) [
     | inl e ↦ subst (λ xs. Contains xs act) (ap (acts_of a.roots line) e ∙ only.0) among
     | inr other ↦ absurd (not_in_none act (subst (λ xs. Contains xs act) (only.1 q other) among))
@@ -137,7 +145,8 @@ module _ (a : Parts) (h : IsFiled a) (line : ℕ) where
   quiet_asks none = inl (λ q act among. absurd (not_in_none act (subst (λ xs. Contains xs act) (none q) among)))
 
   only_asks : (p : ℕ) (act : RootAct) (o : Option ℕ) → OnlyActs a.roots line p (act ∷ []) → asked_by act ≡ o → Asks
-  only_asks p act None only asks = inl (λ q other among. ap asked_by (sym (in_one act other (only_in p q (act ∷ []) other only among))) ∙ asks)
+  only_asks p act None only asks =
+      inl (λ q other among. ap asked_by (sym (in_one act other (only_in p q (act ∷ []) other only among))) ∙ asks)
   only_asks p act (Some j) only asks = inr (p, j, act, only, asks)
 
   gives_ask : (p : ℕ) (xs : List Numbered) → OnlyActs a.roots line p (gives xs) → Asks
@@ -151,15 +160,18 @@ module _ (a : Parts) (h : IsFiled a) (x : Played) where
 
   made_asks : (seen : Seen) (cache next : Cache) → MadeRow a.roots x seen cache next → Asks a h x.line
   made_asks seen cache next (inl (p, class, xs, rest, asks, filled, front, becomes)) = filled_asks p class (cache p class) xs filled
-  made_asks seen cache next (inr (p, size, asked, len, asks, only, becomes)) = only_asks a h x.line p (Map asked seen.slot len) (Some asked) only refl
+  made_asks seen cache next (inr (p, size, asked, len, asks, only, becomes)) =
+      only_asks a h x.line p (Map asked seen.slot len) (Some asked) only refl
 
   full_asks : (cache next : Cache) → FullRow a.roots x cache next → Asks a h x.line
-  full_asks cache next (inl (p, class, asked, asks, empty, only, becomes)) = only_asks a h x.line p (Full (Some class) asked) (Some asked) only refl
+  full_asks cache next (inl (p, class, asked, asks, empty, only, becomes)) =
+      only_asks a h x.line p (Full (Some class) asked) (Some asked) only refl
   full_asks cache next (inr (p, size, asked, asks, only, becomes)) = only_asks a h x.line p (Full None asked) (Some asked) only refl
 
   return_asks : (slot : Numbered) (cache next : Cache) → ReturnRow a.roots x slot cache next → Asks a h x.line
   return_asks slot cache next (inl (p, class, of, only, becomes)) = gives_ask a h x.line p (spilled class (slot ∷ cache p class)) only
-  return_asks slot cache next (inr (p, asked, number, direct, only, becomes)) = only_asks a h x.line p (unmap_at asked slot.slot number) (Some asked) only refl
+  return_asks slot cache next (inr (p, asked, number, direct, only, becomes)) =
+      only_asks a h x.line p (unmap_at asked slot.slot number) (Some asked) only refl
 
   done_asks : (o : Option Step) (seen : Seen) (cache next : Cache) → DoneRow a.roots x o seen cache next → Asks a h x.line
   done_asks None seen cache next (none, becomes) = quiet_asks a h x.line none
@@ -200,7 +212,8 @@ module _ (a : Parts) (h : IsFiled a) (x : Played) where
   answer_pool : (answer : Answer) (cache next : Cache) → CacheRow a.partitions a.roots x answer cache next →
       filter_map (part_asks x.line) (here answer) ≡ map pool_line (on pool_line x.line a.pools)
   answer_pool (answers.Made seen usable) cache next row =
-      made_kept (part_asks x.line) (entry_parts a.partitions a.roots x.line) ∙ append-nil _ ∙ pool_on a h x.line (made_asks seen cache next row)
+      made_kept (part_asks x.line) (entry_parts a.partitions a.roots x.line) ∙ append-nil _ ∙
+      pool_on a h x.line (made_asks seen cache next row)
   answer_pool (answers.Done seen) cache next row =
       done_kept (part_asks x.line) _ x.op (entry_parts a.partitions a.roots x.line) (λ word. refl)
       ∙ pool_on a h x.line (done_asks (step_of x.op) seen cache next row)
@@ -223,7 +236,8 @@ module _ (a : Parts) (h : IsFiled a) (x : Played) where
       filter_map (part_swaps k x.line x.op) (here x.answer) ≡ x.line ∷ []
   swapped_parts k reg j op answer =
       let P : Op → Answer → Type 0 = λ o v.
-      filter_map (part_swaps k x.line o) (answer_parts (slot_words (usable_in a.ps) (mark_of x)) o (entry_parts a.partitions a.roots x.line) v) ≡ x.line ∷ [] in
+      filter_map (part_swaps k x.line o)
+      (answer_parts (slot_words (usable_in a.ps) (mark_of x)) o (entry_parts a.partitions a.roots x.line) v) ≡ x.line ∷ [] in
       let there : P (ops.Swap k reg) (answers.Swapped j) = rw (eq-eqb k k refl) refl in
       subst (λ o. P o x.answer) (sym op) (subst (λ v. P (ops.Swap k reg) v) (sym answer) there)
 
@@ -243,7 +257,8 @@ module _ (a : Parts) (h : IsFiled a) (x : Played) where
   record_enters p among =
       let (before, rest, parts) = parts_at a.ps x among in
       let (all, next, to, row) = record_row a before rest x h parts in
-      filter_map_map (λ (m : Moment). part_enters p m.x.line m.part) (moment x) (steps_in a x) ∙ answer_journal p x.answer (all x.thread) next row
+      filter_map_map (λ (m : Moment). part_enters p m.x.line m.part) (moment x) (steps_in a x) ∙
+      answer_journal p x.answer (all x.thread) next row
 
   pub record_asks : Contains a.ps x → asked_lines (moments_at a x) ≡ map pool_line (on pool_line x.line a.pools)
   record_asks among =
@@ -257,14 +272,16 @@ module _ (a : Parts) (h : IsFiled a) where
   pub journals_made : (p : ℕ) → journal_made p (line_by_line a a.ps) ≡ a.roots p
   journals_made p =
       filter_map_flat (λ (m : Moment). part_enters p m.x.line m.part) (moments_at a) a.ps
-      ∙ flat_same (λ x. journal_made p (moments_at a x)) (λ x. on entry_line x.line (a.roots p)) a.ps (λ x among. record_enters a h x p among)
+      ∙ flat_same (λ x. journal_made p (moments_at a x)) (λ x. on entry_line x.line (a.roots p)) a.ps
+      (λ x among. record_enters a h x p among)
       ∙ by_lines (λ (x : Played). x.line) entry_line a.ps (a.roots p) h.rising (h.order.journals p)
       (λ e among. let (x, of) = entries_recorded a p e h among in (x, of.0, of.1))
 
   pub pool_asked : asked_lines (line_by_line a a.ps) ≡ map pool_line a.pools
   pool_asked =
       filter_map_flat (λ (m : Moment). part_asks m.x.line m.part) (moments_at a) a.ps
-      ∙ flat_same (λ x. asked_lines (moments_at a x)) (λ (x : Played). map pool_line (on pool_line x.line a.pools)) a.ps (λ x among. record_asks a h x among)
+      ∙ flat_same (λ x. asked_lines (moments_at a x)) (λ (x : Played). map pool_line (on pool_line x.line a.pools)) a.ps
+      (λ x among. record_asks a h x among)
       ∙ sym (map_flat pool_line (λ (x : Played). on pool_line x.line a.pools) a.ps)
       ∙ ap (map pool_line) (by_lines (λ (x : Played). x.line) pool_line a.ps a.pools h.rising h.order.pool
       (λ e among. let (x, of) = pool_recorded a e h among in (x, of.0, of.1)))
@@ -272,7 +289,8 @@ module _ (a : Parts) (h : IsFiled a) where
   pub cells_swapped : (k : ℕ) → swap_lines k (line_by_line a a.ps) ≡ map cell_line (a.cells k)
   cells_swapped k =
       filter_map_flat (λ (m : Moment). part_swaps k m.x.line m.x.op m.part) (moments_at a) a.ps
-      ∙ flat_same (λ x. swap_lines k (moments_at a x)) (λ (x : Played). map cell_line (on cell_line x.line (a.cells k))) a.ps (λ x among. record_swaps a h x k among)
+      ∙ flat_same (λ x. swap_lines k (moments_at a x)) (λ (x : Played). map cell_line (on cell_line x.line (a.cells k))) a.ps
+      (λ x among. record_swaps a h x k among)
       ∙ sym (map_flat cell_line (λ (x : Played). on cell_line x.line (a.cells k)) a.ps)
       ∙ ap (map cell_line) (by_lines (λ (x : Played). x.line) cell_line a.ps (a.cells k) h.rising (cell_steady a k h)
       (λ e among. let (x, of) = cells_recorded a k e h among in (x, of.0, of.1)))

@@ -54,9 +54,11 @@ content_here s place content x (part ∷ parts) same =
 
 -- the content after one record more is what that record's moments leave of the content before it
 pub content_next : (a : Parts) (s : SlotName) (place : ℕ) (front : List Played) (x : Played) →
-    content_after s place 0 (line_by_line a (front ++ x ∷ [])) ≡ content_after s place (content_after s place 0 (line_by_line a front)) (moments_at a x)
+    content_after s place 0 (line_by_line a (front ++ x ∷ [])) ≡ content_after s place (content_after s place 0 (line_by_line a front))
+    (moments_at a x)
 content_next a s place front x =
-    ap (content_after s place 0) (flat_map-append (moments_at a) front (x ∷ []) ∙ ap (λ ys. line_by_line a front ++ ys) (append-nil (moments_at a x)))
+    ap (content_after s place 0) (flat_map-append (moments_at a) front (x ∷ []) ∙
+    ap (λ ys. line_by_line a front ++ ys) (append-nil (moments_at a x)))
     ∙ content_parted s place 0 (line_by_line a front) (moments_at a x)
 
 -- ---- by the record's answer
@@ -104,7 +106,8 @@ module _ (a : Parts) (place : ℕ) (x : Played) where
   pub quiet_left : IsQuiet x.answer → filter_map (part_leaves place x) (steps_in a x) ≡ []
   quiet_left quiet = quiet_leaves _ x.op x.answer quiet
 
-  pub made_left : (seen : Seen) (usable : ℕ) → x.answer ≡ answers.Made seen usable → filter_map (part_leaves place x) (steps_in a x) ≡ 0 ∷ []
+  pub made_left : (seen : Seen) (usable : ℕ) → x.answer ≡ answers.Made seen usable →
+      filter_map (part_leaves place x) (steps_in a x) ≡ 0 ∷ []
   made_left seen usable is =
       let zero : part_leaves place x Counting ≡ Some 0 = ap (value_left x.op) is in
       ap (left_by_answer _ x.op) is ∙ made_kept (part_leaves place x) (entry_parts a.partitions a.roots x.line)
@@ -114,7 +117,8 @@ module _ (a : Parts) (place : ℕ) (x : Played) where
   done_left : (words : ℕ) (op : Op) (seen : Seen) (o : Option ℕ) → ((reg : ℕ) → op ≡ ops.Free reg → ⊥) → part_leaves place x Counting ≡ o →
       left_by_answer words op (answers.Done seen) ≡ cons_option o []
   done_left words (ops.Free reg) seen o other is = absurd (other reg refl)
-  done_left words op seen o other is = ap (λ v. cons_option v (filter_map (part_leaves place x) (entry_parts a.partitions a.roots x.line))) is ∙ ap (cons_option o) none_left
+  done_left words op seen o other is =
+      ap (λ v. cons_option v (filter_map (part_leaves place x) (entry_parts a.partitions a.roots x.line))) is ∙ ap (cons_option o) none_left
 
   abbrev pub Leaves : List ℕ → Type 0
   Leaves values = filter_map (part_leaves place x) (steps_in a x) ≡ values
@@ -131,7 +135,8 @@ module _ (a : Parts) (place : ℕ) (x : Played) where
 
   pub written_left : (reg value : ℕ) (seen : Seen) → x.op ≡ ops.Write reg value → x.answer ≡ answers.Done seen → Leaves (value ∷ [])
   written_left reg value seen op is =
-      ap (left_by_answer _ x.op) is ∙ done_left _ x.op seen (Some value) (λ r e. (let both : ops.Write reg value ≡ ops.Free r = sym op ∙ e in cc))
+      ap (left_by_answer _ x.op) is ∙
+      done_left _ x.op seen (Some value) (λ r e. (let both : ops.Write reg value ≡ ops.Free r = sym op ∙ e in cc))
       (ap (λ o. value_left o x.answer) op ∙ ap (value_left (ops.Write reg value)) is)
 
   -- poison of all words, of which this is one
@@ -147,7 +152,8 @@ module _ (a : Parts) (place : ℕ) (x : Played) where
   freed_parts words reg seen inside op is =
       let none : part_leaves place x Counting ≡ None = ap (λ o. value_left o x.answer) op ∙ ap (value_left (ops.Free reg)) is in
       free_kept (part_leaves place x) words reg (entry_parts a.partitions a.roots x.line)
-      ∙ ap (λ ys. ys ++ cons_option (part_leaves place x Counting) (filter_map (part_leaves place x) (entry_parts a.partitions a.roots x.line))) (spoiled words inside)
+      ∙ ap (λ ys. ys ++ cons_option (part_leaves place x Counting)
+      (filter_map (part_leaves place x) (entry_parts a.partitions a.roots x.line))) (spoiled words inside)
       ∙ ap (λ o. poison ∷ cons_option o (filter_map (part_leaves place x) (entry_parts a.partitions a.roots x.line))) none
       ∙ ap (λ ys. poison ∷ ys) none_left
 

@@ -57,15 +57,19 @@ module _ (facts : Facts) (regs next : Regs) (place : ℕ) (seen : Seen) (v : ℕ
       } in
       subst (λ o. IsReadOf facts r place o bit) (sym same) there
 
-  value_from : (r : Reg) (s : SlotName) → slot_in r ≡ Some s → ReadFromRow s facts regs place (answers.Value seen v) next → IsReadOf facts r place seen 1
+  value_from : (r : Reg) (s : SlotName) → slot_in r ≡ Some s → ReadFromRow s facts regs place (answers.Value seen v) next →
+      IsReadOf facts r place seen 1
   value_from r s names (becomes, inl (past, is)) = absurd cc
-  value_from r s names (becomes, inr (inside, other, value, slot, inl (held, is))) = read_of r s other 1 names slot inside held (let same : seen ≡ other = cc in same)
+  value_from r s names (becomes, inr (inside, other, value, slot, inl (held, is))) =
+      read_of r s other 1 names slot inside held (let same : seen ≡ other = cc in same)
   value_from r s names (becomes, inr (inside, other, value, slot, inr (freed, is))) = absurd cc
 
-  dangling_from : (r : Reg) (s : SlotName) → slot_in r ≡ Some s → ReadFromRow s facts regs place (answers.Dangling seen v) next → IsReadOf facts r place seen 0
+  dangling_from : (r : Reg) (s : SlotName) → slot_in r ≡ Some s → ReadFromRow s facts regs place (answers.Dangling seen v) next →
+      IsReadOf facts r place seen 0
   dangling_from r s names (becomes, inl (past, is)) = absurd cc
   dangling_from r s names (becomes, inr (inside, other, value, slot, inl (held, is))) = absurd cc
-  dangling_from r s names (becomes, inr (inside, other, value, slot, inr (freed, is))) = read_of r s other 0 names slot inside freed (let same : seen ≡ other = cc in same)
+  dangling_from r s names (becomes, inr (inside, other, value, slot, inr (freed, is))) =
+      read_of r s other 0 names slot inside freed (let same : seen ≡ other = cc in same)
 
   pub value_row : (r : Reg) → ReadRow r facts regs place (answers.Value seen v) next → IsReadOf facts r place seen 1
   value_row Empty row = absurd (let e = row.0 in cc)
@@ -90,7 +94,8 @@ whole_words a s h made =
     elim (made_class a q seen (usable_in a.ps s) h among answer) [
       | inl (p, c, (reg, size, op, class), of) ↦
           let usable = alloc_usable a h q seen (usable_in a.ps s) reg p size among answer op in
-          let fits = subst (λ (k : Rules). slot_size_for k.version size ≡ slot_of c) (h.ruled q among) (sizes_fit.class q.rules.version size c class) in
+          let fits = subst (λ (k : Rules). slot_size_for k.version size ≡ slot_of c) (h.ruled q among)
+          (sizes_fit.class q.rules.version size c class) in
           let row = IsRow-of c (real_in q.rules.version c (class.from, class.real)) in
           let sixteens = row.sixteens in
           let least = row.least_slot in
@@ -98,7 +103,8 @@ whole_words a s h made =
           omega arith
       | inr (p, size, (reg, op, direct), of) ↦
           let usable = alloc_usable a h q seen (usable_in a.ps s) reg p size among answer op in
-          let fits = subst (λ (k : Rules). slot_size_for k.version size ≡ (shape_of size).slot) (h.ruled q among) (sizes_fit.direct q.rules.version size direct) in
+          let fits = subst (λ (k : Rules). slot_size_for k.version size ≡ (shape_of size).slot) (h.ruled q among)
+          (sizes_fit.direct q.rules.version size direct) in
           let serves = Serves-of size (direct_in q.rules.version size direct) in
           let pages = serves.system_pages in
           let large = (direct_in q.rules.version size direct).0 in
@@ -126,9 +132,11 @@ look_leaves s place content x = by_slot (is_of_slot s (mark_of x))
     by_slot true = refl
     by_slot false = refl
 
-module _ (a : Parts) (h : IsFiled a) (front back : List Played) (x : Played) (parts : a.ps ≡ front ++ x ∷ back) (reg place : ℕ) (op : x.op ≡ ops.Read reg place) (seen : Seen) (v : ℕ) where
+module _ (a : Parts) (h : IsFiled a) (front back : List Played) (x : Played) (parts : a.ps ≡ front ++ x ∷ back) (reg place : ℕ)
+    (op : x.op ≡ ops.Read reg place) (seen : Seen) (v : ℕ) where
   abbrev Read : Answer → Type 0
-  Read answer = (r : Reg) × (next : Regs) × (regs : Regs) × (slot_in r ≡ Some seen.slot → IsMadeIn front seen.slot) × ReadRow r (facts_of a) regs place answer next
+  Read answer = (r : Reg) × (next : Regs) × (regs : Regs) × (slot_in r ≡ Some seen.slot → IsMadeIn front seen.slot) ×
+      ReadRow r (facts_of a) regs place answer next
 
   read_row : Read x.answer
   read_row =
@@ -179,20 +187,27 @@ pub load_found : (a : Parts) (front back : List Played) (x : Played) (us vs : Li
 load_found a front back x us vs seen place value h parts cut gives = by_op x.op refl gives
   where
     only_looked : (answer : Answer) → x.answer ≡ answer →
-        answer_parts (slot_words (usable_in a.ps) (mark_of x)) x.op (entry_parts a.partitions a.roots x.line) answer ≡ Looking ∷ Loading ∷ [] →
+        answer_parts (slot_words (usable_in a.ps) (mark_of x)) x.op
+        (entry_parts a.partitions a.roots x.line) answer ≡ Looking ∷ Loading ∷ [] →
         us ≡ Looking ∷ []
     only_looked answer is parts_are =
-        looked_first us vs (sym (ap (λ v. answer_parts (slot_words (usable_in a.ps) (mark_of x)) x.op (entry_parts a.partitions a.roots x.line) v) is ∙ parts_are) ∙ cut)
+        looked_first us vs (sym (ap
+        (λ v. answer_parts (slot_words (usable_in a.ps) (mark_of x)) x.op (entry_parts a.partitions a.roots x.line) v) is ∙ parts_are) ∙
+        cut)
 
-    after_look : us ≡ Looking ∷ [] → content_at a seen.slot place front ≡ content_after seen.slot place 0 (line_by_line a front ++ map (moment x) us)
+    after_look : us ≡ Looking ∷ [] →
+        content_at a seen.slot place front ≡ content_after seen.slot place 0 (line_by_line a front ++ map (moment x) us)
     after_look looked =
         sym (content_parted seen.slot place 0 (line_by_line a front) (map (moment x) us)
         ∙ ap (λ ps. content_after seen.slot place (content_at a seen.slot place front) (map (moment x) ps)) looked
         ∙ look_leaves seen.slot place (content_at a seen.slot place front) x)
 
-    by_op : (op : Op) → x.op ≡ op → GivesAt op x.answer seen place value → value ≡ content_after seen.slot place 0 (line_by_line a front ++ map (moment x) us)
+    by_op : (op : Op) → x.op ≡ op → GivesAt op x.answer seen place value →
+        value ≡ content_after seen.slot place 0 (line_by_line a front ++ map (moment x) us)
     by_op (ops.Read reg word) op (same, inl is) =
-        value_read a h front back x parts reg place (op ∙ ap {B = Op} (λ n. ops.Read reg n) same) seen value is ∙ after_look (only_looked (answers.Value seen value) is refl)
+        value_read a h front back x parts reg place (op ∙ ap {B = Op} (λ n. ops.Read reg n) same) seen value is ∙
+        after_look (only_looked (answers.Value seen value) is refl)
     by_op (ops.Read reg word) op (same, inr is) =
-        dangling_read a h front back x parts reg place (op ∙ ap {B = Op} (λ n. ops.Read reg n) same) seen value is ∙ after_look (only_looked (answers.Dangling seen value) is refl)
+        dangling_read a h front back x parts reg place (op ∙ ap {B = Op} (λ n. ops.Read reg n) same) seen value is ∙
+        after_look (only_looked (answers.Dangling seen value) is refl)
     by_op op same gives = absurd gives

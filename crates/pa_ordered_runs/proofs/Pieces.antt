@@ -26,7 +26,8 @@ pub record IsCutAt {X A : Type 0} (f : X → List A) (xs : List X) (before : Lis
   pub piece : f x ≡ us ++ y ∷ vs
   pub left : before ≡ flat_map f front ++ us
 
-pub cut_at : {X A : Type 0} (f : X → List A) (xs : List X) (before after : List A) (y : A) → flat_map f xs ≡ before ++ y ∷ after → IsCutAt f xs before y
+pub cut_at : {X A : Type 0} (f : X → List A) (xs : List X) (before after : List A) (y : A) → flat_map f xs ≡ before ++ y ∷ after →
+    IsCutAt f xs before y
 cut_at f [] [] after y e = absurd cc
 cut_at f [] (b ∷ before) after y e = absurd cc
 cut_at f (x ∷ xs) before after y e = elim (append_cut (f x) (flat_map f xs) before after y e) [
@@ -49,13 +50,15 @@ cut_at f (x ∷ xs) before after y e = elim (append_cut (f x) (flat_map f xs) be
 
 pub flat_same : {X A : Type 0} (f g : X → List A) (xs : List X) → ((x : X) → Contains xs x → f x ≡ g x) → flat_map f xs ≡ flat_map g xs
 flat_same f g [] h = refl
-flat_same f g (x ∷ xs) h = ap (λ ys. ys ++ flat_map f xs) (h x (first_in x xs)) ∙ ap (λ ys. g x ++ ys) (flat_same f g xs (λ y among. h y (later_in x y xs among)))
+flat_same f g (x ∷ xs) h = ap (λ ys. ys ++ flat_map f xs) (h x (first_in x xs)) ∙
+    ap (λ ys. g x ++ ys) (flat_same f g xs (λ y among. h y (later_in x y xs among)))
 
 pub flat_none : {X A : Type 0} (f : X → List A) (xs : List X) → ((x : X) → Contains xs x → f x ≡ []) → flat_map f xs ≡ []
 flat_none f [] h = refl
 flat_none f (x ∷ xs) h = ap (λ ys. ys ++ flat_map f xs) (h x (first_in x xs)) ∙ flat_none f xs (λ y among. h y (later_in x y xs among))
 
-pub filter_map_flat : {X A B : Type 0} (h : A → Option B) (f : X → List A) (xs : List X) → filter_map h (flat_map f xs) ≡ flat_map (λ x. filter_map h (f x)) xs
+pub filter_map_flat : {X A B : Type 0} (h : A → Option B) (f : X → List A) (xs : List X) →
+    filter_map h (flat_map f xs) ≡ flat_map (λ x. filter_map h (f x)) xs
 filter_map_flat h f [] = refl
 filter_map_flat h f (x ∷ xs) = filter_map-append h (f x) (flat_map f xs) ∙ ap (λ ys. filter_map h (f x) ++ ys) (filter_map_flat h f xs)
 
@@ -98,7 +101,8 @@ from_next f n m (x ∷ xs) up gap h =
             | inl here ↦ rw (le-leb n (f x) (omega arith), eq-eqb (f x) m here, lt-leb (m + 1) (f x) (omega arith)) (ap (λ ys. x ∷ ys) ih)
             | inr past ↦
                 let none : on f m xs ≡ [] = on_none f m xs (λ y among e. let more = rising_head f x y xs h among in omega arith) in
-                rw (le-leb n (f x) (omega arith), ne_eqb (f x) m past, le-leb (m + 1) (f x) (omega arith), none) (ap (λ ys. x ∷ ys) (ih ∙ ap (λ ys. ys ++ from f (m + 1) xs) none))
+                rw (le-leb n (f x) (omega arith), ne_eqb (f x) m past, le-leb (m + 1) (f x) (omega arith), none)
+                (ap (λ ys. x ∷ ys) (ih ∙ ap (λ ys. ys ++ from f (m + 1) xs) none))
           ]
     ]
 
@@ -112,7 +116,8 @@ along line f n [] es rising low h of = sym (filter_none (λ e. nat_le n (f e)) e
 ]))
 along line f n (x ∷ xs) es rising low h of =
     let later : (y : _) → Contains xs y → line x < line y = λ y among. pairs_head (λ u v. line u < line v) x y xs rising among in
-    let ih = along line f (line x + 1) xs es (pairs_tail (λ u v. line u < line v) x xs rising) (λ y among. let up = later y among in omega arith) h
+    let ih = along line f (line x + 1) xs es (pairs_tail (λ u v. line u < line v) x xs rising)
+    (λ y among. let up = later y among in omega arith) h
     (λ e among up. let (y, there, same) = of e among (let first = low x (first_in x xs) in omega arith) in elim (in_cases x y xs there) [
       | inl one ↦ let here : line x ≡ line y = ap line one in absurd (omega arith)
       | inr rest ↦ (y, rest, same)
@@ -124,7 +129,9 @@ along line f n (x ∷ xs) es rising low h of =
       | inr rest ↦ let up' = later y rest in omega arith
     ]) h)
 
-pub by_lines : {X A : Type 0} (line : X → ℕ) (f : A → ℕ) (ps : List X) (es : List A) → AllPairs (λ (x y : X). line x < line y) ps → IsNonDecreasingBy f es →
+pub by_lines : {X A : Type 0} (line : X → ℕ) (f : A → ℕ) (ps : List X) (es : List A) → AllPairs (λ (x y : X). line x < line y) ps →
+    IsNonDecreasingBy f es →
     ((e : A) → Contains es e → (x : X) × Contains ps x × (line x ≡ f e)) → flat_map (λ x. on f (line x) es) ps ≡ es
 by_lines line f ps es rising h of =
-    along line f 0 ps es rising (λ x among. omega arith) h (λ e among up. of e among) ∙ filter_all (λ e. nat_le 0 (f e)) es (λ e among. le-leb 0 (f e) (omega arith))
+    along line f 0 ps es rising (λ x among. omega arith) h (λ e among up. of e among) ∙
+    filter_all (λ e. nat_le 0 (f e)) es (λ e among. le-leb 0 (f e) (omega arith))

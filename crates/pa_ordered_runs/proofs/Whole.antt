@@ -63,8 +63,10 @@ module _ (a : Parts) (h : IsFiled a) where
   whole x among =
       let (front, back, parts) = parts_at a.ps x among in
       let rising = subst (AllPairs Earlier) parts h.rising in
-      let before = none_of a x.line front (λ y there same. let less = pairs_across Earlier front (x ∷ back) y x rising there (first_in x back) in omega arith) in
-      let after = none_of a x.line back (λ y there same. let less = pairs_head Earlier x y back (pairs_after Earlier front (x ∷ back) rising) there in omega arith) in
+      let before = none_of a x.line front (λ y there same. let less =
+      pairs_across Earlier front (x ∷ back) y x rising there (first_in x back) in omega arith) in
+      let after = none_of a x.line back (λ y there same. let less =
+      pairs_head Earlier x y back (pairs_after Earlier front (x ∷ back) rising) there in omega arith) in
       ap (λ ps. parts_in x.line (line_by_line a ps)) parts
       ∙ ap (parts_in x.line) (flat_map-append (moments_at a) front (x ∷ back))
       ∙ parts_append x.line (line_by_line a front) (moments_at a x ++ line_by_line a back)
@@ -107,13 +109,15 @@ module _ (a : Parts) (h : IsFiled a) where
       } in
       subst (IsAt before) is here
 
-  found : (before after : List Moment) (m : Moment) (k : Mark) → line_by_line a a.ps ≡ before ++ m ∷ after → IsTouch m.part → mark_of m.x ≡ Some k →
+  found : (before after : List Moment) (m : Moment) (k : Mark) → line_by_line a a.ps ≡ before ++ m ∷ after → IsTouch m.part →
+      mark_of m.x ≡ Some k →
       number_of k.found ≡ counted_steps k.slot before
   found before after m k cut touch is =
       let c = at before after m cut in
       touch_found a c.front c.back m.x c.us c.vs m.part k h c.whole c.piece touch is ∙ ap (counted_steps k.slot) (sym c.left)
 
-  reads : (before after : List Moment) (m : Moment) (seen : Seen) (place value : ℕ) → line_by_line a a.ps ≡ before ++ m ∷ after → m.part ≡ Loading →
+  reads : (before after : List Moment) (m : Moment) (seen : Seen) (place value : ℕ) → line_by_line a a.ps ≡ before ++ m ∷ after →
+      m.part ≡ Loading →
       GivesAt m.x.op m.x.answer seen place value → value ≡ content_after seen.slot place 0 before
   reads before after m seen place value cut loads gives =
       let c = at before after m cut in
@@ -124,7 +128,8 @@ module _ (a : Parts) (h : IsFiled a) where
 
   in_order : AllPairs (λ (x y : Played). (x.line < y.line) × (x.phase ≤ y.phase)) a.ps →
       AllPairs (λ (m n : Moment). StandsBefore n.x m.x → ⊥) (line_by_line a a.ps)
-  in_order rising = pairs_flat (λ (x y : Played). (x.line < y.line) × (x.phase ≤ y.phase)) (λ (m n : Moment). StandsBefore n.x m.x → ⊥) (moments_at a) a.ps rising
+  in_order rising = pairs_flat (λ (x y : Played). (x.line < y.line) × (x.phase ≤ y.phase)) (λ (m n : Moment). StandsBefore n.x m.x → ⊥)
+      (moments_at a) a.ps rising
       (λ x among. own x (steps_in a x))
       (λ x y m n first second up here there.
       let (part, in_x, is) = map_cases (moment x) (steps_in a x) m here in
@@ -138,7 +143,8 @@ module _ (a : Parts) (h : IsFiled a) where
       own : (x : Played) (parts : List Part) → AllPairs (λ (m n : Moment). StandsBefore n.x m.x → ⊥) (map (moment x) parts)
       own x [] = pairs_none (λ (m n : Moment). StandsBefore n.x m.x → ⊥)
       own x (part ∷ parts) = pairs_cons (λ (m n : Moment). StandsBefore n.x m.x → ⊥) (moment x part) (map (moment x) parts)
-          (λ m among. let (other, there, is) = map_cases (moment x) parts m among in subst (λ (u : Moment). StandsBefore u.x x → ⊥) is (not_itself x))
+          (λ m among. let (other, there, is) = map_cases (moment x) parts m among in
+          subst (λ (u : Moment). StandsBefore u.x x → ⊥) is (not_itself x))
           (own x parts)
 
       later : (x y : Played) → (x.line < y.line) × (x.phase ≤ y.phase) → StandsBefore y x → ⊥
@@ -162,9 +168,11 @@ rises (x ∷ ps) h phases =
     ))
     (rises ps (pairs_tail Earlier x ps h) (λ y z first second. phases y z (later_in x y ps first) (later_in x z ps second)))
 
-phases_rise : (rules : Rules) (ls : List Line) (ps : List Played) → AreLines rules ls ps → (x y : Played) → Contains ps x → Contains ps y → y.phase < x.phase → y.line < x.line
+phases_rise : (rules : Rules) (ls : List Line) (ps : List Played) → AreLines rules ls ps → (x y : Played) → Contains ps x → Contains ps y →
+    y.phase < x.phase → y.line < x.line
 phases_rise rules ls ps lines x y first second less =
-    let there : (z : Played) → Contains ps z → Contains (op_lines rules 2 1 ls) (op_line_of z) = λ z among. subst (λ os. Contains os (op_line_of z)) lines (map_in op_line_of ps z among) in
+    let there : (z : Played) → Contains ps z → Contains (op_lines rules 2 1 ls) (op_line_of z) =
+    λ z among. subst (λ os. Contains os (op_line_of z)) lines (map_in op_line_of ps z among) in
     lines_phases rules 2 1 ls (op_line_of y) (op_line_of x) (there y second) (there x first) less
 
 -- ---- the law

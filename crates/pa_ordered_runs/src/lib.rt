@@ -1,5 +1,5 @@
-//! Each run in the order of its lines has a timeline: an order of all steps in which it could have been played. A law alone; nothing
-//! here runs.
+//! Each run in the order of its lines has a timeline: an order of all steps in which it could have been played.
+//! A law alone; nothing here runs.
 #![tactic(auto)]
 
 mod laws;

@@ -67,7 +67,8 @@ front_length s h below =
     omega arith
 
 -- the number that was taken is one of the class's
-pub served_number : (s u t : Span) (n : ℕ) → u ≡ with_free s → u.free ≡ n ∷ t.free → t ≡ without_front t.free u → IsCounted s → s.allocated < slots_of s.class → n < slots_of t.class
+pub served_number : (s u t : Span) (n : ℕ) → u ≡ with_free s → u.free ≡ n ∷ t.free → t ≡ without_front t.free u → IsCounted s →
+    s.allocated < slots_of s.class → n < slots_of t.class
 served_number s u t n e front after h below =
     let counted : IsCounted u = subst IsCounted (sym e) (with_free_front s h below).counted in
     let low = counted.numbers n (subst (λ xs. Contains xs n) (sym front) (first_in n t.free)) in

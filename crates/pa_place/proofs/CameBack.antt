@@ -99,7 +99,8 @@ provisioned_is v xs from pages slots made is low none more all most =
     let back = none_back xs from v.provisioned (sym is ∙ none) in
     let kept = none_kept xs from v.provisioned low (sym is ∙ none) in
     let free : xs ++ numbers from (slots - from) ≡ numbers v.provisioned (more_slots v - v.provisioned) =
-    ap (λ ys. ys ++ numbers from (slots - from)) back ∙ ap (λ n. numbers n (slots - n)) kept ∙ ap (λ n. numbers v.provisioned (n - v.provisioned)) all in
+    ap (λ ys. ys ++ numbers from (slots - from)) back ∙ ap (λ n. numbers n (slots - n)) kept ∙
+    ap (λ n. numbers v.provisioned (n - v.provisioned)) all in
     let made' : made ≡ max v.made (more_slots v) = most ∙ ap (max v.made) all in
     ap (λ n. record v { committed = n; provisioned = slots; made = made; free = xs ++ numbers from (slots - from) }) more
     ∙ ap (λ n. record v { committed = more_pages v; provisioned = n; made = made; free = xs ++ numbers from (slots - from) }) all

@@ -19,14 +19,16 @@ cut_more class k r next made t e =
     let first = cut_in (span_for class r) in
     ap (λ z. made ++ and_cut z first (takes_cut class k)) e ∙ sym (append_assoc made first (takes_cut class k next))
 
-pub cut_none : (class k : ℕ) (r next : Root) (made : List Made) → one_take class r ≡ took_with next None → made ++ takes_cut class (suc k) r ≡ made
+pub cut_none : (class k : ℕ) (r next : Root) (made : List Made) → one_take class r ≡ took_with next None → made ++
+    takes_cut class (suc k) r ≡ made
 cut_none class k r next made e = ap (λ z. made ++ and_cut z (cut_in (span_for class r)) (takes_cut class k)) e ∙ append-nil made
 
 -- a span from which a slot was taken, by the list that it is left with
 pub served_after : (s u : Span) (title : Title) → IsServed s u title → u ≡ without_front u.free (with_free s)
 served_after s u title served = served.after ∙ ap (λ xs. without_front xs (with_free s)) (sym (ap (λ (z : Span). z.free) served.after))
 
-pub served_most : (s u : Span) (title : Title) → IsCounted s → s.allocated < slots_of s.class → IsServed s u title → u.made ≤ slots_of u.class
+pub served_most : (s u : Span) (title : Title) → IsCounted s → s.allocated < slots_of s.class → IsServed s u title →
+    u.made ≤ slots_of u.class
 served_most s u title counted left served =
     let k = (with_free_front s counted left).counted.most in
     let made = ap (λ (z : Span). z.made) served.after in

@@ -38,7 +38,8 @@ pub in_class : (a : State) (class : ℕ) (v : Span) → is_of class a v ≡ true
 in_class a class v h = (and_parts _ _ h).0
 
 -- how many are of a class stays
-class_stays : (ss : List Span) (i class : ℕ) (s t : Span) → slice_get ss i ≡ Some s → t.class ≡ s.class → count_by (is_class class) (set ss i t) ≡ count_by (is_class class) ss
+class_stays : (ss : List Span) (i class : ℕ) (s t : Span) → slice_get ss i ≡ Some s → t.class ≡ s.class →
+    count_by (is_class class) (set ss i t) ≡ count_by (is_class class) ss
 class_stays ss i class s t e same =
     let a = count_set (is_class class) ss i s t e in
     let b : one_if (is_class class t) ≡ one_if (is_class class s) = ap (λ n. one_if (eqb n class)) same in
@@ -55,7 +56,8 @@ pub all_alike : (a : State) (ss : List Span) (i : ℕ) (s t : Span) (lists : Lis
     AreListed a (set ss i t) lists
 all_alike a ss i s t lists e class same turn h = record {
   classes = h.classes;
-  listing = λ c list f. alike (is_of c a) ss list.items i s t e (ap (λ n. is_of_with c a n t.state) class ∙ ap (λ b. is_of_with c a s.class b) same) turn (h.listing c list f);
+  listing = λ c list f. alike (is_of c a) ss list.items i s t e
+      (ap (λ n. is_of_with c a n t.state) class ∙ ap (λ b. is_of_with c a s.class b) same) turn (h.listing c list f);
   room = λ c list f. let p = h.room c list f in let q = class_stays ss i c s t e class in omega arith;
 }
   where
@@ -83,7 +85,8 @@ pub record IsChange (a : State) (ss : List Span) (i : ℕ) (s t : Span) (was is 
 pub in_one : (a : State) (class : ℕ) (v : Span) → is_of class a v ≡ true → is_in a v ≡ true
 in_one a class v h = (and_parts _ _ h).1
 
-pub all_refiled : (a : State) (ss : List Span) (i : ℕ) (s t : Span) (was is : Bool) (lists after : List (Vec ℕ Global)) → IsChange a ss i s t was is → IsRefiledAt s.class was is i lists after →
+pub all_refiled : (a : State) (ss : List Span) (i : ℕ) (s t : Span) (was is : Bool) (lists after : List (Vec ℕ Global)) →
+    IsChange a ss i s t was is → IsRefiledAt s.class was is i lists after →
     AreListed a ss lists → AreListed a (set ss i t) after
 all_refiled a ss i s t was is lists after c (list, next, there, done, e) h =
     subst (λ xs. AreListed a (set ss i t) xs) (sym e)
@@ -100,7 +103,8 @@ all_refiled a ss i s t was is lists after c (list, next, there, done, e) h =
         | inr other ↦
             let far : eqb s.class class ≡ false = not_class s.class class other.0 in
             let far' : eqb t.class class ≡ false = ap (λ n. eqb n class) c.class ∙ far in
-            stands (is_of class a) ss ids.items i s t c.there (other_class a s class far) (other_class a t class far') (h.listing class ids other.1)
+            stands (is_of class a) ss ids.items i s t c.there (other_class a s class far) (other_class a t class far')
+            (h.listing class ids other.1)
       ];
       room = λ class ids f.
           let q = class_stays ss i class s t c.there c.class in
@@ -129,7 +133,8 @@ can_refile_at a ss i s was is lists e was_in h = λ list f. record {
   room = λ not_in now.
       let m = (h.listing s.class list f).many in
       let p = h.room s.class list f in
-      let less = counts_less (is_of s.class a) (is_class s.class) ss i s (in_class a s.class) e (of_class a s s.class refl ∙ sym was_in ∙ not_in) (eq-eqb s.class s.class refl) in
+      let less = counts_less (is_of s.class a) (is_class s.class) ss i s (in_class a s.class) e
+      (of_class a s s.class refl ∙ sym was_in ∙ not_in) (eq-eqb s.class s.class refl) in
       omega arith;
 }
 
@@ -143,7 +148,8 @@ can_file ss i s to lists e few h = record {
     room = λ not_in now. let p = few (same_state-true to state.Empty now) in let q = h.empty.many in let k = h.ring in omega arith;
   };
   active = can_refile_at state.Active ss i s (is_in state.Active s) (same_state to state.Active) lists.active.items e refl h.active;
-  decommitted = can_refile_at state.Decommitted ss i s (is_in state.Decommitted s) (same_state to state.Decommitted) lists.decommitted.items e refl h.decommitted;
+  decommitted = can_refile_at state.Decommitted ss i s (is_in state.Decommitted s)
+      (same_state to state.Decommitted) lists.decommitted.items e refl h.decommitted;
 }
 
 -- a span that stays in its state keeps its turn, and another has the next
@@ -156,7 +162,8 @@ moves_to to turn s other = rw other refl
 class_of_in : (to : State) (turn : ℕ) (s : Span) → (in_state to turn s).class ≡ s.class
 class_of_in to turn s = elim (cases_Bool (same_state s.state to)) [ inl same ↦ rw same refl | inr other ↦ rw other refl ]
 
-in_change : (a : State) (ss : List Span) (i : ℕ) (s : Span) (to : State) (turn : ℕ) → same_state a state.None ≡ false → slice_get ss i ≡ Some s → HaveTurns ss turn →
+in_change : (a : State) (ss : List Span) (i : ℕ) (s : Span) (to : State) (turn : ℕ) → same_state a state.None ≡ false →
+    slice_get ss i ≡ Some s → HaveTurns ss turn →
     IsChange a ss i s (in_state to turn s) (same_state s.state a) (same_state to a)
 in_change a ss i s to turn used e turns = record {
   there = e;
@@ -184,7 +191,8 @@ filed_anew ss i s to turn lists after e turns done h =
     let c = in_change state.Empty ss i s to turn refl e turns in
     record {
       empty = subst (λ xs. IsListing (is_in state.Empty) (set ss i t) xs) (sym done.empty.items)
-          (refiled_by (is_in state.Empty) ss lists.empty.items i s t (same_state s.state state.Empty) (same_state to state.Empty) e c.was_in c.is_now c.same c.last h.empty);
+          (refiled_by (is_in state.Empty) ss lists.empty.items i s t (same_state s.state state.Empty)
+          (same_state to state.Empty) e c.was_in c.is_now c.same c.last h.empty);
       ring = let p = h.ring in let q = done.empty.room in omega arith;
       active = all_refiled state.Active ss i s t (same_state s.state state.Active) (same_state to state.Active) lists.active.items
           after.active.items (in_change state.Active ss i s to turn refl e turns) done.active h.active;
@@ -194,7 +202,8 @@ filed_anew ss i s to turn lists after e turns done h =
     }
 
 -- refiling a span leaves room for as many spans as before in the list of each class
-room_refiled : (class n m : ℕ) (was is : Bool) (i : ℕ) (lists after : List (Vec ℕ Global)) → IsRefiledAt class was is i lists after → HasListRoom m n lists → HasListRoom m n after
+room_refiled : (class n m : ℕ) (was is : Bool) (i : ℕ) (lists after : List (Vec ℕ Global)) → IsRefiledAt class was is i lists after →
+    HasListRoom m n lists → HasListRoom m n after
 room_refiled class n m was is i lists after (list, next, there, done, e) h = λ ids f.
     elim (set_parts lists class m list next ids there (ap (λ xs. slice_get xs m) (sym e) ∙ f)) [
       | inl here ↦
@@ -205,20 +214,25 @@ room_refiled class n m was is i lists after (list, next, there, done, e) h = λ 
       | inr other ↦ h ids other.1
     ]
 
-pub room_anew : (class n m : ℕ) (was to : State) (i : ℕ) (lists after : Lists) → IsFiledAnew class was to i lists after → HasRoomToList m n lists → HasRoomToList m n after
+pub room_anew : (class n m : ℕ) (was to : State) (i : ℕ) (lists after : Lists) → IsFiledAnew class was to i lists after →
+    HasRoomToList m n lists → HasRoomToList m n after
 room_anew class n m was to i lists after done h = record {
-  active = room_refiled class n m (same_state was state.Active) (same_state to state.Active) i lists.active.items after.active.items done.active h.active;
-  decommitted = room_refiled class n m (same_state was state.Decommitted) (same_state to state.Decommitted) i lists.decommitted.items after.decommitted.items done.decommitted h.decommitted;
+  active = room_refiled class n m (same_state was state.Active)
+      (same_state to state.Active) i lists.active.items after.active.items done.active h.active;
+  decommitted = room_refiled class n m (same_state was state.Decommitted)
+      (same_state to state.Decommitted) i lists.decommitted.items after.decommitted.items done.decommitted h.decommitted;
 }
 
 -- a list with more room
-pub all_reserved : (a : State) (ss : List Span) (class : ℕ) (list next : Vec ℕ Global) (lists : List (Vec ℕ Global)) → slice_get lists class ≡ Some list → next.items ≡ list.items →
+pub all_reserved : (a : State) (ss : List Span) (class : ℕ) (list next : Vec ℕ Global) (lists : List (Vec ℕ Global)) →
+    slice_get lists class ≡ Some list → next.items ≡ list.items →
     vec_capacity list ≤ vec_capacity next → AreListed a ss lists → AreListed a ss (set lists class next)
 all_reserved a ss class list next lists there same more h = record {
   classes = set_length lists class next ∙ h.classes;
   listing = λ c ids f. elim (set_parts lists class c list next ids there f) [
     | inl here ↦
-        subst (λ xs. IsListing (is_of c a) ss xs) (sym (ap (λ (z : Vec ℕ Global). z.items) here.1 ∙ same)) (h.listing c list (ap (slice_get lists) here.0 ∙ there))
+        subst (λ xs. IsListing (is_of c a) ss xs) (sym (ap (λ (z : Vec ℕ Global). z.items) here.1 ∙ same))
+        (h.listing c list (ap (slice_get lists) here.0 ∙ there))
     | inr other ↦ h.listing c ids other.1
   ];
   room = λ c ids f. elim (set_parts lists class c list next ids there f) [
@@ -239,7 +253,8 @@ room_reserved class most list next lists there more = λ ids f.
 -- a new span of a class for which there is room
 count_most : (test : Span → Bool) (ss : List Span) → count_by test ss ≤ length ss
 count_most test [] = omega arith
-count_most test (s ∷ ss) = let ih = count_most test ss in let a = sum_by-cons (λ (z : Span). cond (test z) 1 0) s ss in let b = one_low (test s) in omega arith
+count_most test (s ∷ ss) = let ih = count_most test ss in let a = sum_by-cons (λ (z : Span). cond (test z) 1 0) s ss in
+    let b = one_low (test s) in omega arith
   where
     one_low : (b : Bool) → one_if b ≤ 1
     one_low true = omega arith
@@ -249,7 +264,8 @@ all_stay : (a : State) (ss : List Span) (s : Span) (lists : List (Vec ℕ Global
     → HasListRoom s.class (length ss + 1) lists → AreListed a ss lists → AreListed a (ss ++ s ∷ []) lists
 all_stay a ss s lists other room h = record {
   classes = h.classes;
-  listing = λ class list f. stays (is_of class a) ss list.items s (and_false (eqb s.class class) (is_in a s) other) (h.listing class list f);
+  listing = λ class list f. stays (is_of class a) ss list.items s (and_false (eqb s.class class) (is_in a s) other)
+      (h.listing class list f);
   room = λ class list f. elim (cases_Bool (eqb s.class class)) [
     | inl hit ↦
         let p = room list (ap (slice_get lists) (eqb-true s.class class hit) ∙ f) in
@@ -268,7 +284,8 @@ all_stay a ss s lists other room h = record {
     and_false true b e = e
     and_false false b e = refl
 
-pub filed_pushed : (ss : List Span) (s : Span) (lists : Lists) → s.state ≡ state.None → HasRoomToList s.class (length ss + 1) lists → AreFiled ss lists → AreFiled (ss ++ s ∷ []) lists
+pub filed_pushed : (ss : List Span) (s : Span) (lists : Lists) → s.state ≡ state.None → HasRoomToList s.class (length ss + 1) lists →
+    AreFiled ss lists → AreFiled (ss ++ s ∷ []) lists
 filed_pushed ss s lists none room h =
     let other : (a : State) → same_state state.None a ≡ false → is_in a s ≡ false = λ a e. ap (λ b. same_state b a) none ∙ e in
     record {
@@ -282,7 +299,8 @@ filed_pushed ss s lists none room h =
 pub sound_turns : (r : Root) → IsSound r → HaveTurns r.spans r.turn
 sound_turns r sound j v f used = sound.turns v (at_in r.spans j v f) used
 
-pub turns_alike : (ss : List Span) (i turn : ℕ) (s t : Span) → slice_get ss i ≡ Some s → t.state ≡ s.state → t.turn ≡ s.turn → HaveTurns ss turn → HaveTurns (set ss i t) turn
+pub turns_alike : (ss : List Span) (i turn : ℕ) (s t : Span) → slice_get ss i ≡ Some s → t.state ≡ s.state → t.turn ≡ s.turn →
+    HaveTurns ss turn → HaveTurns (set ss i t) turn
 turns_alike ss i turn s t e same turns h = λ j v f used. elim (set_parts ss i j s t v e f) [
   | inl here ↦
       let state = ap (λ (z : Span). same_state z.state state.None) here.1 ∙ ap (λ b. same_state b state.None) same in
@@ -321,14 +339,16 @@ set_twice [] i t u = refl
 set_twice (s ∷ ss) zero t u = refl
 set_twice (s ∷ ss) (suc i) t u = ap (λ xs. s ∷ xs) (set_twice ss i t u)
 
-pub entered_after : (r after : Root) (i : ℕ) (s u : Span) (to : State) → slice_get r.spans i ≡ Some s → EntersAt (record r { spans = set r.spans i u }) after i to →
+pub entered_after : (r after : Root) (i : ℕ) (s u : Span) (to : State) → slice_get r.spans i ≡ Some s →
+    EntersAt (record r { spans = set r.spans i u }) after i to →
     after ≡ record r { spans = set r.spans i (in_state to r.turn u); turn = turn_after to r.turn u }
 entered_after r after i s u to e enters =
     let there : slice_get (set r.spans i u) i ≡ Some u = set_same r.spans i s u e in
     enters u there ∙ ap (λ ss. record r { spans = ss; turn = turn_after to r.turn u }) (set_twice r.spans i u (in_state to r.turn u))
 
 -- as many are empty before a span enters a state
-pub empties_alike : (ss : List Span) (i : ℕ) (s t : Span) → slice_get ss i ≡ Some s → t.state ≡ s.state → count_by (is_in state.Empty) (set ss i t) ≡ count_by (is_in state.Empty) ss
+pub empties_alike : (ss : List Span) (i : ℕ) (s t : Span) → slice_get ss i ≡ Some s → t.state ≡ s.state →
+    count_by (is_in state.Empty) (set ss i t) ≡ count_by (is_in state.Empty) ss
 empties_alike ss i s t e same =
     let a = count_set (is_in state.Empty) ss i s t e in
     let b : one_if (is_in state.Empty t) ≡ one_if (is_in state.Empty s) = ap (λ a. one_if (same_state a state.Empty)) same in

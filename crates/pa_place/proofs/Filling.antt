@@ -36,7 +36,8 @@ pub record IsAfterTake (r next : Root) : Type 0 where
   pub ready : IsReady next
   pub turn : next.turn ≤ r.turn + 1
 
-pub take_ready : (class : ℕ) (r next : Root) (o : Option Title) → IsReady r → class < 170 → one_take class r ≡ took_with next o → IsAfterTake r next
+pub take_ready : (class : ℕ) (r next : Root) (o : Option Title) → IsReady r → class < 170 → one_take class r ≡ took_with next o →
+    IsAfterTake r next
 take_ready class r next o ready real e =
     let same : (one_take class r).root ≡ next = ap (λ (z : Took). z.root) e in
     elim (take_cases class r ready.sound real) [

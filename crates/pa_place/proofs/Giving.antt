@@ -20,7 +20,8 @@ use Rattle.pa_record.proofs.Returning.{oldest_is, returned_is, still_out}
 use Rattle.pa_place.proofs.Placing.{entered_set}
 
 -- a span that was changed and entered a state, in place of the one that stood there
-pub changed_root : (r : Root) (i : ℕ) (s t u next : Span) (turn : ℕ) (to : State) → IsSound r → slice_get r.spans i ≡ Some s → IsLike t s → u ≡ t →
+pub changed_root : (r : Root) (i : ℕ) (s t u next : Span) (turn : ℕ) (to : State) → IsSound r → slice_get r.spans i ≡ Some s → IsLike t s →
+    u ≡ t →
     next ≡ in_state to r.turn u → turn ≡ turn_after to r.turn u → record r { spans = set r.spans i next; turn = turn } ≡ entered to t r
 changed_root r i s t u next turn to sound e like same is after =
     let with : Span → ℕ → Root = λ v n. record r { spans = set r.spans i v; turn = n } in
@@ -28,14 +29,17 @@ changed_root r i s t u next turn to sound e like same is after =
     ∙ ap (with (in_state to r.turn t)) (after ∙ ap (turn_after to r.turn) same)
     ∙ sym (entered_set r i s t to sound e like)
 
-pub decommitted_root : (r : Root) (i : ℕ) (s u next : Span) (turn : ℕ) → IsSound r → slice_get r.spans i ≡ earliest (is_in state.Empty) r.spans → slice_get r.spans i ≡ Some s →
+pub decommitted_root : (r : Root) (i : ℕ) (s u next : Span) (turn : ℕ) → IsSound r →
+    slice_get r.spans i ≡ earliest (is_in state.Empty) r.spans → slice_get r.spans i ≡ Some s →
     u ≡ without_pages s → next ≡ in_state state.Decommitted r.turn u → turn ≡ turn_after state.Decommitted r.turn u →
     record r { spans = set r.spans i next; turn = turn } ≡ oldest_decommitted r
 decommitted_root r i s u next turn sound found e same is after =
-    changed_root r i s (without_pages s) u next turn state.Decommitted sound e (record { place = refl; born = refl; class = refl }) same is after
+    changed_root r i s (without_pages s) u next turn state.Decommitted sound e
+    (record { place = refl; born = refl; class = refl }) same is after
     ∙ ap (λ o. decommitted_span o r) (sym e ∙ found)
 
-pub put_back_root : (r : Root) (i : ℕ) (s u next : Span) (turn : ℕ) (name : SlotName) → IsSound r → slice_get r.spans i ≡ find (holds name) r.spans → slice_get r.spans i ≡ Some s →
+pub put_back_root : (r : Root) (i : ℕ) (s u next : Span) (turn : ℕ) (name : SlotName) → IsSound r →
+    slice_get r.spans i ≡ find (holds name) r.spans → slice_get r.spans i ≡ Some s →
     u ≡ with_front (number_in s name) s → next ≡ in_state (state_back u) r.turn u → turn ≡ turn_after (state_back u) r.turn u →
     record r { spans = set r.spans i next; turn = turn } ≡ put_back name (find (holds name) r.spans) r
 put_back_root r i s u next turn name sound found e same is after =
@@ -63,7 +67,8 @@ takes_back r s name sound out e =
     }
 
 -- one slot of a batch is returned
-names_from : (ts : List Title) (i : ℕ) (t : Title) → slice_get ts i ≡ Some t → map name_of (drop i ts) ≡ name_of t ∷ map name_of (drop (i + 1) ts)
+names_from : (ts : List Title) (i : ℕ) (t : Title) → slice_get ts i ≡ Some t →
+    map name_of (drop i ts) ≡ name_of t ∷ map name_of (drop (i + 1) ts)
 names_from ts i t e =
     ap (map name_of) (drop_more ts i t (slice_get_within ts i t e) ∙ ap (λ x. x ∷ drop (i + 1) ts) (get_or_from_slice_get ts i t t e))
 
@@ -72,8 +77,10 @@ pub record IsLeftToGive (r : Root) (ts : List Title) : Type 0 where
   pub out : All (IsOut r) (map name_of ts)
   pub once : AllPairs ◌≢◌ (map name_of ts)
 
-pub next_out : (r : Root) (ts : List Title) (i : ℕ) (t : Title) → slice_get ts i ≡ Some t → All (IsOut r) (map name_of (drop i ts)) → IsOut r (name_of t)
-next_out r ts i t e out = All-head (IsOut r) (name_of t) (map name_of (drop (i + 1) ts)) (subst (λ xs. All (IsOut r) xs) (names_from ts i t e) out)
+pub next_out : (r : Root) (ts : List Title) (i : ℕ) (t : Title) → slice_get ts i ≡ Some t → All (IsOut r) (map name_of (drop i ts)) →
+    IsOut r (name_of t)
+next_out r ts i t e out =
+    All-head (IsOut r) (name_of t) (map name_of (drop (i + 1) ts)) (subst (λ xs. All (IsOut r) xs) (names_from ts i t e) out)
 
 pub record IsAfterGive (r next : Root) (ts : List Title) (i : ℕ) : Type 0 where
   pub left : all_returned (map name_of (drop i ts)) r ≡ all_returned (map name_of (drop (i + 1) ts)) next
@@ -81,7 +88,8 @@ pub record IsAfterGive (r next : Root) (ts : List Title) (i : ℕ) : Type 0 wher
   pub settled : empties r ≤ 16 → empties next ≤ 16
   pub turn : next.turn ≤ r.turn + 2
 
-pub give_one : (r next : Root) (ts : List Title) (i : ℕ) (t : Title) → slice_get ts i ≡ Some t → IsLeftToGive r (drop i ts) → next ≡ returned (name_of t) r → IsAfterGive r next ts i
+pub give_one : (r next : Root) (ts : List Title) (i : ℕ) (t : Title) → slice_get ts i ≡ Some t → IsLeftToGive r (drop i ts) →
+    next ≡ returned (name_of t) r → IsAfterGive r next ts i
 give_one r next ts i t e h is =
     let names = map name_of (drop (i + 1) ts) in
     let f = names_from ts i t e in
@@ -94,7 +102,8 @@ give_one r next ts i t e h is =
       left = ap (λ xs. all_returned xs r) f;
       rest = record {
         sound = a.kept.sound;
-        out = still_out r (returned (name_of t) r) (name_of t) names a (All-tail (IsOut r) (name_of t) names out) (λ other among. pairs_head R (name_of t) other names once among);
+        out = still_out r (returned (name_of t) r) (name_of t) names a (All-tail (IsOut r) (name_of t) names out)
+            (λ other among. pairs_head R (name_of t) other names once among);
         once = pairs_tail R (name_of t) names once;
       };
       settled = a.settled;

@@ -46,7 +46,8 @@ pub record IsInPlace (r next : Root) : Type 0 where
   pub born : (n : ℕ) → IsBornBelow n r → IsBornBelow n next
   pub maps : next.maps ≡ r.maps
 
-step_by : (r next : Root) → IsGood r → IsSound next → IsSettled next → IsOrdered next → next.supers ≡ r.supers → next.maps ≡ r.maps → next.turn ≤ r.turn + 32 → r.turn ≤ next.turn → IsInPlace r next
+step_by : (r next : Root) → IsGood r → IsSound next → IsSettled next → IsOrdered next → next.supers ≡ r.supers → next.maps ≡ r.maps →
+    next.turn ≤ r.turn + 32 → r.turn ≤ next.turn → IsInPlace r next
 step_by r next good sound settled ordered supers maps turn rises = record {
   good = record {
     ready = record { sound = sound; low = λ at among. good.ready.low at (subst (λ xs. Contains xs at) supers among) };
@@ -61,13 +62,15 @@ step_by r next good sound settled ordered supers maps turn rises = record {
   maps = maps;
 }
 
-pub gives : (r next : Root) (titles : List Title) → IsGood r → length titles ≤ 16 → All (IsOut r) (map name_of titles) → AllPairs ◌≢◌ (map name_of titles) →
+pub gives : (r next : Root) (titles : List Title) → IsGood r → length titles ≤ 16 → All (IsOut r) (map name_of titles) →
+    AllPairs ◌≢◌ (map name_of titles) →
     next ≡ all_returned (map name_of titles) r → IsOrdered next → IsInPlace r next
 gives r next titles good few out once e ordered =
     let a = all_returned_is (map name_of titles) r good.ready.sound out once in
     let many = length_map titles in
     subst (IsInPlace r) (sym e)
-    (step_by r (all_returned (map name_of titles) r) good a.kept.sound (a.settled good.settled) (subst IsOrdered e ordered) a.kept.supers a.kept.maps (let p = a.turn in omega arith) a.kept.rises)
+    (step_by r (all_returned (map name_of titles) r) good a.kept.sound (a.settled good.settled)
+    (subst IsOrdered e ordered) a.kept.supers a.kept.maps (let p = a.turn in omega arith) a.kept.rises)
   where
     length_map : (ts : List Title) → length (map name_of ts) ≡ length ts
     length_map [] = refl
@@ -78,15 +81,18 @@ purges r next good e ordered =
     let a = times_is (empties r) r good.ready.sound in
     let few = good.settled in
     subst (IsInPlace r) (sym e)
-    (step_by r (purged r) good a.kept.sound (let p = a.fewer in omega arith) (subst IsOrdered e ordered) a.kept.supers a.kept.maps (let p = a.turn in omega arith) a.kept.rises)
+    (step_by r (purged r) good a.kept.sound (let p = a.fewer in omega arith) (subst IsOrdered e ordered) a.kept.supers a.kept.maps
+    (let p = a.turn in omega arith) a.kept.rises)
 
-pub filled_step : (class want : ℕ) (r next : Root) (titles : List Title) → IsGood r → class < 170 → want ≤ 8 → takes class want r ≡ filled_with next titles → IsOrdered next → IsInPlace r next
+pub filled_step : (class want : ℕ) (r next : Root) (titles : List Title) → IsGood r → class < 170 → want ≤ 8 →
+    takes class want r ≡ filled_with next titles → IsOrdered next → IsInPlace r next
 filled_step class want r next titles good real few e ordered =
     let a = takes_filled class want r good.ready.sound real in
     let same : (takes class want r).root ≡ next = ap (λ (f : Filled). f.root) e in
     let settled = good.settled in
     subst (IsInPlace r) same
-    (step_by r (takes class want r).root good a.sound (let p = a.settled in omega arith) (subst IsOrdered (sym same) ordered) a.supers a.maps (let p = a.turn in omega arith) a.rises)
+    (step_by r (takes class want r).root good a.sound (let p = a.settled in omega arith)
+    (subst IsOrdered (sym same) ordered) a.supers a.maps (let p = a.turn in omega arith) a.rises)
 
 -- a step in place, which leaves super pages and direct maps as they are, is a step with n pool entries before and after it
 pub in_place : (n : ℕ) (r next : Root) → IsInPlace r next → IsStep n n r next
@@ -106,8 +112,10 @@ pub entries_after : (count : ℕ) (found : Option ℕ) (pool : PoolState) → (t
 entries_after count None pool = refl
 entries_after count (Some first) pool = refl
 
-opened_good : (found : Option ℕ) (entry : ℕ) (r : Root) → IsGood r → length r.supers < 2147483647 → IsBornBelow entry r → HasLowSupers (opened_where found entry r) →
-    IsGood (opened_where found entry r) × IsBornBelow (entry + 1) (opened_where found entry r) × ((opened_where found entry r).turn ≡ r.turn)
+opened_good : (found : Option ℕ) (entry : ℕ) (r : Root) → IsGood r → length r.supers < 2147483647 → IsBornBelow entry r →
+    HasLowSupers (opened_where found entry r) →
+    IsGood (opened_where found entry r) × IsBornBelow (entry + 1) (opened_where found entry r) ×
+    ((opened_where found entry r).turn ≡ r.turn)
 opened_good None entry r good few old low = (good, born_more entry (entry + 1) r (omega arith) old, refl)
 opened_good (Some first) entry r good few old low = (
   record {
@@ -136,7 +144,8 @@ pub record IsAfterOpen (entry : ℕ) (r after : Root) : Type 0 where
   pub good : IsGood after
   pub step : IsStep entry (entry + 1) r after
 
-pub opened_step : (first entry : ℕ) (r after : Root) → IsGood r → length r.supers < 2147483647 → first < 64 → IsBornBelow entry r → after ≡ opened first entry r → IsAfterOpen entry r after
+pub opened_step : (first entry : ℕ) (r after : Root) → IsGood r → length r.supers < 2147483647 → first < 64 → IsBornBelow entry r →
+    after ≡ opened first entry r → IsAfterOpen entry r after
 opened_step first entry r after good few low old e =
     let (a, b, t) = opened_good (Some first) entry r good few old (low_opened first entry r low good.ready.low) in
     subst (IsAfterOpen entry r) (sym e)
@@ -146,11 +155,13 @@ opened_step first entry r after good few low old e =
     })
 
 -- the fill is one that asks the pool exactly when it has to
-filled_where : (class want entry : ℕ) (found : Option ℕ) (r : Root) → IsNone (span_for class r) → takes class want (opened_where found entry r) ≡ filled_by class want entry found r
+filled_where : (class want entry : ℕ) (found : Option ℕ) (r : Root) → IsNone (span_for class r) →
+    takes class want (opened_where found entry r) ≡ filled_by class want entry found r
 filled_where class want entry None r none = takes_none class want r none
 filled_where class want entry (Some first) r none = refl
 
-pub fills_by : (class want : ℕ) (pool next : PoolState) (r after last : Root) (titles : List Title) (asked : Option ℕ) → AsksWhere class pool next r after asked →
+pub fills_by : (class want : ℕ) (pool next : PoolState) (r after last : Root) (titles : List Title) (asked : Option ℕ) →
+    AsksWhere class pool next r after asked →
     takes class want after ≡ filled_with last titles → Fills class want pool next r (filled_with last titles) asked
 fills_by class want pool next r after last titles None (some, same, e) filled = (some, same, sym filled ∙ ap (takes class want) e)
 fills_by class want pool next r after last titles (Some entry) (none, found, is, e) filled =
@@ -158,7 +169,8 @@ fills_by class want pool next r after last titles (Some entry) (none, found, is,
 
 -- a direct map
 mapped_good : (len entry : ℕ) (found : Option ℕ) (r : Root) → IsGood r → length r.maps < 2147483647 → IsBornBelow entry r →
-    IsGood (mapped_by len entry found r).root × IsBornBelow (entry + 1) (mapped_by len entry found r).root × ((mapped_by len entry found r).root.turn ≡ r.turn)
+    IsGood (mapped_by len entry found r).root × IsBornBelow (entry + 1) (mapped_by len entry found r).root ×
+    ((mapped_by len entry found r).root.turn ≡ r.turn)
 mapped_good len entry None r good few old = (good, born_more entry (entry + 1) r (omega arith) old, refl)
 mapped_good len entry (Some first) r good few old =
     let t = map_in first len entry in (

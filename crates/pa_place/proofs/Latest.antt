@@ -30,7 +30,8 @@ pub record IsLatestAt (test : Span → Bool) (ss : List Span) (o : Option ℕ) :
   pub latest : span_at ss o ≡ latest test ss
   pub within : IfSome o (λ at. at < length ss)
 
-pub class_latest : (a : State) (class : ℕ) (r : Root) (lists : List (Vec ℕ Global)) (o : Option ℕ) → same_state a state.None ≡ false → IsSound r → class < 170 → AreListed a r.spans lists →
+pub class_latest : (a : State) (class : ℕ) (r : Root) (lists : List (Vec ℕ Global)) (o : Option ℕ) → same_state a state.None ≡ false →
+    IsSound r → class < 170 → AreListed a r.spans lists →
     ((list : Vec ℕ Global) → slice_get lists class ≡ Some list → o ≡ last_of list.items) → IsLatestAt (is_of class a) r.spans o
 class_latest a class r lists o used sound real h last =
     let (list, e) = element_at lists class (let k = h.classes in omega arith) in
@@ -47,7 +48,8 @@ OthersFrom k class ids ss = (m i : ℕ) (s : Span) → k ≤ m → slice_get ids
 pub ring_there : (ss : List Span) (ids : List ℕ) (k i : ℕ) → IsListing (is_in state.Empty) ss ids → slice_get ids k ≡ Some i → i < length ss
 ring_there ss ids k i h e = let (s, f, p) = h.here i (at_in ids k i e) in slice_get_within ss i s f
 
-pub ring_latest : (class : ℕ) (r : Root) (ids : List ℕ) (k i : ℕ) (s : Span) → IsSound r → IsListing (is_in state.Empty) r.spans ids → slice_get ids k ≡ Some i → slice_get r.spans i ≡ Some s →
+pub ring_latest : (class : ℕ) (r : Root) (ids : List ℕ) (k i : ℕ) (s : Span) → IsSound r → IsListing (is_in state.Empty) r.spans ids →
+    slice_get ids k ≡ Some i → slice_get r.spans i ≡ Some s →
     is_class class s ≡ true → OthersFrom (k + 1) class ids r.spans → slice_get r.spans i ≡ latest (is_of class state.Empty) r.spans
 ring_latest class r ids k i s sound h at e hit others =
     let (u, f, p) = h.here i (at_in ids k i at) in
@@ -66,7 +68,8 @@ ring_latest class r ids k i s sound h at e hit others =
                 let p = sooner t s g e in
                 omega arith
             | inr more ↦ elim (cases_lt k m) [
-              | inl later ↦ absurd (both_ways _ (others m j t (omega arith) (slice_get-get_or ids m j below ∙ ap Some n) g) (in_class state.Empty class t good))
+              | inl later ↦ absurd (both_ways _ (others m j t (omega arith) (slice_get-get_or ids m j below ∙ ap Some n) g)
+                  (in_class state.Empty class t good))
               | inr not_later ↦
                   let same : m ≡ k = omega arith in
                   let here : j ≡ i = sym n ∙ ap (λ z. get_or ids z j) same ∙ get_or_from_slice_get ids k i j at in
@@ -85,7 +88,8 @@ none_by class ss ids (Some s) h others e =
     let (m, below, n) = h.all j s g (in_one state.Empty class s k.passes) in
     absurd (both_ways _ (others m j s (omega arith) (slice_get-get_or ids m j below ∙ ap Some n) g) (in_class state.Empty class s k.passes))
 
-pub ring_none : (class : ℕ) (ss : List Span) (ids : List ℕ) → IsListing (is_in state.Empty) ss ids → OthersFrom 0 class ids ss → latest (is_of class state.Empty) ss ≡ None
+pub ring_none : (class : ℕ) (ss : List Span) (ids : List ℕ) → IsListing (is_in state.Empty) ss ids → OthersFrom 0 class ids ss →
+    latest (is_of class state.Empty) ss ≡ None
 ring_none class ss ids h others = none_by class ss ids (latest (is_of class state.Empty) ss) h others refl
 
 -- a further one isn't of the class

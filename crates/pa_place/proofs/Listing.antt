@@ -84,7 +84,8 @@ still_sooner : (ss : List Span) (i j k : ℕ) (t : Span) → j ≢ i → k ≢ i
 still_sooner ss i j k t other other' sooner v w e f = sooner v w (sym (set_other ss i j t other) ∙ e) (sym (set_other ss i k t other') ∙ f)
 
 -- a span that passed doesn't pass any more
-pub leaves : (test : Span → Bool) (ss : List Span) (ids : List ℕ) (i : ℕ) (s t : Span) → slice_get ss i ≡ Some s → test s ≡ true → test t ≡ false → IsListing test ss ids →
+pub leaves : (test : Span → Bool) (ss : List Span) (ids : List ℕ) (i : ℕ) (s t : Span) → slice_get ss i ≡ Some s → test s ≡ true →
+    test t ≡ false → IsListing test ss ids →
     IsListing test (set ss i t) (without_index i ids)
 leaves test ss ids i s t e passes fails h =
     let R = IsSooner ss in
@@ -109,14 +110,17 @@ leaves test ss ids i s t e passes fails h =
     }
 
 -- a listed span isn't one that fails
-pub not_listed : (test : Span → Bool) (ss : List Span) (ids : List ℕ) (i j : ℕ) (s : Span) → slice_get ss i ≡ Some s → test s ≡ false → IsListing test ss ids → Contains ids j → j ≢ i
+pub not_listed : (test : Span → Bool) (ss : List Span) (ids : List ℕ) (i j : ℕ) (s : Span) → slice_get ss i ≡ Some s → test s ≡ false →
+    IsListing test ss ids → Contains ids j → j ≢ i
 not_listed test ss ids i j s e fails h among same =
     let (v, f, p) = h.here j among in
     both_ways _ fails (subst (λ z. test z ≡ true) (of_some v s (sym f ∙ ap (slice_get ss) same ∙ e)) p)
 
 -- a span that didn't pass does, with a greater turn than those that do
-pub enters : (test : Span → Bool) (ss : List Span) (ids : List ℕ) (i : ℕ) (s t : Span) → slice_get ss i ≡ Some s → test s ≡ false → test t ≡ true →
-    ((j : ℕ) (v : Span) → slice_get ss j ≡ Some v → test v ≡ true → v.turn < t.turn) → IsListing test ss ids → IsListing test (set ss i t) (ids ++ i ∷ [])
+pub enters : (test : Span → Bool) (ss : List Span) (ids : List ℕ) (i : ℕ) (s t : Span) → slice_get ss i ≡ Some s → test s ≡ false →
+    test t ≡ true →
+    ((j : ℕ) (v : Span) → slice_get ss j ≡ Some v → test v ≡ true → v.turn < t.turn) → IsListing test ss ids →
+    IsListing test (set ss i t) (ids ++ i ∷ [])
 enters test ss ids i s t e fails passes last h =
     let R = IsSooner ss in
     let Q = IsSooner (set ss i t) in
@@ -150,7 +154,8 @@ enters test ss ids i s t e fails passes last h =
     }
 
 -- a span changed that passes neither before nor after
-pub stands : (test : Span → Bool) (ss : List Span) (ids : List ℕ) (i : ℕ) (s t : Span) → slice_get ss i ≡ Some s → test s ≡ false → test t ≡ false → IsListing test ss ids →
+pub stands : (test : Span → Bool) (ss : List Span) (ids : List ℕ) (i : ℕ) (s t : Span) → slice_get ss i ≡ Some s → test s ≡ false →
+    test t ≡ false → IsListing test ss ids →
     IsListing test (set ss i t) ids
 stands test ss ids i s t e fails fails' h =
     let R = IsSooner ss in
@@ -161,7 +166,8 @@ stands test ss ids i s t e fails fails' h =
         | inl same ↦ absurd (both_ways _ fails' (subst (λ z. test z ≡ true) same.1 p))
         | inr old ↦ h.all j v old.1 p
       ];
-      order = pairs_give R (IsSooner (set ss i t)) ids h.order (λ j k first second sooner. still_sooner ss i j k t (other j first) (other k second) sooner);
+      order = pairs_give R (IsSooner (set ss i t)) ids h.order
+          (λ j k first second sooner. still_sooner ss i j k t (other j first) (other k second) sooner);
       many =
           let b = count_set test ss i s t e in
           let c : one_if (test s) ≡ 0 = ap one_if fails in
@@ -177,7 +183,8 @@ old_or_new [] (suc j) s v e = absurd (not_some v e)
 old_or_new (u ∷ ss) zero s v e = inl e
 old_or_new (u ∷ ss) (suc j) s v e = old_or_new ss j s v e
 
-pub stays : (test : Span → Bool) (ss : List Span) (ids : List ℕ) (s : Span) → test s ≡ false → IsListing test ss ids → IsListing test (ss ++ s ∷ []) ids
+pub stays : (test : Span → Bool) (ss : List Span) (ids : List ℕ) (s : Span) → test s ≡ false → IsListing test ss ids →
+    IsListing test (ss ++ s ∷ []) ids
 stays test ss ids s fails h = record {
   here = λ j among. let (v, f, p) = h.here j among in (v, slice_get_more ss (s ∷ []) j v f, p);
   all = λ j v f p. elim (old_or_new ss j s v f) [
@@ -207,7 +214,8 @@ place_of (u ∷ ss) s among = elim (in_cases u s ss among) [
 ]
 
 -- the first that is listed has the least turn
-pub first_is_earliest : (test : Span → Bool) (r : Root) (i : ℕ) (ids : List ℕ) (s : Span) → IsSound r → TestsUsed test r → IsListing test r.spans (i ∷ ids) → slice_get r.spans i ≡ Some s →
+pub first_is_earliest : (test : Span → Bool) (r : Root) (i : ℕ) (ids : List ℕ) (s : Span) → IsSound r → TestsUsed test r →
+    IsListing test r.spans (i ∷ ids) → slice_get r.spans i ≡ Some s →
     slice_get r.spans i ≡ earliest test r.spans
 first_is_earliest test r i ids s sound used h e =
     let (v, f, p) = h.here i (first_in i ids) in
@@ -245,13 +253,15 @@ none_listed test = record {
 }
 
 -- a span changed that passes before and after, with the same turn
-old_turn : (ss : List Span) (i j : ℕ) (s t v : Span) → slice_get ss i ≡ Some s → t.turn ≡ s.turn → slice_get (set ss i t) j ≡ Some v → (u : Span) × (slice_get ss j ≡ Some u) × (u.turn ≡ v.turn)
+old_turn : (ss : List Span) (i j : ℕ) (s t v : Span) → slice_get ss i ≡ Some s → t.turn ≡ s.turn → slice_get (set ss i t) j ≡ Some v →
+    (u : Span) × (slice_get ss j ≡ Some u) × (u.turn ≡ v.turn)
 old_turn ss i j s t v e same f = elim (set_parts ss i j s t v e f) [
   | inl here ↦ (s, ap (slice_get ss) here.0 ∙ e, sym same ∙ sym (ap (λ (z : Span). z.turn) here.1))
   | inr there ↦ (v, there.1, refl)
 ]
 
-remains : (test : Span → Bool) (ss : List Span) (ids : List ℕ) (i : ℕ) (s t : Span) → slice_get ss i ≡ Some s → test s ≡ true → test t ≡ true → t.turn ≡ s.turn → IsListing test ss ids →
+remains : (test : Span → Bool) (ss : List Span) (ids : List ℕ) (i : ℕ) (s t : Span) → slice_get ss i ≡ Some s → test s ≡ true →
+    test t ≡ true → t.turn ≡ s.turn → IsListing test ss ids →
     IsListing test (set ss i t) ids
 remains test ss ids i s t e passes passes' same h = record {
   here = λ j among. elim (cases_Bool (eqb j i)) [
@@ -287,8 +297,10 @@ alike test ss ids i s t e same turn h = elim (cases_Bool (test s)) [
 abbrev pub IsLast : (Span → Bool) → List Span → Span → Type 0
 IsLast test ss t = (j : ℕ) (v : Span) → slice_get ss j ≡ Some v → test v ≡ true → v.turn < t.turn
 
-pub refiled_by : (test : Span → Bool) (ss : List Span) (ids : List ℕ) (i : ℕ) (s t : Span) (was is : Bool) → slice_get ss i ≡ Some s → was ≡ test s → is ≡ test t →
-    (was ≡ true → is ≡ true → t.turn ≡ s.turn) → (was ≡ false → is ≡ true → IsLast test ss t) → IsListing test ss ids → IsListing test (set ss i t) (refiled was is i ids)
+pub refiled_by : (test : Span → Bool) (ss : List Span) (ids : List ℕ) (i : ℕ) (s t : Span) (was is : Bool) → slice_get ss i ≡ Some s →
+    was ≡ test s → is ≡ test t →
+    (was ≡ true → is ≡ true → t.turn ≡ s.turn) → (was ≡ false → is ≡ true → IsLast test ss t) → IsListing test ss ids →
+    IsListing test (set ss i t) (refiled was is i ids)
 refiled_by test ss ids i s t true true e a b same last h = remains test ss ids i s t e (sym a) (sym b) (same refl refl) h
 refiled_by test ss ids i s t true false e a b same last h = leaves test ss ids i s t e (sym a) (sym b) h
 refiled_by test ss ids i s t false true e a b same last h = enters test ss ids i s t e (sym a) (sym b) (last refl refl) h
@@ -316,16 +328,19 @@ without_last i (k ∷ ids) once = elim (cases_Bool (eqb k i)) [
 ]
 
 -- the last of a list and its others
-last_pair : (R : ℕ → ℕ → Type 0) (xs : List ℕ) (a b : ℕ) → AllPairs R xs → Contains xs a → slice_get xs (length xs - 1) ≡ Some b → (a ≡ b) ⊎ R a b
+last_pair : (R : ℕ → ℕ → Type 0) (xs : List ℕ) (a b : ℕ) → AllPairs R xs → Contains xs a → slice_get xs (length xs - 1) ≡ Some b → (a ≡ b) ⊎
+    R a b
 last_pair R xs a b h (k, below, e) f = elim (cases_lt k (length xs - 1)) [
-  | inl less ↦ inr (subst (λ z. R z b) e (subst (λ z. R (get_or xs k a) z) (get_or_from_slice_get xs (length xs - 1) b a f) (h k (length xs - 1) a less (omega arith))))
+  | inl less ↦ inr (subst (λ z. R z b) e
+      (subst (λ z. R (get_or xs k a) z) (get_or_from_slice_get xs (length xs - 1) b a f) (h k (length xs - 1) a less (omega arith))))
   | inr more ↦
       let same : k ≡ length xs - 1 = omega arith in
       inl (sym e ∙ ap (λ n. get_or xs n a) same ∙ get_or_from_slice_get xs (length xs - 1) b a f)
 ]
 
 -- a span that is listed, and not before another that is, is the latest
-pub listed_latest : (test : Span → Bool) (r : Root) (ids : List ℕ) (i : ℕ) → IsSound r → TestsUsed test r → IsListing test r.spans ids → Contains ids i →
+pub listed_latest : (test : Span → Bool) (r : Root) (ids : List ℕ) (i : ℕ) → IsSound r → TestsUsed test r → IsListing test r.spans ids →
+    Contains ids i →
     ((j : ℕ) → Contains ids j → (j ≡ i) ⊎ IsSooner r.spans j i) → slice_get r.spans i ≡ latest test r.spans
 listed_latest test r ids i sound used h among last =
     let (s, e, passes) = h.here i among in
@@ -356,18 +371,22 @@ none_is_latest test ss h = none_latest_by test ss (latest test ss) h refl
 empty_by : (ids : List ℕ) → last_of ids ≡ None → ids ≡ []
 empty_by [] e = refl
 empty_by (k ∷ ids) e =
-    absurd (not_some (get_or (k ∷ ids) (length ids) 0) (sym e ∙ sym (last_there (k ∷ ids) (length ids) (omega arith)) ∙ slice_get-get_or (k ∷ ids) (length ids) 0 (omega arith)))
+    absurd (not_some (get_or (k ∷ ids) (length ids) 0)
+    (sym e ∙ sym (last_there (k ∷ ids) (length ids) (omega arith)) ∙ slice_get-get_or (k ∷ ids) (length ids) 0 (omega arith)))
   where
     last_there : (xs : List ℕ) (n : ℕ) → length xs ≡ n + 1 → slice_get xs n ≡ last_of xs
     last_there xs n e = ap (slice_get xs) (let f : n ≡ length xs - 1 = omega arith in f)
 
 pub last_is_latest : (test : Span → Bool) (r : Root) (ids : List ℕ) (o : Option ℕ) → IsSound r → TestsUsed test r
     → IsListing test r.spans ids → o ≡ last_of ids → span_at r.spans o ≡ latest test r.spans
-last_is_latest test r ids None sound used h e = sym (none_is_latest test r.spans (subst (λ xs. IsListing test r.spans xs) (empty_by ids (sym e)) h))
+last_is_latest test r ids None sound used h e =
+    sym (none_is_latest test r.spans (subst (λ xs. IsListing test r.spans xs) (empty_by ids (sym e)) h))
 last_is_latest test r ids (Some i) sound used h e =
-    listed_latest test r ids i sound used h (at_in ids (length ids - 1) i (sym e)) (λ j among. last_pair (IsSooner r.spans) ids j i h.order among (sym e))
+    listed_latest test r ids i sound used h (at_in ids (length ids - 1) i (sym e))
+    (λ j among. last_pair (IsSooner r.spans) ids j i h.order among (sym e))
 
 -- the last index of a listing, if it has one, is the index of a span
-pub listed_within : (test : Span → Bool) (ss : List Span) (ids : List ℕ) (o : Option ℕ) → IsListing test ss ids → o ≡ last_of ids → IfSome o (λ at. at < length ss)
+pub listed_within : (test : Span → Bool) (ss : List Span) (ids : List ℕ) (o : Option ℕ) → IsListing test ss ids → o ≡ last_of ids →
+    IfSome o (λ at. at < length ss)
 listed_within test ss ids None h e = tt
 listed_within test ss ids (Some i) h e = let (s, f, p) = h.here i (at_in ids (length ids - 1) i (sym e)) in slice_get_within ss i s f

@@ -34,12 +34,14 @@ holder_is r s name ready e =
 pub none_holds : (r : Root) (name : SlotName) → IsReady r → find (holds name) r.spans ≡ None → IsOut r name → ⊥
 none_holds r name ready none (s, among, n, out) = not_some s (sym none ∙ find_out r s name n ready.sound among out)
 
-pub not_out : (r : Root) (s : Span) (name : SlotName) → IsReady r → find (holds name) r.spans ≡ Some s → ((n : ℕ) → IsOutOf s name n → ⊥) → IsOut r name → ⊥
+pub not_out : (r : Root) (s : Span) (name : SlotName) → IsReady r → find (holds name) r.spans ≡ Some s → ((n : ℕ) → IsOutOf s name n → ⊥) →
+    IsOut r name → ⊥
 not_out r s name ready e h (v, among, n, out) =
     let same : v ≡ s = of_some v s (sym (find_out r v name n ready.sound among out) ∙ e) in
     h n (subst (λ z. IsOutOf z name n) same out)
 
-pub slot_is_out : (r : Root) (s : Span) (t : Title) (name : SlotName) (n : ℕ) → Contains r.spans s → t ≡ title_at s n → IsOutOf s name n → IsOut r name × IsTitleOut r t × (name_of t ≡ name)
+pub slot_is_out : (r : Root) (s : Span) (t : Title) (name : SlotName) (n : ℕ) → Contains r.spans s → t ≡ title_at s n → IsOutOf s name n →
+    IsOut r name × IsTitleOut r t × (name_of t ≡ name)
 slot_is_out r s t name n among e out =
     let same : name_of t ≡ name = ap name_of e ∙ sym out.named in
     ((s, among, n, out), inl (s, among, n, subst (λ x. IsOutOf s x n) (sym same) out, e), same)

@@ -73,7 +73,8 @@ of_batches m s t h = elim (cases_Bool (ltb m s.made)) [
 abbrev pub IsMadeMore : Root → Root → Span → ℕ → Title → Type 0
 IsMadeMore r after s k t = IsMade after t ↔ (IsMade r t ⊎ IsBetween s.made k s t)
 
-entered_more : (r : Root) (s t : Span) (to : State) (x : Title) → IsSound r → Contains r.spans s → IsLike t s → s.made ≤ t.made → IsMadeMore r (entered to t r) s t.made x
+entered_more : (r : Root) (s t : Span) (to : State) (x : Title) → IsSound r → Contains r.spans s → IsLike t s → s.made ≤ t.made →
+    IsMadeMore r (entered to t r) s t.made x
 entered_more r s t to x sound among like more =
     let u = in_state to r.turn t in
     let near : IsLike u s = like_trans u t s (in_state_like to r.turn t) like in
@@ -97,7 +98,8 @@ entered_more r s t to x sound among like more =
     )
 
 -- none of the slots that it makes was made
-not_made : (r : Root) (s : Span) (k : ℕ) (x : Title) → IsSound r → Contains r.spans s → k ≤ slots_of s.class → IsBetween s.made k s x → IsMade r x → ⊥
+not_made : (r : Root) (s : Span) (k : ℕ) (x : Title) → IsSound r → Contains r.spans s → k ≤ slots_of s.class → IsBetween s.made k s x →
+    IsMade r x → ⊥
 not_made r s k x sound among few (n, from, below, e) (v, member, m, less, f) =
     let most = (sound.spans v member).counted.most in
     let born : s.born ≡ v.born = sym (ap (λ (z : Title). z.born) e) ∙ ap (λ (z : Title). z.born) f in
@@ -112,7 +114,8 @@ not_made r s k x sound among few (n, from, below, e) (v, member, m, less, f) =
     ]
 
 -- the batch of one take from a span of the root
-batch_is : (r : Root) (s u : Span) → IsReady r → Contains r.spans s → IsLike u s → s.made ≤ u.made → u.made ≤ slots_of s.class → (b : Made) → Contains (made_from s.made u) b → IsBatch s.class b
+batch_is : (r : Root) (s u : Span) → IsReady r → Contains r.spans s → IsLike u s → s.made ≤ u.made → u.made ≤ slots_of s.class →
+    (b : Made) → Contains (made_from s.made u) b → IsBatch s.class b
 batch_is r s u ready among like more few b member = elim (cases_Bool (ltb s.made u.made)) [
   | inl some ↦ by_some (ltb-true _ _ some) (rw some at member)
   | inr none ↦ absurd (not_in_none b (rw none at member))
@@ -157,7 +160,8 @@ like_sym s u like = record { place = sym like.place; born = sym like.born; class
 abbrev from_there : Span → Root → Took
 from_there s r = taken_from (Some (record { span = s; root = r })) r
 
-pub cut_there : (r : Root) (s : Span) → IsReady r → Contains r.spans s → s.allocated < slots_of s.class → AreMadeNow s.class r (from_there s r).root (made_from s.made (with_free s))
+pub cut_there : (r : Root) (s : Span) → IsReady r → Contains r.spans s → s.allocated < slots_of s.class →
+    AreMadeNow s.class r (from_there s r).root (made_from s.made (with_free s))
 cut_there r s ready among left =
     let sound = ready.sound in
     let f = with_free_front s (sound.spans s among).counted left in
@@ -182,7 +186,8 @@ cut_there r s ready among left =
               | inr new ↦ inr (between_like s.made u.made s u x like' (in_batches s.made u x new))
             ]),
           );
-      new = λ x inside made. not_made r s u.made x sound among few (between_like s.made u.made s u x like' (in_batches s.made u x inside)) made;
+      new = λ x inside made. not_made r s u.made x sound among few
+          (between_like s.made u.made s u x like' (in_batches s.made u x inside)) made;
       once = one_batch s.made u;
     })
 
@@ -210,7 +215,8 @@ cut_new : (class : ℕ) (r : Root) (at : SuperPage) → IsReady r → class < 17
 cut_new class r at ready real now room =
     let s = new_span class at r.page in
     let grown = with_span s r in
-    let h = cut_there grown s (record { sound = with_span_sound r class at ready.sound real now room; low = ready.low }) (Contains-push r.spans s) (some_slots class real) in
+    let h = cut_there grown s (record { sound = with_span_sound r class at ready.sound real now room; low = ready.low })
+    (Contains-push r.spans s) (some_slots class real) in
     record {
       batches = h.batches;
       made = λ t. (
@@ -221,7 +227,8 @@ cut_new class r at ready real now room =
       once = h.once;
     }
 
-cut_page : (class : ℕ) (r : Root) (o : Option SuperPage) → IsReady r → class < 170 → current r ≡ o → AreMadeNow class r (taken_from (at_page class r o) r).root (cut_in (at_page class r o))
+cut_page : (class : ℕ) (r : Root) (o : Option SuperPage) → IsReady r → class < 170 → current r ≡ o →
+    AreMadeNow class r (taken_from (at_page class r o) r).root (cut_in (at_page class r o))
 cut_page class r None ready real now = none_made class r
 cut_page class r (Some at) ready real now = elim (cases_Bool (leb (r.page + pages_of class) 127)) [
   | inl room ↦ rw room (cut_new class r at ready real now (leb-true _ _ room))
@@ -240,7 +247,8 @@ one_cut : (class : ℕ) (r : Root) → IsReady r → class < 170 → AreMadeNow 
 one_cut class r ready real = cut_by class r (listed class r.spans) ready real refl
 
 -- batches that are made one after another
-both_made : (class : ℕ) (r mid after : Root) (bs cs : List Made) → AreMadeNow class r mid bs → AreMadeNow class mid after cs → AreMadeNow class r after (bs ++ cs)
+both_made : (class : ℕ) (r mid after : Root) (bs cs : List Made) → AreMadeNow class r mid bs → AreMadeNow class mid after cs →
+    AreMadeNow class r after (bs ++ cs)
 both_made class r mid after bs cs h k = record {
   batches = λ b among. elim (Contains-append_cases bs cs b among) [ inl first ↦ h.batches b first | inr second ↦ k.batches b second ];
   made = λ t. (
@@ -269,7 +277,8 @@ both_made class r mid after bs cs h k = record {
 
 -- if the batches of a fill of k from any ready root are just what it makes, those of a fill of k + 1 are too
 cuts_by : (class k : ℕ) (r : Root) (o : Option Title) → IsReady r → class < 170 → one_take class r ≡ took_with (one_take class r).root o →
-    ((next : Root) → IsReady next → AreMadeNow class next (takes class k next).root (takes_cut class k next)) → AreMadeNow class r (takes class (suc k) r).root (takes_cut class (suc k) r)
+    ((next : Root) → IsReady next → AreMadeNow class next (takes class k next).root (takes_cut class k next)) →
+    AreMadeNow class r (takes class (suc k) r).root (takes_cut class (suc k) r)
 cuts_by class k r None ready real e further =
     let first = cut_in (span_for class r) in
     let next = (one_take class r).root in
@@ -279,7 +288,8 @@ cuts_by class k r None ready real e further =
     ] in
     let root : (takes class (suc k) r).root ≡ next = ap (λ z. (and_then z (takes class k)).root) e in
     let none : takes_cut class (suc k) r ≡ [] = ap (λ z. and_cut z first (takes_cut class k)) e in
-    subst (λ z. AreMadeNow class r z (takes_cut class (suc k) r)) (sym (root ∙ same)) (subst (λ bs. AreMadeNow class r r bs) (sym none) (none_made class r))
+    subst (λ z. AreMadeNow class r z (takes_cut class (suc k) r)) (sym (root ∙ same))
+    (subst (λ bs. AreMadeNow class r r bs) (sym none) (none_made class r))
   where
     none_not_some : (t : Title) → None ≡ Some t → ⊥
     none_not_some t e = not_some t e
@@ -290,8 +300,11 @@ cuts_by class k r (Some t) ready real e further =
     let all : takes_cut class (suc k) r ≡ first ++ takes_cut class k next = ap (λ z. and_cut z first (takes_cut class k)) e in
     let after = further next (take_ready class r next (Some t) ready real e).ready in
     subst (λ z. AreMadeNow class r z (takes_cut class (suc k) r)) (sym root)
-    (subst (λ bs. AreMadeNow class r (takes class k next).root bs) (sym all) (both_made class r next (takes class k next).root first (takes_cut class k next) (one_cut class r ready real) after))
+    (subst (λ bs. AreMadeNow class r (takes class k next).root bs) (sym all)
+    (both_made class r next (takes class k next).root first (takes_cut class k next) (one_cut class r ready real) after))
 
-pub cuts_made : (class want : ℕ) (r : Root) → IsReady r → class < 170 → AreMadeNow class r (takes class want r).root (takes_cut class want r)
+pub cuts_made : (class want : ℕ) (r : Root) → IsReady r → class < 170 →
+    AreMadeNow class r (takes class want r).root (takes_cut class want r)
 cuts_made class zero r ready real = none_made class r
-cuts_made class (suc k) r ready real = cuts_by class k r (one_take class r).title ready real refl (λ next good. cuts_made class k next good real)
+cuts_made class (suc k) r ready real =
+    cuts_by class k r (one_take class r).title ready real refl (λ next good. cuts_made class k next good real)

@@ -38,7 +38,8 @@ after_like s t u like (inr (same, ends)) =
     let b = like.born in let p = like.place in
     inr (omega arith, omega arith)
 
-pub order_set : (ss : List Span) (i : ℕ) (s t : Span) → AllPairs IsBefore ss → slice_get ss i ≡ Some s → IsLike t s → AllPairs IsBefore (set ss i t)
+pub order_set : (ss : List Span) (i : ℕ) (s t : Span) → AllPairs IsBefore ss → slice_get ss i ≡ Some s → IsLike t s →
+    AllPairs IsBefore (set ss i t)
 order_set [] i s t h e like = absurd (not_some s e)
 order_set (u ∷ ss) zero s t h e like =
     let same = of_some u s e in
@@ -48,13 +49,15 @@ order_set (u ∷ ss) zero s t h e like =
 order_set (u ∷ ss) (suc i) s t h e like =
     pairs_cons IsBefore u (set ss i t)
     (λ v among. elim (set_cases ss i t v among) [
-      | inl f ↦ subst (λ z. IsBefore u z) (sym f) (after_like s t u like (pairs_head IsBefore u s ss h (i, slice_get_within ss i s e, get_or_from_slice_get ss i s s e)))
+      | inl f ↦ subst (λ z. IsBefore u z) (sym f)
+          (after_like s t u like (pairs_head IsBefore u s ss h (i, slice_get_within ss i s e, get_or_from_slice_get ss i s s e)))
       | inr old ↦ pairs_head IsBefore u v ss h old
     ])
     (order_set ss i s t (pairs_tail IsBefore u ss h) e like)
 
 -- the current super page was taken last
-newest : (xs : List SuperPage) (a b : SuperPage) → AllPairs IsOlder xs → Contains xs a → slice_get xs (length xs - 1) ≡ Some b → a.born ≤ b.born
+newest : (xs : List SuperPage) (a b : SuperPage) → AllPairs IsOlder xs → Contains xs a → slice_get xs (length xs - 1) ≡ Some b →
+    a.born ≤ b.born
 newest xs a b h (k, below, e) f = elim (cases_lt k (length xs - 1)) [
   | inl less ↦
       let older = h k (length xs - 1) a less (omega arith) in
@@ -70,7 +73,8 @@ newest xs a b h (k, below, e) f = elim (cases_lt k (length xs - 1)) [
 ]
 
 -- a new span comes after all others
-pub order_push : (class : ℕ) (r : Root) (at : SuperPage) → IsSound r → IsOrdered r → current r ≡ Some at → IsOrdered (with_span (new_span class at r.page) r)
+pub order_push : (class : ℕ) (r : Root) (at : SuperPage) → IsSound r → IsOrdered r → current r ≡ Some at →
+    IsOrdered (with_span (new_span class at r.page) r)
 order_push class r at sound h now =
     let s = new_span class at r.page in
     record {
@@ -94,7 +98,8 @@ order_opened number born r old h =
     record { spans = h.spans; supers = pairs_push IsOlder r.supers at h.supers (λ x among. old.supers x among) }
 
 -- a span that was changed and entered a state, in place of the one that stood there
-pub order_changed : (r : Root) (i : ℕ) (s t next : Span) (turn : ℕ) (to : State) → IsOrdered r → slice_get r.spans i ≡ Some s → IsLike t s → next ≡ in_state to r.turn t →
+pub order_changed : (r : Root) (i : ℕ) (s t next : Span) (turn : ℕ) (to : State) → IsOrdered r → slice_get r.spans i ≡ Some s → IsLike t s →
+    next ≡ in_state to r.turn t →
     IsOrdered (record r { spans = set r.spans i next; turn = turn })
 order_changed r i s t next turn to h e like is =
     let near : IsLike next s = subst (λ z. IsLike z s) (sym is) (like_trans (in_state to r.turn t) t s (in_state_like to r.turn t) like) in

@@ -23,7 +23,8 @@ use Rattle.pa_place.specs.Store.{IsReady, FindsPlace, HasBlanks, room_for}
 use Rattle.pa_lists.proofs.Indexed.{at_in, slice_get_at, element_at}
 
 -- a span in place of the one in its place, by where it is
-pub put_set : (s t : Span) (ts : List Span) (i : ℕ) → AllPairs IsElsewhere ts → slice_get ts i ≡ Some t → same_place t s ≡ true → put s ts ≡ set ts i s
+pub put_set : (s t : Span) (ts : List Span) (i : ℕ) → AllPairs IsElsewhere ts → slice_get ts i ≡ Some t → same_place t s ≡ true →
+    put s ts ≡ set ts i s
 put_set s t [] i h e same = absurd (not_some t e)
 put_set s t (x ∷ ts) zero h e same =
     let f = of_some x t e in
@@ -58,10 +59,12 @@ span_low r s ready among =
     omega arith
 
 -- the span from which a take is made
-pub listed_found : (class : ℕ) (r : Root) (s : Span) → listed class r.spans ≡ Some s → span_for class r ≡ Some (record { span = s; root = r })
+pub listed_found : (class : ℕ) (r : Root) (s : Span) → listed class r.spans ≡ Some s →
+    span_for class r ≡ Some (record { span = s; root = r })
 listed_found class r s e = ap (found_or_new class r) e
 
-pub new_found : (class : ℕ) (r : Root) (at : SuperPage) → listed class r.spans ≡ None → current r ≡ Some at → r.page + pages_of class ≤ 127 →
+pub new_found : (class : ℕ) (r : Root) (at : SuperPage) → listed class r.spans ≡ None → current r ≡ Some at →
+    r.page + pages_of class ≤ 127 →
     span_for class r ≡ Some (record { span = new_span class at r.page; root = with_span (new_span class at r.page) r })
 new_found class r at e now room =
     let fits : leb (r.page + pages_of class) 127 ≡ true = le-leb _ _ room in
@@ -101,7 +104,8 @@ pub record IsReadyFound (f : Found) : Type 0 where
   pub ready : IsReady f.root
   pub left : f.span.allocated < slots_of f.span.class
 
-ready_page : (class : ℕ) (r : Root) (o : Option SuperPage) (f : Found) → IsReady r → class < 170 → current r ≡ o → at_page class r o ≡ Some f → IsReadyFound f
+ready_page : (class : ℕ) (r : Root) (o : Option SuperPage) (f : Found) → IsReady r → class < 170 → current r ≡ o →
+    at_page class r o ≡ Some f → IsReadyFound f
 ready_page class r None f ready real now e = absurd (not_some f e)
 ready_page class r (Some at) f ready real now e = elim (cases_Bool (leb (r.page + pages_of class) 127)) [
   | inl room ↦
@@ -113,7 +117,8 @@ ready_page class r (Some at) f ready real now e = elim (cases_Bool (leb (r.page 
   | inr full ↦ absurd (not_some f (rw full at e))
 ]
 
-ready_by : (class : ℕ) (r : Root) (o : Option Span) (f : Found) → IsReady r → class < 170 → listed class r.spans ≡ o → found_or_new class r o ≡ Some f → IsReadyFound f
+ready_by : (class : ℕ) (r : Root) (o : Option Span) (f : Found) → IsReady r → class < 170 → listed class r.spans ≡ o →
+    found_or_new class r o ≡ Some f → IsReadyFound f
 ready_by class r None f ready real is e = ready_page class r (current r) f ready real refl e
 ready_by class r (Some s) f ready real is e =
     let u = listed_is class r.spans s is in
@@ -123,42 +128,52 @@ pub found_ready : (class : ℕ) (r : Root) (f : Found) → IsReady r → class <
 found_ready class r f ready real e = ready_by class r (listed class r.spans) f ready real refl e
 
 -- a take from the span there
-pub served_root : (r : Root) (i : ℕ) (s u next : Span) (title : Title) (turn : ℕ) → IsSound r → slice_get r.spans i ≡ Some s → IsServed s u title →
+pub served_root : (r : Root) (i : ℕ) (s u next : Span) (title : Title) (turn : ℕ) → IsSound r → slice_get r.spans i ≡ Some s →
+    IsServed s u title →
     next ≡ in_state (state_in_use u) r.turn u → turn ≡ turn_after (state_in_use u) r.turn u →
-    front_taken (with_free s).free (with_free s) r ≡ record { root = record r { spans = set r.spans i next; turn = turn }; title = Some title }
+    front_taken (with_free s).free (with_free s) r ≡ record {
+      root = record r { spans = set r.spans i next; turn = turn };
+      title = Some title;
+    }
 served_root r i s u next title turn sound e served is after =
     let t = without_front served.rest (with_free s) in
-    let front : front_taken (with_free s).free (with_free s) r ≡ front_taken (served.number ∷ served.rest) (with_free s) r = ap (λ xs. front_taken xs (with_free s) r) served.front in
+    let front : front_taken (with_free s).free (with_free s) r ≡ front_taken (served.number ∷ served.rest) (with_free s) r =
+    ap (λ xs. front_taken xs (with_free s) r) served.front in
     let there = entered_set r i s t (state_in_use t) sound e (front_from s served.rest).like in
     let last : Root → Option Title → Took = λ a b. record { root = a; title = b } in
     front
     ∙ ap (λ a. last a (Some (title_at (with_free s) served.number))) there
     ∙ ap (λ v. last (record r { spans = set r.spans i (in_state (state_in_use v) r.turn v); turn = turn_after (state_in_use v) r.turn v })
     (Some (title_at (with_free s) served.number))) (sym served.after)
-    ∙ ap (λ v. last (record r { spans = set r.spans i v; turn = turn_after (state_in_use u) r.turn u }) (Some (title_at (with_free s) served.number))) (sym is)
+    ∙ ap (λ v. last (record r { spans = set r.spans i v; turn = turn_after (state_in_use u) r.turn u })
+    (Some (title_at (with_free s) served.number))) (sym is)
     ∙ ap (λ n. last (record r { spans = set r.spans i next; turn = n }) (Some (title_at (with_free s) served.number))) (sym after)
     ∙ ap (λ v. last (record r { spans = set r.spans i next; turn = turn }) (Some v)) (sym served.title)
 
 -- the listed span by its place
-pub listed_place : (class : ℕ) (r : Root) (o : Option ℕ) → span_at r.spans o ≡ listed class r.spans → IfSome o (λ at. at < length r.spans) → is_some o ≡ true → FindsPlace class r r o
+pub listed_place : (class : ℕ) (r : Root) (o : Option ℕ) → span_at r.spans o ≡ listed class r.spans → IfSome o (λ at. at < length r.spans) →
+    is_some o ≡ true → FindsPlace class r r o
 listed_place class r None e within some = absurd (true≢false (sym some))
 listed_place class r (Some at) e within some =
     let (s, f) = element_at r.spans at within in
     (record { span = s; root = r }, listed_found class r s (sym e ∙ f), refl, f)
 
 -- one of the blank spans is used
-pub blanks_popped : (class n : ℕ) (before after : List Span) (s : Span) → before ≡ after ++ s ∷ [] → HasBlanks class (n + 1) before → HasBlanks class n after
+pub blanks_popped : (class n : ℕ) (before after : List Span) (s : Span) → before ≡ after ++ s ∷ [] → HasBlanks class (n + 1) before →
+    HasBlanks class n after
 blanks_popped class n before after s e h = record {
   many = let p = h.many in let q = ap length e in let k = length-append after (s ∷ []) in omega arith;
   blank = (All-pop (λ (z : Span). z ≡ blank_span class) before after (Some s) e h.blank).0;
 }
 
-pub unlisted : (class : ℕ) (r : Root) (o : Option ℕ) → span_at r.spans o ≡ listed class r.spans → is_some o ≡ false → listed class r.spans ≡ None
+pub unlisted : (class : ℕ) (r : Root) (o : Option ℕ) → span_at r.spans o ≡ listed class r.spans → is_some o ≡ false →
+    listed class r.spans ≡ None
 unlisted class r None e none = sym e
 unlisted class r (Some at) e none = absurd (true≢false none)
 
 -- the new span by its place
-pub new_place : (class : ℕ) (r after : Root) (at : SuperPage) (n : ℕ) → listed class r.spans ≡ None → room_for class r (current r) ≡ Some at →
+pub new_place : (class : ℕ) (r after : Root) (at : SuperPage) (n : ℕ) → listed class r.spans ≡ None →
+    room_for class r (current r) ≡ Some at →
     after ≡ with_span (new_span class at r.page) r → n ≡ length r.spans → FindsPlace class r after (Some n)
 new_place class r after at n none room e last =
     let is = is_room class r at room in

@@ -17,7 +17,8 @@ not_none ts f r e some none =
     let empty = ap length none in
     omega arith
 
-pub fill_refused : (class want : ℕ) (pool next : PoolState) (r after : Root) (ts : List Title) (asked : Option ℕ) → IsSound r → IsBornBelow pool.entries r → class < 170 → 1 ≤ want →
+pub fill_refused : (class want : ℕ) (pool next : PoolState) (r after : Root) (ts : List Title) (asked : Option ℕ) → IsSound r →
+    IsBornBelow pool.entries r → class < 170 → 1 ≤ want →
     Fills class want pool next r (filled_with after ts) asked → (ts ≡ []) ↔ IsRefused 1 pool asked
 fill_refused class zero pool next r after ts asked sound old real some h = absurd (omega arith)
 fill_refused class (suc k) pool next r after ts None sound old real some (found, same, e) = (
@@ -31,11 +32,13 @@ fill_refused class (suc k) pool next r after ts (Some entry) sound old real some
 fill_refused class (suc k) pool next r after ts (Some entry) sound old real some (none, Some first, is, e) =
     let good = fill_keeps.opens first entry r sound (subst (λ n. IsBornBelow n r) (sym is.entry) old) in
     let found = fill_keeps.finds_new class first entry r real in (
-      λ empty. absurd (not_none ts (takes class (suc k) (opened first entry r)) after e (fill_keeps.finds class k (opened first entry r) good real found) empty),
+      λ empty. absurd (not_none ts (takes class (suc k) (opened first entry r)) after e
+          (fill_keeps.finds class k (opened first entry r) good real found) empty),
       λ refused. absurd (refused.1 first is.lowest.0),
     )
 
-pub map_refused : (len count entry : ℕ) (found : Option ℕ) (pool : PoolState) (r after : Root) (ts : List Title) → entry ≡ pool.entries → IsLowest pool count found →
+pub map_refused : (len count entry : ℕ) (found : Option ℕ) (pool : PoolState) (r after : Root) (ts : List Title) → entry ≡ pool.entries →
+    IsLowest pool count found →
     mapped_by len entry found r ≡ filled_with after ts → (ts ≡ []) ↔ IsRefused count pool (Some entry)
 map_refused len count entry None pool r after ts is lowest e = (
   λ _. (ap Some is, lowest),

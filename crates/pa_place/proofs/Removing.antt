@@ -22,7 +22,8 @@ later_places test n k (x ∷ xs) less e = elim (cases_Bool (test x)) [
   | inr miss ↦ later_places test (n + 1) k xs (omega arith) (rw miss at e)
 ]
 
-removed_from : {A : Type 0} (test : A → Bool) (n k : ℕ) (xs : List A) → position_from test n xs ≡ Some (n + k) → remove xs k ≡ without_first test xs
+removed_from : {A : Type 0} (test : A → Bool) (n k : ℕ) (xs : List A) → position_from test n xs ≡ Some (n + k) →
+    remove xs k ≡ without_first test xs
 removed_from test n k [] e = absurd (not_some (n + k) e)
 removed_from test n zero (x ∷ xs) e = elim (cases_Bool (test x)) [
   | inl hit ↦ rw hit refl
@@ -63,7 +64,8 @@ without_map_is name (t ∷ ts) = elim (cases_Bool (is_named name t)) [
 ]
 
 -- a member by its place, and none if none passes
-none_passes_from : {A : Type 0} (test : A → Bool) (n : ℕ) (xs : List A) (x : A) → position_from test n xs ≡ None → Contains xs x → test x ≡ false
+none_passes_from : {A : Type 0} (test : A → Bool) (n : ℕ) (xs : List A) (x : A) → position_from test n xs ≡ None → Contains xs x →
+    test x ≡ false
 none_passes_from test n [] x e among = absurd (not_in_none x among)
 none_passes_from test n (y ∷ xs) x e among = elim (cases_Bool (test y)) [
   | inl hit ↦ absurd (not_some n (sym (rw hit at e)))
@@ -81,7 +83,8 @@ named_tells name t h =
     let (p, q) = and_parts _ _ h in
     named t.start name.start t.born name.born (eqb-true _ _ p) (eqb-true _ _ q)
   where
-    named : (s u b d : ℕ) → s ≡ u → b ≡ d → (let x : SlotName = record { start = s; born = b } in let y : SlotName = record { start = u; born = d } in x ≡ y)
+    named : (s u b d : ℕ) → s ≡ u → b ≡ d →
+        (let x : SlotName = record { start = s; born = b } in let y : SlotName = record { start = u; born = d } in x ≡ y)
     named s u b d e f = rw (e, f) refl
 
 pub named_from : (name : SlotName) (t : Title) → name_of t ≡ name → is_named name t ≡ true

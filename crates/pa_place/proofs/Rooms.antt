@@ -26,7 +26,8 @@ rooms_opened s after blanks room spans maps lists h = record {
       let n = ap (λ v. vec_len v) spans in
       let m = ap (λ v. vec_capacity v) spans in (
         record {
-          lists = subst (λ l. HasRoomToList room.class (vec_len after.spans + room.takes) l) (sym lists) (subst (λ k. HasRoomToList room.class (k + room.takes) s.lists) (sym n) a.lists);
+          lists = subst (λ l. HasRoomToList room.class (vec_len after.spans + room.takes) l) (sym lists)
+              (subst (λ k. HasRoomToList room.class (k + room.takes) s.lists) (sym n) a.lists);
           room = let p = a.room in omega arith;
           few = let p = a.few in omega arith;
         },
@@ -46,7 +47,8 @@ pub record IsGivenRoom (s : Store) (blanks : List Span) (class want : ℕ) : Typ
   pub room : HasRoomFor s class want
   pub ready : HasBlanks class want blanks
 
-pub given_room : (s : Store) (ready : List Span) (room : Room) (class want : ℕ) → 1 ≤ want → HasTakes class want room → HasRooms s ready room → IsGivenRoom s ready class want
+pub given_room : (s : Store) (ready : List Span) (room : Room) (class want : ℕ) → 1 ≤ want → HasTakes class want room →
+    HasRooms s ready room → IsGivenRoom s ready class want
 given_room s ready room class want some takes h =
     let most = takes.many in
     let (a, b) = h.takes (omega arith) in

@@ -21,7 +21,8 @@ without_run_is first (t ∷ ts) = elim (cases_Bool (eqb t.first first)) [
   | inr miss ↦ rw miss (ap (λ xs. t ∷ xs) (without_run_is first ts))
 ]
 
-pub removed_is : (first k : ℕ) (ts : List Taken) → position (λ (t : Taken). eqb t.first first) ts ≡ Some k → remove ts k ≡ without_run first ts
+pub removed_is : (first k : ℕ) (ts : List Taken) → position (λ (t : Taken). eqb t.first first) ts ≡ Some k →
+    remove ts k ≡ without_run first ts
 removed_is first k ts e = removed_first (λ (t : Taken). eqb t.first first) k ts e ∙ without_run_is first ts
 
 pub none_removed : (first : ℕ) (ts : List Taken) → position (λ (t : Taken). eqb t.first first) ts ≡ None → ts ≡ without_run first ts
@@ -34,7 +35,8 @@ abbrev pub state_of : ℕ → ℕ → List Taken → PoolState
 state_of supers entries taken = record { supers = supers; entries = entries; taken = taken }
 
 -- a plan without one of its runs
-pub gave_sound : (supers entries next first : ℕ) (ts : List Taken) → IsSoundPlan (state_of supers entries ts) → IsSoundPlan (state_of supers next (without_run first ts))
+pub gave_sound : (supers entries next first : ℕ) (ts : List Taken) → IsSoundPlan (state_of supers entries ts) →
+    IsSoundPlan (state_of supers next (without_run first ts))
 gave_sound supers entries next first ts h = record {
   few = h.few;
   some = λ t among. h.some t (without_in first ts t among);
@@ -42,7 +44,8 @@ gave_sound supers entries next first ts h = record {
   apart = without_pairs RunsApart first ts h.apart;
 }
 
-pub entered_sound : (supers entries next : ℕ) (ts : List Taken) → IsSoundPlan (state_of supers entries ts) → IsSoundPlan (state_of supers next ts)
+pub entered_sound : (supers entries next : ℕ) (ts : List Taken) → IsSoundPlan (state_of supers entries ts) →
+    IsSoundPlan (state_of supers next ts)
 entered_sound supers entries next ts h = record { few = h.few; some = h.some; inside = h.inside; apart = h.apart }
 
 -- a plan with one run more, which was free
@@ -62,7 +65,8 @@ took_sound supers entries next ts t h some run = record {
 }
 
 -- runs that lie apart begin in different super pages
-firsts_differ : (ts : List Taken) → AllPairs RunsApart ts → ((t : Taken) → Contains ts t → 1 ≤ t.count) → AllPairs ◌≢◌ (map (λ (t : Taken). t.first) ts)
+firsts_differ : (ts : List Taken) → AllPairs RunsApart ts → ((t : Taken) → Contains ts t → 1 ≤ t.count) →
+    AllPairs ◌≢◌ (map (λ (t : Taken). t.first) ts)
 firsts_differ [] h some = pairs_none (λ (a b : ℕ). a ≢ b)
 firsts_differ (t ∷ ts) h some =
     pairs_cons (λ (a b : ℕ). a ≢ b) t.first (map (λ (t : Taken). t.first) ts)
@@ -80,7 +84,8 @@ firsts_differ (t ∷ ts) h some =
       | inr rest ↦ let (u, member, e) = mapped_from n ts rest in (u, later_in t u ts member, e)
     ]
 
-firsts_below : (ts : List Taken) (supers n : ℕ) → ((t : Taken) → Contains ts t → t.first < supers) → Contains (map (λ (t : Taken). t.first) ts) n → n < supers
+firsts_below : (ts : List Taken) (supers n : ℕ) → ((t : Taken) → Contains ts t → t.first < supers) →
+    Contains (map (λ (t : Taken). t.first) ts) n → n < supers
 firsts_below [] supers n h among = absurd (not_in_none n among)
 firsts_below (t ∷ ts) supers n h among = elim (in_cases t.first n (map (λ (t : Taken). t.first) ts) among) [
   | inl e ↦ let p = h t (first_in t ts) in omega arith
@@ -95,7 +100,8 @@ firsts_many (t ∷ ts) = ap (λ n. suc n) (firsts_many ts)
 pub runs_most : (supers entries : ℕ) (ts : List Taken) → IsSoundPlan (state_of supers entries ts) → length ts ≤ supers
 runs_most supers entries ts h =
     let firsts = map (λ (t : Taken). t.first) ts in
-    let low : (t : Taken) → Contains ts t → t.first < supers = λ t among. let p = h.inside t among in let q = h.some t among in omega arith in
+    let low : (t : Taken) → Contains ts t → t.first < supers = λ t among. let p = h.inside t among in let q = h.some t among in
+    omega arith in
     let e = length_is firsts supers (firsts_differ ts h.apart h.some) (λ n among. firsts_below ts supers n low among) in
     let most = passing_most (λ n. has n firsts) supers in
     let many = firsts_many ts in

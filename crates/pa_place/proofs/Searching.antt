@@ -9,14 +9,16 @@ use Rattle.pa_lists.proofs.Members.{of_some, not_some}
 use Rattle.pa_place.specs.Order.{IsBefore, starts_after, IsCut}
 
 -- two members by their places
-pub pairs_at : {A : Type 0} (R : A → A → Type 0) (xs : List A) (i j : ℕ) (x y : A) → AllPairs R xs → i < j → slice_get xs i ≡ Some x → slice_get xs j ≡ Some y → R x y
+pub pairs_at : {A : Type 0} (R : A → A → Type 0) (xs : List A) (i j : ℕ) (x y : A) → AllPairs R xs → i < j → slice_get xs i ≡ Some x →
+    slice_get xs j ≡ Some y → R x y
 pairs_at R xs i j x y h less e f =
     let at = h i j x less (slice_get_within xs j y f) in
     let left = subst (λ z. R z (get_or xs j x)) (get_or_from_slice_get xs i x x e) at in
     subst (λ z. R x z) (get_or_from_slice_get xs j y x f) left
 
 -- what stands first is found
-pub find_first : {A : Type 0} (test : A → Bool) (xs : List A) (k : ℕ) (x : A) → slice_get xs k ≡ Some x → test x ≡ true → ((i : ℕ) (y : A) → i < k → slice_get xs i ≡ Some y → test y ≡ false) →
+pub find_first : {A : Type 0} (test : A → Bool) (xs : List A) (k : ℕ) (x : A) → slice_get xs k ≡ Some x → test x ≡ true →
+    ((i : ℕ) (y : A) → i < k → slice_get xs i ≡ Some y → test y ≡ false) →
     find test xs ≡ Some x
 find_first test [] k x e hit h = absurd (not_some x e)
 find_first test (z ∷ xs) zero x e hit h = let f = of_some z x e in rw f (rw hit refl)
@@ -24,18 +26,21 @@ find_first test (z ∷ xs) (suc k) x e hit h =
     let miss : test z ≡ false = h 0 z (omega arith) refl in
     rw miss (find_first test xs k x e hit (λ i y less f. h (suc i) y (omega arith) f))
 
-pub find_nothing : {A : Type 0} (test : A → Bool) (xs : List A) → ((i : ℕ) (y : A) → slice_get xs i ≡ Some y → test y ≡ false) → find test xs ≡ None
+pub find_nothing : {A : Type 0} (test : A → Bool) (xs : List A) → ((i : ℕ) (y : A) → slice_get xs i ≡ Some y → test y ≡ false) →
+    find test xs ≡ None
 find_nothing test [] h = refl
 find_nothing test (z ∷ xs) h = let miss : test z ≡ false = h 0 z refl in rw miss (find_nothing test xs (λ i y f. h (suc i) y f))
 
 -- what a test says
-after_tells : (name : SlotName) (s : Span) → starts_after name s ≡ true → (name.born < s.born) ⊎ ((name.born ≡ s.born) × (name.start < s.place))
+after_tells : (name : SlotName) (s : Span) → starts_after name s ≡ true → (name.born < s.born) ⊎
+    ((name.born ≡ s.born) × (name.start < s.place))
 after_tells name s h = elim (or_cases _ _ h) [
   | inl later ↦ inl (ltb-true _ _ later)
   | inr same ↦ let (p, q) = and_parts _ _ same in inr (eqb-true _ _ p, ltb-true _ _ q)
 ]
 
-after_from : (name : SlotName) (s : Span) → ((name.born < s.born) ⊎ ((name.born ≡ s.born) × (name.start < s.place))) → starts_after name s ≡ true
+after_from : (name : SlotName) (s : Span) → ((name.born < s.born) ⊎ ((name.born ≡ s.born) × (name.start < s.place))) →
+    starts_after name s ≡ true
 after_from name s (inl later) = or_left _ _ (lt-ltb _ _ later)
 after_from name s (inr (same, less)) = or_right _ _ (and_from _ _ (eq-eqb _ _ same) (lt-ltb _ _ less))
 
@@ -85,13 +90,15 @@ held_not_after name v hit = elim (cases_Bool (starts_after name v)) [
   | inr not_after ↦ not_after
 ]
 
-pub held_found : (name : SlotName) (ss : List Span) (at : ℕ) (v : Span) → AllPairs IsBefore ss → slice_get ss at ≡ Some v → holds name v ≡ true → find (holds name) ss ≡ Some v
+pub held_found : (name : SlotName) (ss : List Span) (at : ℕ) (v : Span) → AllPairs IsBefore ss → slice_get ss at ≡ Some v →
+    holds name v ≡ true → find (holds name) ss ≡ Some v
 held_found name ss at v order e hit =
     find_first (holds name) ss at v e hit
     (λ i y less f. before_misses name y v (pairs_at IsBefore ss i at y v order less f e) (held_not_after name v hit))
 
 -- if the last span that doesn't start after a slot doesn't hold the slot, a search of the ordered spans finds none
-pub none_held : (name : SlotName) (ss : List Span) (at : ℕ) (v : Span) → AllPairs IsBefore ss → IsCut name ss (at + 1) → slice_get ss at ≡ Some v → holds name v ≡ false →
+pub none_held : (name : SlotName) (ss : List Span) (at : ℕ) (v : Span) → AllPairs IsBefore ss → IsCut name ss (at + 1) →
+    slice_get ss at ≡ Some v → holds name v ≡ false →
     find (holds name) ss ≡ None
 none_held name ss at v order cut e miss = find_nothing (holds name) ss (λ i y f. elim (order_of i at) [
   | inl less ↦ before_misses name y v (pairs_at IsBefore ss i at y v order less f e) (cut.before at v (omega arith) e)
@@ -125,7 +132,8 @@ not_after_stays name s t before h = elim (cases_Bool (starts_after name s)) [
   | inr not_after ↦ not_after
 ]
 
-pub cut_from : (name : SlotName) (ss : List Span) (m : ℕ) (v : Span) → AllPairs IsBefore ss → slice_get ss m ≡ Some v → starts_after name v ≡ true →
+pub cut_from : (name : SlotName) (ss : List Span) (m : ℕ) (v : Span) → AllPairs IsBefore ss → slice_get ss m ≡ Some v →
+    starts_after name v ≡ true →
     (i : ℕ) (s : Span) → m ≤ i → slice_get ss i ≡ Some s → starts_after name s ≡ true
 cut_from name ss m v order e hit i s more f = elim (cases_lt m i) [
   | inl less ↦ after_stays name v s (pairs_at IsBefore ss m i v s order less e f) hit
@@ -134,7 +142,8 @@ cut_from name ss m v order e hit i s more f = elim (cases_lt m i) [
       subst (λ z. starts_after name z ≡ true) (of_some v s (sym e ∙ ap (slice_get ss) same ∙ f)) hit
 ]
 
-pub cut_to : (name : SlotName) (ss : List Span) (m : ℕ) (v : Span) → AllPairs IsBefore ss → slice_get ss m ≡ Some v → starts_after name v ≡ false →
+pub cut_to : (name : SlotName) (ss : List Span) (m : ℕ) (v : Span) → AllPairs IsBefore ss → slice_get ss m ≡ Some v →
+    starts_after name v ≡ false →
     (i : ℕ) (s : Span) → i < m + 1 → slice_get ss i ≡ Some s → starts_after name s ≡ false
 cut_to name ss m v order e miss i s less f = elim (cases_lt i m) [
   | inl below ↦ not_after_stays name s v (pairs_at IsBefore ss i m s v order below f e) miss

@@ -20,7 +20,8 @@ set_other (z ∷ xs) zero (suc j) y other = refl
 set_other (z ∷ xs) (suc i) zero y other = refl
 set_other (z ∷ xs) (suc i) (suc j) y other = set_other xs i j y (λ e. other (ap suc e))
 
-pub set_parts : {A : Type 0} (xs : List A) (i j : ℕ) (x y v : A) → slice_get xs i ≡ Some x → slice_get (set xs i y) j ≡ Some v → ((j ≡ i) × (v ≡ y)) ⊎ ((j ≢ i) × (slice_get xs j ≡ Some v))
+pub set_parts : {A : Type 0} (xs : List A) (i j : ℕ) (x y v : A) → slice_get xs i ≡ Some x → slice_get (set xs i y) j ≡ Some v →
+    ((j ≡ i) × (v ≡ y)) ⊎ ((j ≢ i) × (slice_get xs j ≡ Some v))
 set_parts xs i j x y v e f = elim (cases_Bool (eqb j i)) [
   | inl hit ↦
       let same = eqb-true j i hit in
@@ -31,7 +32,8 @@ set_parts xs i j x y v e f = elim (cases_Bool (eqb j i)) [
 ]
 
 -- how many pass
-pub count_set : (test : Span → Bool) (ss : List Span) (i : ℕ) (s t : Span) → slice_get ss i ≡ Some s → count_by test (set ss i t) + one_if (test s) ≡ count_by test ss + one_if (test t)
+pub count_set : (test : Span → Bool) (ss : List Span) (i : ℕ) (s t : Span) → slice_get ss i ≡ Some s →
+    count_by test (set ss i t) + one_if (test s) ≡ count_by test ss + one_if (test t)
 count_set test [] i s t e = absurd (not_some s e)
 count_set test (u ∷ ss) zero s t e =
     let a = sum_by-cons (λ (z : Span). cond (test z) 1 0) t ss in
@@ -49,7 +51,8 @@ one_most : (a b : Bool) → (a ≡ true → b ≡ true) → one_if a ≤ one_if 
 one_most true b more = let f : one_if b ≡ 1 = ap one_if (more refl) in omega arith
 one_most false b more = omega arith
 
-counts_most : (narrow wide : Span → Bool) (ss : List Span) → ((v : Span) → narrow v ≡ true → wide v ≡ true) → count_by narrow ss ≤ count_by wide ss
+counts_most : (narrow wide : Span → Bool) (ss : List Span) → ((v : Span) → narrow v ≡ true → wide v ≡ true) →
+    count_by narrow ss ≤ count_by wide ss
 counts_most narrow wide [] more = omega arith
 counts_most narrow wide (u ∷ ss) more =
     let a = sum_by-cons (λ (z : Span). cond (narrow z) 1 0) u ss in
@@ -59,7 +62,8 @@ counts_most narrow wide (u ∷ ss) more =
     omega arith
 
 -- fewer spans pass a test than one that is wider if one passes only the latter
-pub counts_less : (narrow wide : Span → Bool) (ss : List Span) (i : ℕ) (s : Span) → ((v : Span) → narrow v ≡ true → wide v ≡ true) → slice_get ss i ≡ Some s → narrow s ≡ false → wide s ≡ true →
+pub counts_less : (narrow wide : Span → Bool) (ss : List Span) (i : ℕ) (s : Span) → ((v : Span) → narrow v ≡ true → wide v ≡ true) →
+    slice_get ss i ≡ Some s → narrow s ≡ false → wide s ≡ true →
     count_by narrow ss < count_by wide ss
 counts_less narrow wide [] i s more e misses hits = absurd (not_some s e)
 counts_less narrow wide (u ∷ ss) zero s more e misses hits =

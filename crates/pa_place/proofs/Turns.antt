@@ -12,7 +12,8 @@ use Rattle.pa_place.proofs.Listing.{once_in_turn}
 use Rattle.pa_lists.proofs.Indexed.{at_in, element_at}
 
 -- a step of the search for a turn
-pub turns_below : (ss : List Span) (turn : ℕ) (ids : List ℕ) (m i : ℕ) (v : Span) → IsInTurn ss ids → slice_get ids m ≡ Some i → slice_get ss i ≡ Some v → v.turn < turn →
+pub turns_below : (ss : List Span) (turn : ℕ) (ids : List ℕ) (m i : ℕ) (v : Span) → IsInTurn ss ids → slice_get ids m ≡ Some i →
+    slice_get ss i ≡ Some v → v.turn < turn →
     (k j : ℕ) (s : Span) → k < m + 1 → slice_get ids k ≡ Some j → slice_get ss j ≡ Some s → s.turn < turn
 turns_below ss turn ids m i v h e f less k j s below g q = elim (cases_lt k m) [
   | inl before ↦
@@ -25,7 +26,8 @@ turns_below ss turn ids m i v h e f less k j s below g q = elim (cases_lt k m) [
       omega arith
 ]
 
-pub turns_above : (ss : List Span) (turn : ℕ) (ids : List ℕ) (m i : ℕ) (v : Span) → IsInTurn ss ids → slice_get ids m ≡ Some i → slice_get ss i ≡ Some v → turn ≤ v.turn →
+pub turns_above : (ss : List Span) (turn : ℕ) (ids : List ℕ) (m i : ℕ) (v : Span) → IsInTurn ss ids → slice_get ids m ≡ Some i →
+    slice_get ss i ≡ Some v → turn ≤ v.turn →
     (k j : ℕ) (s : Span) → m ≤ k → slice_get ids k ≡ Some j → slice_get ss j ≡ Some s → turn ≤ s.turn
 turns_above ss turn ids m i v h e f more k j s above g q = elim (cases_lt m k) [
   | inl before ↦
@@ -39,7 +41,8 @@ turns_above ss turn ids m i v h e f more k j s above g q = elim (cases_lt m k) [
 ]
 
 -- a span that is listed is at the cut of its turn
-at_cut : (ss : List Span) (ids : List ℕ) (at k count : ℕ) (s : Span) → IsInTurn ss ids → IsTurnCut ss s.turn ids count → slice_get ss at ≡ Some s → slice_get ids k ≡ Some at → k ≡ count
+at_cut : (ss : List Span) (ids : List ℕ) (at k count : ℕ) (s : Span) → IsInTurn ss ids → IsTurnCut ss s.turn ids count →
+    slice_get ss at ≡ Some s → slice_get ids k ≡ Some at → k ≡ count
 at_cut ss ids at k count s h cut e f = elim (cases_lt k count) [
   | inl sooner ↦ let less = cut.before k at s sooner f e in omega arith
   | inr no_sooner ↦ elim (cases_lt count k) [
@@ -68,7 +71,8 @@ removed_at (j ∷ ids) (suc k) i once e =
     let other = not_same j i (pairs_head ◌≢◌ j i ids once (at_in ids k i e)) in
     rw other (ap (λ xs. j ∷ xs) (removed_at ids k i (pairs_tail ◌≢◌ j ids once) e))
 
-pub removed_cut : (ss : List Span) (ids : List ℕ) (k i : ℕ) → IsInTurn ss ids → slice_get ids k ≡ Some i → remove ids k ≡ without_index i ids
+pub removed_cut : (ss : List Span) (ids : List ℕ) (k i : ℕ) → IsInTurn ss ids → slice_get ids k ≡ Some i →
+    remove ids k ≡ without_index i ids
 removed_cut ss ids k i h e = removed_at ids k i (once_in_turn ss ids h) e
 
 -- taking out an index that isn't in a list leaves the list as it is
@@ -79,7 +83,8 @@ absent_without i (k ∷ ids) away = elim (cases_Bool (eqb k i)) [
   | inr miss ↦ rw miss (ap (λ xs. k ∷ xs) (absent_without i ids (λ among. away (later_in k i ids among))))
 ]
 
-pub none_at_cut : (ss : List Span) (ids : List ℕ) (at count : ℕ) (s : Span) → IsInTurn ss ids → IsTurnCut ss s.turn ids count → slice_get ss at ≡ Some s → (slice_get ids count ≡ Some at → ⊥) →
+pub none_at_cut : (ss : List Span) (ids : List ℕ) (at count : ℕ) (s : Span) → IsInTurn ss ids → IsTurnCut ss s.turn ids count →
+    slice_get ss at ≡ Some s → (slice_get ids count ≡ Some at → ⊥) →
     ids ≡ without_index at ids
 none_at_cut ss ids at count s h cut e other = absent_without at ids (λ (k, below, f).
     let here : slice_get ids k ≡ Some at = slice_get-get_or ids k at below ∙ ap Some f in

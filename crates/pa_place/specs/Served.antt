@@ -9,7 +9,18 @@ use Rattle.pa_record.specs.Spans.{Span, bytes_of, title_at, with_free, without_f
 -- a span of the class that has no place yet, nothing of which is committed
 abbrev pub blank_span : ℕ → Span
 blank_span class =
-    record { place = 0; born = 0; class = class; state = state.None; turn = 0; allocated = 0; provisioned = 0; committed = 0; made = 0; free = [] }
+    record {
+      place = 0;
+      born = 0;
+      class = class;
+      state = state.None;
+      turn = 0;
+      allocated = 0;
+      provisioned = 0;
+      committed = 0;
+      made = 0;
+      free = [];
+    }
 
 -- there is a list for each class, in which all are blank spans of it
 pub record AreBlank (lists : Vec (Vec Span Global) Global) : Type 0 where

@@ -59,7 +59,8 @@ HaveTurns ss turn = (i : ℕ) (s : Span) → slice_get ss i ≡ Some s → is_in
 -- the root in which the span there entered the state
 abbrev pub EntersAt : Root → Root → ℕ → State → Type 0
 EntersAt r after at to =
-    (s : Span) → slice_get r.spans at ≡ Some s → after ≡ record r { spans = slice_set r.spans at (in_state to r.turn s); turn = turn_after to r.turn s }
+    (s : Span) → slice_get r.spans at ≡ Some s →
+    after ≡ record r { spans = slice_set r.spans at (in_state to r.turn s); turn = turn_after to r.turn s }
 
 -- What a store keeps between calls: a sound root of which at most 16 spans are empty, whose spans are in order and listed
 -- by their states, and lists that aren't too long.

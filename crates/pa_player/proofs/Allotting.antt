@@ -37,7 +37,8 @@ use Rattle.pa_player.proofs.Issuable.{IsIssuable, IsFillable, issue_new, front_i
 use Rattle.pa_rules.proofs.Versions.{real_in, direct_in}
 
 -- what is reported is no matter
-fillable_acted : (thread q class at k : ℕ) (acts : List RootAct) (s : Player) → IsFillable thread q class at s → IsFillable thread q class at (acted k acts s)
+fillable_acted : (thread q class at k : ℕ) (acts : List RootAct) (s : Player) → IsFillable thread q class at s →
+    IsFillable thread q class at (acted k acts s)
 fillable_acted thread q class at k acts s h = record {
   threads = h.threads;
   slots = h.slots;
@@ -50,7 +51,8 @@ fillable_acted thread q class at k acts s h = record {
 }
 
 -- the title of a direct map
-map_titled : (len asked : ℕ) (pool next : PoolState) (r : Root) (f : Filled) (t : Title) → Maps len pool next r f (Some asked) → f.titles ≡ t ∷ [] → (t.born ≡ pool.entries) × (t.len ≡ len)
+map_titled : (len asked : ℕ) (pool next : PoolState) (r : Root) (f : Filled) (t : Title) → Maps len pool next r f (Some asked) →
+    f.titles ≡ t ∷ [] → (t.born ≡ pool.entries) × (t.len ≡ len)
 map_titled len asked pool next r f t (None, ask, is) got = absurd (not_cons (sym (ap (λ (g : Filled). g.titles) is) ∙ got))
   where
     not_cons : [] ≡ t ∷ [] → ⊥
@@ -62,7 +64,8 @@ map_titled len asked pool next r f t (Some first, ask, is) got =
     first_same : (u v : Title) → u ∷ [] ≡ v ∷ [] → u ≡ v
     first_same u v e = cc
 
-module _ (region partitions threads : ℕ) (ls : List Line) (p : Player) (thread reg q size : ℕ) (can : CanGoOn region partitions threads ls (Do thread (ops.Alloc reg q size)) p) where
+module _ (region partitions threads : ℕ) (ls : List Line) (p : Player) (thread reg q size : ℕ)
+    (can : CanGoOn region partitions threads ls (Do thread (ops.Alloc reg q size)) p) where
   abbrev h : IsPlaying region partitions threads ls p
   h = can.playing
 
@@ -120,20 +123,24 @@ module _ (region partitions threads : ℕ) (ls : List Line) (p : Player) (thread
     slot_len : (i : ℕ) → i < length p.table → (slot_at p.table i).class ≡ Some class → (slot_at p.table i).title.len ≡ slot_of class
     slot_len i inside kind = (subst (IsLetOut p.version (journals p) (slot_at p.table i)) kind (h.slots.let_out i inside)).2
 
-    filled : (r : Player) → list_in p (list_place p.version p.partitions thread q class) ≡ [] → IsFilled q (list_place p.version p.partitions thread q class) class p r
+    filled : (r : Player) → list_in p (list_place p.version p.partitions thread q class) ≡ [] →
+        IsFilled q (list_place p.version p.partitions thread q class) class p r
         → CanIssueFront thread reg q (list_place p.version p.partitions thread q class) r
     filled r empty f =
         let at = list_place p.version p.partitions thread q class in
         let (first, others, got) = first_of f.placed.titles.items f.some in
         let start = asked_in q 1 f.placed.titles.items f.placed.pool (placed_in q f.after f.plan p) in
         let same : start.table ≡ p.table = table_asked q p f.after f.plan f.placed.titles.items f.placed.pool in
-        let put = fillable_put thread q class at f.placed.titles.items start f.put f.slots (fillable_asked thread q class at p f.after f.plan f.placed.titles.items f.placed.pool fillable)
+        let put = fillable_put thread q class at f.placed.titles.items start f.put f.slots
+        (fillable_asked thread q class at p f.after f.plan f.placed.titles.items f.placed.pool fillable)
         (λ t among.
-        let len = taken_len region partitions threads ls p thread reg q size class can of empty f.plan f.after f.placed f.did first others got t among in
+        let len = taken_len region partitions threads ls p thread reg q size class can of empty f.plan f.after f.placed f.did first others
+        got t among in
         let P : List Slot → Type 0 = λ zs. (i : ℕ) → i < length zs → named_at zs i ≡ name_of t → IsIssuable zs q class i in (
           len,
           subst P (sym same) (λ i inside is.
-              let free = taken_free region partitions threads ls p thread reg q size class can of empty f.plan f.after f.placed f.did first others got t among i inside is in
+              let free = taken_free region partitions threads ls p thread reg q size class can of empty f.plan f.after f.placed f.did first
+              others got t among i inside is in
               record {
                 inside = inside;
                 step = issues region partitions threads ls p thread (ops.Alloc reg q size) can i inside free.held free.refs;
@@ -143,7 +150,8 @@ module _ (region partitions threads : ℕ) (ls : List Line) (p : Player) (thread
         ))
         f.puts in
         subst (CanIssueFront thread reg q at) (sym f.acted)
-        (front_issued thread reg q class at (acted q (Fill class f.placed.pool f.slots ∷ []) f.put) can.within.1.0 (omega (arith, low, h.shaped.four)) (real_in p.version class (of.from, of.real))
+        (front_issued thread reg q class at (acted q (Fill class f.placed.pool f.slots ∷ []) f.put) can.within.1.0
+        (omega (arith, low, h.shaped.four)) (real_in p.version class (of.from, of.real))
         (fillable_acted thread q class at q (Fill class f.placed.pool f.slots ∷ []) f.put put))
 
     pub can_slot : CanAllocateSlot thread reg q class p
@@ -178,7 +186,8 @@ module _ (region partitions threads : ℕ) (ls : List Line) (p : Player) (thread
               absurd (omega (arith, born, same, titled.0, entries))
           | inr last ↦
               let N : List Slot → ℕ → Type 0 = λ zs k. (k < length zs) × (slot_at zs k ≡ new) in
-              let at : N (p.table ++ new ∷ []) (length p.table) = (omega (arith, length_push p.table new), get_or_push p.table new no_slot (length p.table) refl) in
+              let at : N (p.table ++ new ∷ []) (length p.table) =
+              (omega (arith, length_push p.table new), get_or_push p.table new no_slot (length p.table) refl) in
               subst (N m.table) (sym last.1) (subst (λ zs. N zs (length p.table)) (sym last.0) at)
         ] in
         let T : ℕ → Type 0 = λ k. ((tally_at p.live.of k).slots < 2 ^ 31) × ((tally_at p.live.of k).bytes < 2 ^ 62) in

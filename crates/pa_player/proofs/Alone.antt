@@ -75,8 +75,10 @@ not_busy w none = elim (cases_eq (held_of w + refs_of w) 0) [
   | inr some ↦ let one = busy_some w (omega arith) in absurd (omega arith)
 ]
 
-let_out_left : (version : ℕ) (roots : Journals) (x : Slot) (s : SlotName) (class : Option ℕ) → s ≡ named_at (x ∷ []) 0 → IsLetOut version roots x class → HasLeft roots x.partition s
-let_out_left version roots x s (Some class) is of = subst (λ z. HasLeft roots x.partition z) (sym is) (class_leaves roots (named_at (x ∷ []) 0) x.partition class of.1)
+let_out_left : (version : ℕ) (roots : Journals) (x : Slot) (s : SlotName) (class : Option ℕ) → s ≡ named_at (x ∷ []) 0 →
+    IsLetOut version roots x class → HasLeft roots x.partition s
+let_out_left version roots x s (Some class) is of =
+    subst (λ z. HasLeft roots x.partition z) (sym is) (class_leaves roots (named_at (x ∷ []) 0) x.partition class of.1)
 let_out_left version roots x s None is (e, asked, among, act) =
     subst (λ z. HasLeft roots x.partition z) (sym is)
     (e, among, subst (λ a. Contains (leaves_by a) (named_at (x ∷ []) 0)) (sym act) (first_in (named_at (x ∷ []) 0) []))
@@ -99,17 +101,21 @@ module _ (region partitions threads : ℕ) (ls : List Line) (p : Player) (h : Is
 
   -- a slot is in the lists or is in use, once, or it is in the root
   is_once : (i t : ℕ) → i < length p.table → IsOnce (root_at p.told.pools (journals p) (slot_at p.table i).partition) (named_at p.table i)
-      (cached_times (named_at p.table i) (caches p) (slot_at p.table i).partition (max (t + 1) (threads_of h.ps)) + busy (slot_at p.table i).word.0)
+      (cached_times (named_at p.table i) (caches p) (slot_at p.table i).partition (max (t + 1) (threads_of h.ps)) + busy
+      (slot_at p.table i).word.0)
   is_once i t low =
-      stands_once region partitions (length ls + 2) ls h.ps p.told.pools (journals p) (caches p) so_far (slot_at p.table i).partition t (named_at p.table i) (slot_at p.table i).word.0
-      (h.slots.among i low) (let_out_left p.version (journals p) (slot_at p.table i) (named_at p.table i) (slot_at p.table i).class refl (h.slots.let_out i low)) (has_word i low)
+      stands_once region partitions (length ls + 2) ls h.ps p.told.pools (journals p) (caches p) so_far (slot_at p.table i).partition t
+      (named_at p.table i) (slot_at p.table i).word.0
+      (h.slots.among i low) (let_out_left p.version (journals p) (slot_at p.table i) (named_at p.table i) (slot_at p.table i).class refl
+      (h.slots.let_out i low)) (has_word i low)
 
   away : (i : ℕ) → IsNameOut (root_at p.told.pools (journals p) (slot_at p.table i).partition) (named_at p.table i) → IsAway p i
   away i out =
       let q = (slot_at p.table i).partition in
       record {
         out = subst (λ r. IsNameOut r (named_at p.table i)) (sym (h.roots q)) out;
-        none = out_none p.told.pools (journals p q) (named_at p.table i) (h.placed.journals q) (h.placed.numbers q (named_at p.table i)) out;
+        none = out_none p.told.pools (journals p q) (named_at p.table i) (h.placed.journals q)
+            (h.placed.numbers q (named_at p.table i)) out;
       }
 
   pub used_away : (i : ℕ) → i < length p.table → 0 < held_of (slot_at p.table i).word.0 + refs_of (slot_at p.table i).word.0 → IsAway p i
@@ -121,13 +127,15 @@ module _ (region partitions threads : ℕ) (ls : List Line) (p : Player) (h : Is
       ]
 
   -- a member of a list, with its number
-  listed_cached : (i t q class : ℕ) → q < partitions → HasClass p.version class → Contains (list_at p t q class) i → Contains (caches p t q class) (numbered_at p.table i)
+  listed_cached : (i t q class : ℕ) → q < partitions → HasClass p.version class → Contains (list_at p t q class) i →
+      Contains (caches p t q class) (numbered_at p.table i)
   listed_cached i t q class inside real among =
       let a : nat_lt q p.partitions ≡ true = lt-ltb q p.partitions (omega (arith, inside, h.shaped.many)) in
       let b : is_class p.version class ≡ true = class_yes p.version class real in
       rw (a, b) (map_in (numbered_at p.table) (list_at p t q class) i among)
 
-  some_here : (i t q class bound : ℕ) → q < partitions → HasClass p.version class → t < bound → Contains (list_at p t q class) i → 1 ≤ cached_times (named_at p.table i) (caches p) q bound
+  some_here : (i t q class bound : ℕ) → q < partitions → HasClass p.version class → t < bound → Contains (list_at p t q class) i →
+      1 ≤ cached_times (named_at p.table i) (caches p) q bound
   some_here i t q class bound inside real below among = some_cached (caches p) q bound t class (numbered_at p.table i) below
       (real_in p.version class real) (listed_cached i t q class inside real among)
 
@@ -138,7 +146,8 @@ module _ (region partitions threads : ℕ) (ls : List Line) (p : Player) (h : Is
   some_of : (i t q class bound : ℕ) → t < threads → q < partitions → HasClass p.version class → t < bound → Contains (list_at p t q class) i
       → 1 ≤ cached_times (named_at p.table i) (caches p) (slot_at p.table i).partition bound
   some_of i t q class bound below inside real under among =
-      subst (λ k. 1 ≤ cached_times (named_at p.table i) (caches p) k bound) (sym (in_table i t q class below inside real among).1) (some_here i t q class bound inside real under among)
+      subst (λ k. 1 ≤ cached_times (named_at p.table i) (caches p) k bound) (sym (in_table i t q class below inside real among).1)
+      (some_here i t q class bound inside real under among)
 
   pub used_unlisted : (i t q class : ℕ) → i < length p.table → 0 < held_of (slot_at p.table i).word.0 + refs_of (slot_at p.table i).word.0
       → t < threads → q < partitions → HasClass p.version class → Contains (list_at p t q class) i → ⊥
@@ -150,7 +159,8 @@ module _ (region partitions threads : ℕ) (ls : List Line) (p : Player) (h : Is
         | inr inside_it ↦ let none = inside_it.1 in omega arith
       ]
 
-  pub listed_away : (i t q class : ℕ) → t < threads → q < partitions → HasClass p.version class → Contains (list_at p t q class) i → IsAway p i
+  pub listed_away : (i t q class : ℕ) → t < threads → q < partitions → HasClass p.version class → Contains (list_at p t q class) i →
+      IsAway p i
   listed_away i t q class below inside real among =
       let some = some_of i t q class (max (t + 1) (threads_of h.ps)) below inside real (omega arith) among in
       elim (is_once i t (in_table i t q class below inside real among).0) [
@@ -158,7 +168,8 @@ module _ (region partitions threads : ℕ) (ls : List Line) (p : Player) (h : Is
         | inr inside_it ↦ let none = inside_it.1 in absurd (omega arith)
       ]
 
-  pub listed_free : (i t q class : ℕ) → t < threads → q < partitions → HasClass p.version class → Contains (list_at p t q class) i → IsFree p i
+  pub listed_free : (i t q class : ℕ) → t < threads → q < partitions → HasClass p.version class → Contains (list_at p t q class) i →
+      IsFree p i
   listed_free i t q class below inside real among =
       let some = some_of i t q class (max (t + 1) (threads_of h.ps)) below inside real (omega arith) among in
       let idle : busy (slot_at p.table i).word.0 ≡ 0 = elim (is_once i t (in_table i t q class below inside real among).0) [
@@ -169,18 +180,22 @@ module _ (region partitions threads : ℕ) (ls : List Line) (p : Player) (h : Is
       record { held = free.0; refs = free.1 }
 
   -- how often a list has a slot, and all of a thread's lists of a partition
-  stands_here : (i t q class : ℕ) → q < partitions → HasClass p.version class → Contains (list_at p t q class) i → 1 ≤ stands (named_at p.table i) (caches p t q class)
+  stands_here : (i t q class : ℕ) → q < partitions → HasClass p.version class → Contains (list_at p t q class) i →
+      1 ≤ stands (named_at p.table i) (caches p t q class)
   stands_here i t q class inside real among =
-      some_times (named_at p.table i) (names (caches p t q class)) (map_in (λ (n : Numbered). n.slot) (caches p t q class) (numbered_at p.table i) (listed_cached i t q class inside real among))
+      some_times (named_at p.table i) (names (caches p t q class))
+      (map_in (λ (n : Numbered). n.slot) (caches p t q class) (numbered_at p.table i) (listed_cached i t q class inside real among))
 
-  listed_some : (i t q class : ℕ) → q < partitions → HasClass p.version class → Contains (list_at p t q class) i → 1 ≤ listed_times (named_at p.table i) (caches p t q) 0 170
+  listed_some : (i t q class : ℕ) → q < partitions → HasClass p.version class → Contains (list_at p t q class) i →
+      1 ≤ listed_times (named_at p.table i) (caches p t q) 0 170
   listed_some i t q class inside real among =
       let a = listed_least (named_at p.table i) (caches p t q) class 0 170 (omega arith) (omega (arith, real_in p.version class real)) in
       let b = stands_here i t q class inside real among in
       omega arith
 
   -- in no other list, and after the front of a list it isn't there again
-  pub listed_once : (i t q class u k c : ℕ) → t < threads → q < partitions → HasClass p.version class → u < threads → k < partitions → HasClass p.version c
+  pub listed_once : (i t q class u k c : ℕ) → t < threads → q < partitions → HasClass p.version class → u < threads → k < partitions →
+      HasClass p.version c
       → Contains (list_at p t q class) i → Contains (list_at p u k c) i → (t ≡ u) × (q ≡ k) × (class ≡ c)
   listed_once i t q class u k c below inside real lower within known there here =
       let a = in_table i t q class below inside real there in
@@ -189,7 +204,8 @@ module _ (region partitions threads : ℕ) (ls : List Line) (p : Player) (h : Is
       let thread : t ≡ u = elim (cases_eq t u) [
         | inl e ↦ e
         | inr apart ↦
-            let two = cached_two (named_at p.table i) (caches p) q (max (max t u + 1) (threads_of h.ps)) t u (omega arith) (omega arith) apart in
+            let two = cached_two (named_at p.table i) (caches p) q (max (max t u + 1) (threads_of h.ps)) t u (omega arith)
+            (omega arith) apart in
             let x = listed_some i t q class inside real there in
             let y = listed_some i u q c inside known (subst (λ z. Contains (list_at p u z c) i) (sym same) here) in
             let one = is_once i (max t u) a.0 in
@@ -206,20 +222,24 @@ module _ (region partitions threads : ℕ) (ls : List Line) (p : Player) (h : Is
       ] in
       (thread, same, some_same class c (sym a.2 ∙ b.2))
 
-  twice : (i t q class : ℕ) (rest : List ℕ) → q < partitions → HasClass p.version class → list_at p t q class ≡ i ∷ rest → Contains rest i → 2 ≤ stands (named_at p.table i) (caches p t q class)
+  twice : (i t q class : ℕ) (rest : List ℕ) → q < partitions → HasClass p.version class → list_at p t q class ≡ i ∷ rest → Contains rest i →
+      2 ≤ stands (named_at p.table i) (caches p t q class)
   twice i t q class rest inside real is among =
       let a : nat_lt q p.partitions ≡ true = lt-ltb q p.partitions (omega (arith, inside, h.shaped.many)) in
       let b : is_class p.version class ≡ true = class_yes p.version class real in
       let s = named_at p.table i in
-      let here : caches p t q class ≡ numbered_at p.table i ∷ map (numbered_at p.table) rest = rw (a, b) (ap (map (numbered_at p.table)) is) in
+      let here : caches p t q class ≡ numbered_at p.table i ∷ map (numbered_at p.table) rest =
+      rw (a, b) (ap (map (numbered_at p.table)) is) in
       let more = times_cons s s (names (map (numbered_at p.table) rest)) in
       let first : once s s ≡ 1 = rw (same_slot_yes s s refl) refl in
       let some = some_times s (names (map (numbered_at p.table) rest))
-      (map_in (λ (n : Numbered). n.slot) (map (numbered_at p.table) rest) (numbered_at p.table i) (map_in (numbered_at p.table) rest i among)) in
+      (map_in (λ (n : Numbered). n.slot) (map (numbered_at p.table) rest) (numbered_at p.table i)
+      (map_in (numbered_at p.table) rest i among)) in
       let all : stands s (caches p t q class) ≡ times s (s ∷ names (map (numbered_at p.table) rest)) = ap (stands s) here in
       omega arith
 
-  pub front_once : (i t q class : ℕ) (rest : List ℕ) → t < threads → q < partitions → HasClass p.version class → list_at p t q class ≡ i ∷ rest → Contains rest i → ⊥
+  pub front_once : (i t q class : ℕ) (rest : List ℕ) → t < threads → q < partitions → HasClass p.version class →
+      list_at p t q class ≡ i ∷ rest → Contains rest i → ⊥
   front_once i t q class rest below inside real is among =
       let there : Contains (list_at p t q class) i = subst (λ z. Contains z i) (sym is) (first_in i rest) in
       let at = in_table i t q class below inside real there in

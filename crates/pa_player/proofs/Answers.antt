@@ -62,7 +62,8 @@ read_refuses p thread reg place answer refused =
     let r = register_at p thread reg in
     none_plays p thread (ops.Read reg place) answer (read_refusal TellsNone r answer refused tt tt)
     (read_refusal (KeepsLists (ops.Read reg place)) r answer refused tt tt) (λ cell i e. cc)
-    (read_refused (named_at p.table) r answer (facts_of (rules_at p).version (shown p).usable (shown p).cells) ((shown p).regs thread) place refused)
+    (read_refused (named_at p.table) r answer (facts_of (rules_at p).version (shown p).usable (shown p).cells)
+    ((shown p).regs thread) place refused)
 
 -- ---- a register that is full
 
@@ -86,7 +87,8 @@ copy_filled p thread from to i points full = none_plays p thread (ops.Copy from 
 pub alloc_filled : (p : Player) (thread reg partition size : ℕ) → HasSomeHandle (register_at p thread reg)
     → Plays p thread (ops.Alloc reg partition size) p answers.Filled
 alloc_filled p thread reg partition size full = none_plays p thread (ops.Alloc reg partition size) answers.Filled tt tt (λ cell r e. cc)
-    (alloc_row_filled (named_at p.table) (register_at p thread reg) (facts_of (rules_at p).version (shown p).usable (shown p).cells) ((shown p).regs thread) reg size full)
+    (alloc_row_filled (named_at p.table) (register_at p thread reg) (facts_of (rules_at p).version (shown p).usable (shown p).cells)
+    ((shown p).regs thread) reg size full)
 
 -- ---- a request
 
@@ -103,5 +105,6 @@ pub alloc_too_large : (p : Player) (thread reg partition size : ℕ) → HasNone
     → Plays p thread (ops.Alloc reg partition size) p answers.TooLarge
 alloc_too_large p thread reg partition size none large =
     none_plays p thread (ops.Alloc reg partition size) answers.TooLarge tt tt (λ cell r e. cc)
-    (request_row p.table (register_at p thread reg) (facts_of (rules_at p).version (shown p).usable (shown p).cells) ((shown p).regs thread) reg size
+    (request_row p.table (register_at p thread reg) (facts_of (rules_at p).version (shown p).usable (shown p).cells)
+    ((shown p).regs thread) reg size
     answers.TooLarge none (inl (large, refl, λ k. refl)))

@@ -29,7 +29,8 @@ use Rattle.pa_lists.proofs.Elements.{take_in, drop_in}
 
 -- the move brings a slot of the table back, at the number of its word
 abbrev pub ComesBack : List Slot → Move → Type 0
-ComesBack slots m = (m.way ≡ Back) × (i : ℕ) × (i < length slots) × (m.slot ≡ named_at slots i) × (m.number ≡ number_of (slot_at slots i).word.0)
+ComesBack slots m = (m.way ≡ Back) × (i : ℕ) × (i < length slots) × (m.slot ≡ named_at slots i) ×
+    (m.number ≡ number_of (slot_at slots i).word.0)
 
 -- each slot that an act moves comes back so
 abbrev pub BringsBack : List Slot → RootAct → Type 0
@@ -42,7 +43,8 @@ pub no_members : {A : Type 0} (xs : List A) → ((x : A) → Contains xs x → �
 no_members [] none = refl
 no_members (x ∷ xs) none = absurd (none x (first_in x xs))
 
-pub move_by : (n : ℕ) (acts : List RootAct) (s : SlotName) (m : Move) → Contains (moves_of (entries_at n acts) s) m → (a : RootAct) × Contains acts a × Contains (moves_by n a) m × (m.slot ≡ s)
+pub move_by : (n : ℕ) (acts : List RootAct) (s : SlotName) (m : Move) → Contains (moves_of (entries_at n acts) s) m → (a : RootAct) ×
+    Contains acts a × Contains (moves_by n a) m × (m.slot ≡ s)
 move_by n acts s m among =
     let (all, passes) = filter_cases (is_of s) (all_moves (entries_at n acts)) m among in
     let (e, member, moves) = flat_cases (λ (e : RootEntry). moves_by e.line e.act) (entries_at n acts) m all in
@@ -50,14 +52,16 @@ move_by n acts s m among =
     (e.act, act, subst (λ k. Contains (moves_by k e.act) m) line moves, same_slot_eq m.slot s passes)
 
 -- no move of a slot that isn't in the table
-pub back_others : (slots : List Slot) (n : ℕ) (acts : List RootAct) (s : SlotName) → AllComeBack slots acts → NoneNamed slots s → moves_of (entries_at n acts) s ≡ []
+pub back_others : (slots : List Slot) (n : ℕ) (acts : List RootAct) (s : SlotName) → AllComeBack slots acts → NoneNamed slots s →
+    moves_of (entries_at n acts) s ≡ []
 back_others slots n acts s back none = no_members (moves_of (entries_at n acts) s) (λ m among.
     let (a, member, moves, is) = move_by n acts s m among in
     let (way, i, low, named, number) = back a member n m moves in
     none i low (sym named ∙ is))
 
 -- where the root has a slot after moves that bring it back
-after_backs : (at : Option ℕ) (ms : List Move) (k n : ℕ) → ((m : Move) → Contains ms m → (m.way ≡ Back) × (m.number ≡ k)) → at_end at ms ≡ Some n → (at ≡ Some n) ⊎ (n ≡ k)
+after_backs : (at : Option ℕ) (ms : List Move) (k n : ℕ) → ((m : Move) → Contains ms m → (m.way ≡ Back) × (m.number ≡ k)) →
+    at_end at ms ≡ Some n → (at ≡ Some n) ⊎ (n ≡ k)
 after_backs at [] k n back is = inl is
 after_backs at (m ∷ ms) k n back is =
     let (way, number) = back m (first_in m ms) in
@@ -72,7 +76,8 @@ after_backs at (m ∷ ms) k n back is =
 
 -- ---- the table
 
-pub let_out_grown : (version : ℕ) (roots : Journals) (n : ℕ) (acts : Acts) (x : Slot) (class : Option ℕ) → IsLetOut version roots x class → IsLetOut version (grown roots n acts) x class
+pub let_out_grown : (version : ℕ) (roots : Journals) (n : ℕ) (acts : Acts) (x : Slot) (class : Option ℕ) → IsLetOut version roots x class →
+    IsLetOut version (grown roots n acts) x class
 let_out_grown version roots n acts x (Some class) (real, of, is) =
     let (e, asked, slots, among, act, member) = of in
     (real, (e, asked, slots, grown_old roots n acts x.partition e among, act, member), is)
@@ -90,8 +95,10 @@ slots_back {version} partitions slots pools more roots root after n acts h back 
   at = λ i k low is.
       let q = (slot_at slots i).partition in
       let s = named_at slots i in
-      let e : at_end (Some 0) (moves_of (grown roots n acts q) s) ≡ at_end (at_end (Some 0) (moves_of (roots q) s)) (moves_of (entries_at n (acts q)) s) =
-      ap (at_end (Some 0)) (numbers_grow.moves (roots q) (entries_at n (acts q)) s) ∙ numbers_grow.ends (Some 0) (moves_of (roots q) s) (moves_of (entries_at n (acts q)) s) in
+      let e : at_end (Some 0) (moves_of (grown roots n acts q) s) ≡ at_end (at_end (Some 0) (moves_of (roots q) s))
+      (moves_of (entries_at n (acts q)) s) =
+      ap (at_end (Some 0)) (numbers_grow.moves (roots q) (entries_at n (acts q)) s) ∙
+      numbers_grow.ends (Some 0) (moves_of (roots q) s) (moves_of (entries_at n (acts q)) s) in
       elim (after_backs (at_end (Some 0) (moves_of (roots q) s)) (moves_of (entries_at n (acts q)) s) (number_of (slot_at slots i).word.0) k
       (λ m among.
       let (a, member, moves, of) = move_by n (acts q) s m among in
@@ -117,7 +124,8 @@ pub record GivesOf (xs : List Numbered) (a : RootAct) : Type 0 where
   pub give : a ≡ Give slots
   pub among : (n : Numbered) → Contains slots n → Contains xs n
 
-batch_of : (k : ℕ) (xs all : List Numbered) (a : RootAct) → ((n : Numbered) → Contains xs n → Contains all n) → Contains (batches k xs) a → GivesOf all a
+batch_of : (k : ℕ) (xs all : List Numbered) (a : RootAct) → ((n : Numbered) → Contains xs n → Contains all n) → Contains (batches k xs) a →
+    GivesOf all a
 batch_of zero xs all a within among = absurd (not_in_none a among)
 batch_of (suc k) [] all a within among = absurd (not_in_none a among)
 batch_of (suc k) (x ∷ xs) all a within among = elim (in_cases (Give (take 16 (x ∷ xs))) a (batches k (drop 16 (x ∷ xs))) among) [
@@ -149,7 +157,8 @@ pub gives_few : (xs : List Numbered) → 16 * length (gives xs) ≤ length xs + 
 gives_few xs = batches_few (length xs) xs
 
 -- slots of places of the table
-pub numbered_back : (slots : List Slot) (places : List ℕ) → ((i : ℕ) → Contains places i → i < length slots) → AllComeBack slots (gives (map (numbered_at slots) places))
+pub numbered_back : (slots : List Slot) (places : List ℕ) → ((i : ℕ) → Contains places i → i < length slots) →
+    AllComeBack slots (gives (map (numbered_at slots) places))
 numbered_back slots places low a among line m moves =
     let g = gives_of (map (numbered_at slots) places) a among in
     let (n, there, is) = map_cases (move_of line Back) g.slots m (subst (λ z. Contains (moves_by line z) m) g.give moves) in

@@ -25,7 +25,8 @@ use Rattle.pa_player.proofs.Giving.{IsBatch, gives_one, gave_none, gave_parts, g
 -- ---- one batch
 
 -- the names of the titles in some places
-pub titles_named : (slots : List Slot) (xs : List ℕ) → map name_of (map (λ (i : ℕ). (slot_at slots i).title) xs) ≡ names (map (numbered_at slots) xs)
+pub titles_named : (slots : List Slot) (xs : List ℕ) →
+    map name_of (map (λ (i : ℕ). (slot_at slots i).title) xs) ≡ names (map (numbered_at slots) xs)
 titles_named slots [] = refl
 titles_named slots (x ∷ xs) = ap (λ z. named_at slots x ∷ z) (titles_named slots xs)
 
@@ -42,8 +43,10 @@ batch_given q xs p roots told cached some few a b c =
     let of_roots : List Root → Player = λ z. record p { heap = record p.heap { roots = z }; told = told; cached = cached } in
     let r = set p.heap.roots q (all_returned (names (map num xs)) (root_of p q)) in
     let of_told : Lists → Player = λ z. record p { heap = record p.heap { roots = r }; told = z; cached = cached } in
-    let t : List RootAct → Lists = λ z. record p.told { journals = set p.told.journals q (journal_in p.told q ++ entries_at p.told.line z) } in
-    let of_cached : List Tally → Player = λ z. record p { heap = record p.heap { roots = r }; told = t (gives (map num xs)); cached = record { of = z } } in
+    let t : List RootAct → Lists =
+    λ z. record p.told { journals = set p.told.journals q (journal_in p.told q ++ entries_at p.told.line z) } in
+    let of_cached : List Tally →
+    Player = λ z. record p { heap = record p.heap { roots = r }; told = t (gives (map num xs)); cached = record { of = z } } in
     ap of_roots a ∙ ap of_told (b ∙ sym (ap t acts)) ∙ ap of_cached c
 
 -- ---- one after the other
@@ -57,18 +60,24 @@ pub record IsGivenSo (q at keep from : ℕ) (p s : Player) : Type 0 where
   pub listed : at < length s.caches
 
 -- the next batch may go back
-pub batch_ready : (q at keep from to : ℕ) (p s : Player) → IsGivenSo q at keep from p s → from ≤ to → CanGive q (slice_range (list_in s at) from to) s
+pub batch_ready : (q at keep from to : ℕ) (p s : Player) → IsGivenSo q at keep from p s → from ≤ to →
+    CanGive q (slice_range (list_in s at) from to) s
 batch_ready q at keep from to p s h order =
-    let e : drop from (list_in p at) ≡ slice_range (list_in s at) from to ++ drop to (list_in s at) = ap (drop from) (sym h.list) ∙ drop_split (list_in s at) from to order in
+    let e : drop from (list_in p at) ≡ slice_range (list_in s at) from to ++ drop to (list_in s at) = ap (drop from) (sym h.list) ∙
+    drop_split (list_in s at) from to order in
     can_front q (slice_range (list_in s at) from to) (drop to (list_in s at)) s (subst (λ z. CanGive q z s) e h.can)
 
 is_batch : (xs : List ℕ) (from to : ℕ) → from < to → to ≡ min (length xs) (from + 16) → IsBatch (slice_range xs from to) (drop to xs)
 is_batch xs from to some e =
     let a = length-take (to - from) (drop from xs) in
-    let b = length-drop from xs in
-    (omega arith, omega arith, elim (cases_lt to (length xs)) [ inl full ↦ inl (omega (arith, full)) | inr past ↦ inr (drop_of_length-le xs past) ])
+    let b = length-drop from xs in (
+      omega arith,
+      omega arith,
+      elim (cases_lt to (length xs)) [ inl full ↦ inl (omega (arith, full)) | inr past ↦ inr (drop_of_length-le xs past) ],
+    )
 
-pub give_more : (q at keep from to : ℕ) (p s r : Player) → IsGivenSo q at keep from p s → from < to → to ≡ min (length (list_in p at)) (from + 16)
+pub give_more : (q at keep from to : ℕ) (p s r : Player) → IsGivenSo q at keep from p s → from < to →
+    to ≡ min (length (list_in p at)) (from + 16)
     → r ≡ gave_back q (slice_range (list_in s at) from to) s → IsGivenSo q at keep to p r
 give_more q at keep from to p s r h some e is =
     let xs = slice_range (list_in s at) from to in
@@ -88,7 +97,8 @@ give_more q at keep from to p s r h some e is =
     } in
     subst (IsGivenSo q at keep to p) (sym is) next
 
-pub give_end : (q at keep from : ℕ) (p s : Player) → IsGivenSo q at keep from p s → length (list_in p at) ≤ from → listed at (take keep (list_in s at)) s ≡ given q at keep p
+pub give_end : (q at keep from : ℕ) (p s : Player) → IsGivenSo q at keep from p s → length (list_in p at) ≤ from →
+    listed at (take keep (list_in s at)) s ≡ given q at keep p
 give_end q at keep from p s h past =
     let none : drop from (list_in p at) ≡ [] = drop_of_length-le (list_in p at) past in
     let e : s ≡ gave_back q (drop keep (list_in p at)) p = sym (gave_none q s) ∙ ap (λ z. gave_back q z s) (sym none) ∙ h.rest in

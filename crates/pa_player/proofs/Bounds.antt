@@ -63,7 +63,8 @@ if_few : (b : Bool) (n most : ℕ) → n ≤ most → (if b then n else 0) ≤ m
 if_few true n most low = low
 if_few false n most low = omega arith
 
-weight_few : (test : Step → ℕ → Bool) (weight : SlotName → ℕ) (most : ℕ) (ms : List Mark) → ((s : SlotName) → weight s ≤ most) → weight_of test weight ms ≤ most * length ms
+weight_few : (test : Step → ℕ → Bool) (weight : SlotName → ℕ) (most : ℕ) (ms : List Mark) → ((s : SlotName) → weight s ≤ most) →
+    weight_of test weight ms ≤ most * length ms
 weight_few test weight most [] low = omega arith
 weight_few test weight most (m ∷ ms) low =
     let f : Mark → ℕ = λ x. if at_step test x.found x.step then weight x.slot else 0 in
@@ -82,7 +83,11 @@ unfolding listed_bytes
 bytes_few counts class zero low short = omega (arith, bytes_of_none counts class)
 bytes_few counts class (suc n) low short =
     let great : slot_of class ≤ 983040 = (IsRow-of class (omega (arith, low))).greatest_slot in
-    omega (arith, mul-le (slot_of class) (counts class) 983040 64 great (short class), bytes_few counts (class + 1) n (omega (arith, low)) short)
+    omega (
+      arith,
+      mul-le (slot_of class) (counts class) 983040 64 great (short class),
+      bytes_few counts (class + 1) n (omega (arith, low)) short,
+    )
 
 all_few : (all : Caches) (q n : ℕ) → ((t c : ℕ) → t < n → length (all t q c) ≤ 64) → cached_slots all q n ≤ 10880 * n
 all_few all q zero short = omega arith
@@ -92,7 +97,11 @@ all_few all q (suc t) short =
 all_bytes_few : (all : Caches) (q n : ℕ) → ((t c : ℕ) → t < n → length (all t q c) ≤ 64) → cached_bytes all q n ≤ 10695475200 * n
 all_bytes_few all q zero short = omega arith
 all_bytes_few all q (suc t) short =
-    omega (arith, bytes_few (λ class. length (all t q class)) 0 170 (omega arith) (λ c. short t c (omega arith)), all_bytes_few all q t (λ u c lt. short u c (omega (arith, lt))))
+    omega (
+      arith,
+      bytes_few (λ class. length (all t q class)) 0 170 (omega arith) (λ c. short t c (omega arith)),
+      all_bytes_few all q t (λ u c lt. short u c (omega (arith, lt))),
+    )
 
 -- the bounds of a slot's length, which is whole words
 pub record IsLength (len : ℕ) : Type 0 where
@@ -104,14 +113,22 @@ module _ (region partitions threads : ℕ) (ls : List Line) (p : Player) (h : Is
   let_out_length : (x : Slot) (class : Option ℕ) → IsLetOut p.version (journals p) x class → IsLength x.title.len
   let_out_length x (Some class) of =
       let row = IsRow-of class (real_in p.version class of.0) in
-      record { whole = omega (arith, of.2, row.sixteens); least = omega (arith, of.2, row.least_slot); greatest = omega (arith, of.2, row.greatest_slot) }
+      record {
+        whole = omega (arith, of.2, row.sixteens);
+        least = omega (arith, of.2, row.least_slot);
+        greatest = omega (arith, of.2, row.greatest_slot);
+      }
   let_out_length x None (e, asked, among, act) =
       let (y, of, makes) = h.placed.lines x.partition e among in
       let made = subst (λ a. MakesEntry p.told.pools x.partition a y) act makes in
       let (size, (reg, op, mapped), is) = made in
       let direct = direct_in y.rules.version size mapped in
       let serves = Serves-of size direct in
-      record { whole = omega (arith, is, serves.system_pages); least = omega (arith, is, serves.usable, direct.0); greatest = omega (arith, is, serves.close, direct.1) }
+      record {
+        whole = omega (arith, is, serves.system_pages);
+        least = omega (arith, is, serves.usable, direct.0);
+        greatest = omega (arith, is, serves.close, direct.1);
+      }
 
   pub length_of : (i : ℕ) → i < length p.table → IsLength (slot_at p.table i).title.len
   length_of i low = let_out_length (slot_at p.table i) (slot_at p.table i).class (h.slots.let_out i low)
@@ -125,18 +142,22 @@ module _ (region partitions threads : ℕ) (ls : List Line) (p : Player) (h : Is
   ]
 
   -- a tally that is what went in and didn't go out
-  left_few : (into out : Step → ℕ → Bool) (q : ℕ) (t : Tally) → length ls ≤ 65535 → IsLeft into out (home_in p.table) (len_in p.table) q (marks_of h.ps) t
+  left_few : (into out : Step → ℕ → Bool) (q : ℕ) (t : Tally) → length ls ≤ 65535 →
+      IsLeft into out (home_in p.table) (len_in p.table) q (marks_of h.ps) t
       → (t.slots < 2 ^ 31) × (t.bytes < 2 ^ 62)
   left_few into out q t few left =
       let marks = marks_few (rules_at p) ls h.ps h.told.lines in
       let ones = weight_few into (one_of (home_in p.table) q) 1 (marks_of h.ps) (λ s. if_few (home_in p.table s == q) 1 1 (omega arith)) in
-      let bytes = weight_few into (bytes_of (home_in p.table) (len_in p.table) q) 33554432 (marks_of h.ps) (λ s. if_few (home_in p.table s == q) (len_in p.table s) 33554432 (len_few s)) in
+      let bytes = weight_few into (bytes_of (home_in p.table) (len_in p.table) q) 33554432 (marks_of h.ps)
+      (λ s. if_few (home_in p.table s == q) (len_in p.table s) 33554432 (len_few s)) in
       (omega (arith, left.slots, ones, marks, few), omega (arith, left.bytes, bytes, marks, few))
 
-  pub live_few : (q : ℕ) → length ls ≤ 65535 → q < partitions → ((tally_at p.live.of q).slots < 2 ^ 31) × ((tally_at p.live.of q).bytes < 2 ^ 62)
+  pub live_few : (q : ℕ) → length ls ≤ 65535 → q < partitions → ((tally_at p.live.of q).slots < 2 ^ 31) ×
+      ((tally_at p.live.of q).bytes < 2 ^ 62)
   live_few q few low = left_few _ _ q (tally_at p.live.of q) few (h.tallied q low).is_live
 
-  pub quarantined_few : (q : ℕ) → length ls ≤ 65535 → q < partitions → ((tally_at p.quarantined.of q).slots < 2 ^ 31) × ((tally_at p.quarantined.of q).bytes < 2 ^ 62)
+  pub quarantined_few : (q : ℕ) → length ls ≤ 65535 → q < partitions → ((tally_at p.quarantined.of q).slots < 2 ^ 31) ×
+      ((tally_at p.quarantined.of q).bytes < 2 ^ 62)
   quarantined_few q few low = left_few _ _ q (tally_at p.quarantined.of q) few (h.tallied q low).is_quarantined
 
   -- the lists
@@ -149,7 +170,8 @@ module _ (region partitions threads : ℕ) (ls : List Line) (p : Player) (h : Is
     | inr none ↦ omega (arith, ap length (caches_none p t q class (λ a b. none b)))
   ]
 
-  pub cached_few : (q : ℕ) → threads ≤ 16 → q < partitions → ((tally_at p.cached.of q).slots < 2 ^ 31) × ((tally_at p.cached.of q).bytes < 2 ^ 62)
+  pub cached_few : (q : ℕ) → threads ≤ 16 → q < partitions → ((tally_at p.cached.of q).slots < 2 ^ 31) ×
+      ((tally_at p.cached.of q).bytes < 2 ^ 62)
   cached_few q few low =
       let t = h.tallied q low in (
         omega (arith, t.many, all_few (caches p) q threads (λ u c lt. list_short u q c lt low), few),
@@ -157,8 +179,10 @@ module _ (region partitions threads : ℕ) (ls : List Line) (p : Player) (h : Is
       )
 
   -- the index of a list
-  pub place_among : (t q class : ℕ) → t < threads → q < partitions → HasClass p.version class → list_place p.version p.partitions t q class < length p.caches
+  pub place_among : (t q class : ℕ) → t < threads → q < partitions → HasClass p.version class →
+      list_place p.version p.partitions t q class < length p.caches
   place_among t q class below low real =
-      let same : list_place p.version p.partitions t q class ≡ list_place p.version partitions t q class = ap (λ n. list_place p.version n t q class) h.shaped.many in
+      let same : list_place p.version p.partitions t q class ≡ list_place p.version partitions t q class =
+      ap (λ n. list_place p.version n t q class) h.shaped.many in
       let there = place_below p.version partitions threads t q class below low real in
       subst (λ n. n < length p.caches) (sym same) (subst (λ n. list_place p.version partitions t q class < n) (sym h.shaped.lists) there)

@@ -22,7 +22,8 @@ use Rattle.pa_heap_effects.specs.Ops.{only_in, IsCalled}
 use Rattle.pa_heap_effects.proofs.Acting.{by_place}
 use Rattle.pa_player.specs.Player.{Player}
 use Rattle.pa_record.specs.declared.report.Tally.{Tally}
-use Rattle.pa_player.specs.Tallies.{no_tally, tally_at}
+use Rattle.pa_rules.specs.Lists.{no_tally}
+use Rattle.pa_player.specs.Tallies.{tally_at}
 use Rattle.pa_player.specs.Playing.{journals, caches, root_of, numbered_at, list_place, list_at}
 use Rattle.pa_player.proofs.OneList.{same_place, caches_here, caches_none, with_cache_here, IsOther, list_cases, with_other}
 use Rattle.pa_player.proofs.Counting.{cached_slots_set, cached_bytes_set, cached_slots_same, cached_bytes_same}
@@ -55,14 +56,17 @@ pub root_there : (rs : List Root) (q k : ℕ) (r : Root) → (k ≡ q → ⊥) �
 root_there rs q k r ne = get_or-set_other rs q k r new_root ne
 
 -- the roots and the pool after a call of one root
-pub heap_called : (region partitions n : ℕ) (x : Played) (p m : Player) (more : List PoolEntry) (q : ℕ) (acts : List RootAct) (cache next : Cache) (after : Root) (plan : PoolState)
+pub heap_called : (region partitions n : ℕ) (x : Played) (p m : Player) (more : List PoolEntry) (q : ℕ) (acts : List RootAct)
+    (cache next : Cache) (after : Root) (plan : PoolState)
     → IsCalled region partitions n x p.told.pools more (journals p) q acts cache next after plan
     → ((k : ℕ) → root_of p k ≡ root_at p.told.pools (journals p) k)
     → root_of m q ≡ after → ((k : ℕ) → (k ≡ q → ⊥) → root_of m k ≡ root_of p k) → m.heap.pool ≡ plan
-    → after.turn ≤ (root_of p q).turn + 32768 → p.heap.pool.entries ≤ plan.entries → IsBornBelow plan.entries after → ((k : ℕ) → IsBornBelow p.heap.pool.entries (root_of p k))
+    → after.turn ≤ (root_of p q).turn + 32768 → p.heap.pool.entries ≤ plan.entries → IsBornBelow plan.entries after →
+    ((k : ℕ) → IsBornBelow p.heap.pool.entries (root_of p k))
     → HasHeap region p m n more (only_in q acts)
 heap_called region partitions n x p m more q acts cache next after plan called roots here there set_pool turn entries born olds = record {
-  roots = each (λ r j. r ≡ root_at (p.told.pools ++ more) (grown (journals p) n (only_in q acts)) j) (sym called.root) (λ j ne. roots j ∙ sym (called.others j ne));
+  roots = each (λ r j. r ≡ root_at (p.told.pools ++ more) (grown (journals p) n (only_in q acts)) j) (sym called.root)
+      (λ j ne. roots j ∙ sym (called.others j ne));
   plan = set_pool ∙ sym called.pool;
   turns = each (λ r j. r.turn ≤ (root_of p j).turn + 32768) turn (λ j ne. omega arith);
   born = λ k. subst (λ (z : PoolState). IsBornBelow z.entries (root_of m k)) (sym set_pool)
@@ -78,9 +82,11 @@ heap_called region partitions n x p m more q acts cache next after plan called r
 -- ---- lists
 
 -- One list is another then, and the others show the same.
-pub caches_changed : (p m : Player) (t q class : ℕ) (xs : List ℕ) → m.version ≡ p.version → m.partitions ≡ p.partitions → q < p.partitions → HasClass p.version class
+pub caches_changed : (p m : Player) (t q class : ℕ) (xs : List ℕ) → m.version ≡ p.version → m.partitions ≡ p.partitions → q < p.partitions →
+    HasClass p.version class
     → list_at m t q class ≡ xs
-    → ((u k c : ℕ) → k < p.partitions → HasClass p.version c → IsOther t q class u k c → map (numbered_at m.table) (list_at m u k c) ≡ map (numbered_at p.table) (list_at p u k c))
+    → ((u k c : ℕ) → k < p.partitions → HasClass p.version c → IsOther t q class u k c →
+    map (numbered_at m.table) (list_at m u k c) ≡ map (numbered_at p.table) (list_at p u k c))
     → (u k c : ℕ) → caches m u k c ≡ with_cache (caches p) t (with_list (caches p t) q class (map (numbered_at m.table) xs)) u k c
 caches_changed p m t q class xs version same low real here others u k c =
     let new = map (numbered_at m.table) xs in
@@ -88,8 +94,11 @@ caches_changed p m t q class xs version same low real here others u k c =
     elim (list_cases t q class u k c) [
       | inl (a, b, d) ↦
           let P : ℕ → ℕ → ℕ → Type 0 = λ x y z. caches m x y z ≡ with_cache (caches p) t next x y z in
-          let left : caches m t q class ≡ new = caches_here m t q class (subst (λ z. q < z) (sym same) low) (subst (λ v. HasClass v class) (sym version) real) ∙ ap (map (numbered_at m.table)) here in
-          let right : with_cache (caches p) t next t q class ≡ new = with_cache_here (caches p) t next q class ∙ list_changed (caches p t) q class new in
+          let left : caches m t q class ≡ new =
+          caches_here m t q class (subst (λ z. q < z) (sym same) low) (subst (λ v. HasClass v class) (sym version) real) ∙
+          ap (map (numbered_at m.table)) here in
+          let right : with_cache (caches p) t next t q class ≡ new = with_cache_here (caches p) t next q class ∙
+          list_changed (caches p t) q class new in
           subst (λ x. P x k c) (sym a) (subst (λ y. P t y c) (sym b) (subst (λ z. P t q z) (sym d) (left ∙ sym right)))
       | inr other ↦ kept other ∙ sym (with_other (caches p) t q class new u k c other)
     ]
@@ -110,12 +119,14 @@ pub other_list : (p m : Player) (t q class u k c : ℕ) (xs : List ℕ) → m.ve
     → k < p.partitions → HasClass p.version c → IsOther t q class u k c → list_at m u k c ≡ list_at p u k c
 other_list p m t q class u k c xs version same is low real inside within other =
     let at = list_place p.version p.partitions t q class in
-    let apart : list_place p.version p.partitions u k c ≡ at → ⊥ = λ e. let (x, y, z) = same_place p.version p.partitions u k c t q class inside low within real e in other x y z in
+    let apart : list_place p.version p.partitions u k c ≡ at →
+    ⊥ = λ e. let (x, y, z) = same_place p.version p.partitions u k c t q class inside low within real e in other x y z in
     ap₂ (λ v n. slice_index_or m.caches (list_place v n u k c) []) version same
     ∙ ap (λ zs. slice_index_or zs (list_place p.version p.partitions u k c) []) is
     ∙ get_or-set_other p.caches at (list_place p.version p.partitions u k c) xs [] apart
 
-pub this_list : (p m : Player) (t q class : ℕ) (xs : List ℕ) → m.version ≡ p.version → m.partitions ≡ p.partitions → m.caches ≡ set p.caches (list_place p.version p.partitions t q class) xs
+pub this_list : (p m : Player) (t q class : ℕ) (xs : List ℕ) → m.version ≡ p.version → m.partitions ≡ p.partitions →
+    m.caches ≡ set p.caches (list_place p.version p.partitions t q class) xs
     → list_place p.version p.partitions t q class < length p.caches → list_at m t q class ≡ xs
 this_list p m t q class xs version same is room =
     ap₂ (λ v n. slice_index_or m.caches (list_place v n t q class) []) version same
@@ -144,9 +155,11 @@ pub record IsRetallied (q was now was_bytes now_bytes : ℕ) (before after : Lis
   pub others : (k : ℕ) → (k ≡ q → ⊥) → tally_at after k ≡ tally_at before k
 
 -- One list was changed, and the tally of its partition by as much.
-pub counted_changed : (partitions threads t q class : ℕ) (p m : Player) (new : List Numbered) → t < threads → class < 170 → AreCounted partitions threads p
+pub counted_changed : (partitions threads t q class : ℕ) (p m : Player) (new : List Numbered) → t < threads → class < 170 →
+    AreCounted partitions threads p
     → ((u k c : ℕ) → caches m u k c ≡ with_cache (caches p) t (with_list (caches p t) q class new) u k c)
-    → IsRetallied q (length (caches p t q class)) (length new) (slot_of class * length (caches p t q class)) (slot_of class * length new) p.cached.of m.cached.of
+    → IsRetallied q (length (caches p t q class)) (length new) (slot_of class * length (caches p t q class))
+    (slot_of class * length new) p.cached.of m.cached.of
     → AreCounted partitions threads m
 counted_changed partitions threads t q class p m new below real h lists by = record {
   many = λ k low.
@@ -156,13 +169,17 @@ counted_changed partitions threads t q class p m new below real h lists by = rec
       elim (cases_eq q k) [
         | inl e ↦
             let c : (tally_at m.cached.of k).slots + length (caches p t q class) ≡ (tally_at p.cached.of k).slots + length new =
-            subst (λ z. (tally_at m.cached.of z).slots + length (caches p t q class) ≡ (tally_at p.cached.of z).slots + length new) e by.slots in
-            let f : cached_slots (with_cache (caches p) t (with_list (caches p t) q class new)) k threads + length (caches p t q class) ≡ cached_slots (caches p) k threads + length new =
+            subst (λ z. (tally_at m.cached.of z).slots + length (caches p t q class) ≡ (tally_at p.cached.of z).slots + length new) e
+            by.slots in
+            let f : cached_slots (with_cache (caches p) t (with_list (caches p t) q class new)) k threads + length
+            (caches p t q class) ≡ cached_slots (caches p) k threads + length new =
             rw (eq-eqb q k e) at b in
             omega (arith, a, f, c, d)
         | inr ne ↦
-            let c : (tally_at m.cached.of k).slots ≡ (tally_at p.cached.of k).slots = ap (λ (z : Tally). z.slots) (by.others k (λ e. ne (sym e))) in
-            let f : cached_slots (with_cache (caches p) t (with_list (caches p t) q class new)) k threads + 0 ≡ cached_slots (caches p) k threads + 0 = rw (ne_eqb q k ne) at b in
+            let c : (tally_at m.cached.of k).slots ≡ (tally_at p.cached.of k).slots =
+            ap (λ (z : Tally). z.slots) (by.others k (λ e. ne (sym e))) in
+            let f : cached_slots (with_cache (caches p) t (with_list (caches p t) q class new)) k threads + 0 ≡ cached_slots
+            (caches p) k threads + 0 = rw (ne_eqb q k ne) at b in
             omega (arith, a, f, c, d)
       ];
   bytes = λ k low.
@@ -171,20 +188,26 @@ counted_changed partitions threads t q class p m new below real h lists by = rec
       let d = h.bytes k low in
       elim (cases_eq q k) [
         | inl e ↦
-            let c : (tally_at m.cached.of k).bytes + slot_of class * length (caches p t q class) ≡ (tally_at p.cached.of k).bytes + slot_of class * length new =
-            subst (λ z. (tally_at m.cached.of z).bytes + slot_of class * length (caches p t q class) ≡ (tally_at p.cached.of z).bytes + slot_of class * length new) e by.bytes in
-            let f : cached_bytes (with_cache (caches p) t (with_list (caches p t) q class new)) k threads + slot_of class * length (caches p t q class)
+            let c : (tally_at m.cached.of k).bytes + slot_of class * length
+            (caches p t q class) ≡ (tally_at p.cached.of k).bytes + slot_of class * length new =
+            subst (λ z. (tally_at m.cached.of z).bytes + slot_of class * length
+            (caches p t q class) ≡ (tally_at p.cached.of z).bytes + slot_of class * length new) e by.bytes in
+            let f : cached_bytes (with_cache (caches p) t (with_list (caches p t) q class new)) k threads + slot_of class * length
+            (caches p t q class)
             ≡ cached_bytes (caches p) k threads + slot_of class * length new = rw (eq-eqb q k e) at b in
             omega (arith, a, f, c, d)
         | inr ne ↦
-            let c : (tally_at m.cached.of k).bytes ≡ (tally_at p.cached.of k).bytes = ap (λ (z : Tally). z.bytes) (by.others k (λ e. ne (sym e))) in
-            let f : cached_bytes (with_cache (caches p) t (with_list (caches p t) q class new)) k threads + 0 ≡ cached_bytes (caches p) k threads + 0 = rw (ne_eqb q k ne) at b in
+            let c : (tally_at m.cached.of k).bytes ≡ (tally_at p.cached.of k).bytes =
+            ap (λ (z : Tally). z.bytes) (by.others k (λ e. ne (sym e))) in
+            let f : cached_bytes (with_cache (caches p) t (with_list (caches p t) q class new)) k threads + 0 ≡ cached_bytes
+            (caches p) k threads + 0 = rw (ne_eqb q k ne) at b in
             omega (arith, a, f, c, d)
       ];
 }
 
 -- a tally after one was set
-pub retallied_set : (q was now was_bytes now_bytes : ℕ) (ts : List Tally) (new : Tally) → q < length ts → new.slots + was ≡ (tally_at ts q).slots + now
+pub retallied_set : (q was now was_bytes now_bytes : ℕ) (ts : List Tally) (new : Tally) → q < length ts →
+    new.slots + was ≡ (tally_at ts q).slots + now
     → new.bytes + was_bytes ≡ (tally_at ts q).bytes + now_bytes → IsRetallied q was now was_bytes now_bytes ts (set ts q new)
 retallied_set q was now was_bytes now_bytes ts new low a b =
     let here : tally_at (set ts q new) q ≡ new = get_or-set_same ts q new no_tally low in

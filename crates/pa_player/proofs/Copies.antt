@@ -34,14 +34,19 @@ word_as w x = record x { word = record { 0 = w } }
 pub word_same : (w : ℕ) (x : Slot) → IsSame x (word_as w x)
 word_same w x = record { title = refl; partition = refl; class = refl }
 
-pub keeps_lists : (op : Op) (seen : Seen) (step : Step) → step_of op ≡ Some step → (IsReturning step seen.found.0 → ⊥) → KeepsLists op (answers.Done seen)
-keeps_lists op seen step is stays other e returns = stays (subst (λ z. IsReturning z seen.found.0) (some_same other step (sym e ∙ is)) returns)
+pub keeps_lists : (op : Op) (seen : Seen) (step : Step) → step_of op ≡ Some step → (IsReturning step seen.found.0 → ⊥) →
+    KeepsLists op (answers.Done seen)
+keeps_lists op seen step is stays other e returns =
+    stays (subst (λ z. IsReturning z seen.found.0) (some_same other step (sym e ∙ is)) returns)
 
 -- ---- a copy
 
-module _ (p : Player) (thread from to i : ℕ) (points : Points (register_at p thread from) i) (none : HasNone (register_at p thread to)) where
-  pub copied : Plays p thread (ops.Copy from to) (registered thread to (Ref i) (stepped_at steps.Copy i p)) (answers.Done (seen_at p.table i))
-  copied = quiet_plays p thread (ops.Copy from to) (registered thread to (Ref i) (stepped_at steps.Copy i p)) (answers.Done (seen_at p.table i)) (λ region partitions threads ls can.
+module _ (p : Player) (thread from to i : ℕ) (points : Points (register_at p thread from) i)
+    (none : HasNone (register_at p thread to)) where
+  pub copied : Plays p thread (ops.Copy from to) (registered thread to (Ref i) (stepped_at steps.Copy i p))
+      (answers.Done (seen_at p.table i))
+  copied = quiet_plays p thread (ops.Copy from to) (registered thread to (Ref i) (stepped_at steps.Copy i p))
+      (answers.Done (seen_at p.table i)) (λ region partitions threads ls can.
       let h = can.playing in
       let low = in_table region partitions threads ls p thread (ops.Copy from to) can from i can.within.1.0 points in
       let is = word_is region partitions threads ls p thread (ops.Copy from to) can from i can.within.1.0 points in
@@ -50,10 +55,13 @@ module _ (p : Player) (thread from to i : ℕ) (points : Points (register_at p t
       let y = word_as (stepped steps.Copy x.word.0) x in
       let same = word_same (stepped steps.Copy x.word.0) x in
       let keeps = keeps_set p.table i y low same in
-      let shows = shows_step region partitions threads ls p i thread to (Ref i) y p.live p.quarantined h low can.within.0 can.within.1.1 low same in
-      step_quiet region partitions threads ls p thread (ops.Copy from to) can from i can.within.1.0 points (answers.Done seen) y (registered thread to (Ref i) p).registers p.live p.quarantined
+      let shows = shows_step region partitions threads ls p i thread to
+      (Ref i) y p.live p.quarantined h low can.within.0 can.within.1.1 low same in
+      step_quiet region partitions threads ls p thread (ops.Copy from to) can from i can.within.1.0 points (answers.Done seen) y
+      (registered thread to (Ref i) p).registers p.live p.quarantined
       (after_copy (shown p) thread to seen) (Some steps.Copy) same (keeps_lists (ops.Copy from to) seen steps.Copy refl (λ bad. bad)) refl
-      (copy_goes_on threads ls h.ps (shown p) thread from to seen (can_play region partitions threads ls thread (ops.Copy from to) p can) can.within.1.0 can.within.1.1
+      (copy_goes_on threads ls h.ps (shown p) thread from to seen
+      (can_play region partitions threads ls thread (ops.Copy from to) p can) can.within.1.0 can.within.1.1
       (points_names p.table (register_at p thread from) i points) (none_holds p.table (register_at p thread to) none) (sym is))
       (record {
         rules = refl;
@@ -73,12 +81,14 @@ module _ (p : Player) (thread from to i : ℕ) (points : Points (register_at p t
 
 -- ---- a reset that returns nothing
 
-module _ (p : Player) (thread reg i : ℕ) (ref : register_at p thread reg ≡ Ref i) (stays : IsReturning steps.Reset (slot_at p.table i).word.0 → ⊥) where
+module _ (p : Player) (thread reg i : ℕ) (ref : register_at p thread reg ≡ Ref i)
+    (stays : IsReturning steps.Reset (slot_at p.table i).word.0 → ⊥) where
   points_ref : Points (register_at p thread reg) i
   points_ref = subst (λ z. Points z i) (sym ref) refl
 
   pub was_reset : Plays p thread (ops.Reset reg) (reset_at thread reg i p) (answers.Done (seen_at p.table i))
-  was_reset = quiet_plays p thread (ops.Reset reg) (reset_at thread reg i p) (answers.Done (seen_at p.table i)) (λ region partitions threads ls can.
+  was_reset = quiet_plays p thread (ops.Reset reg) (reset_at thread reg i p) (answers.Done (seen_at p.table i))
+      (λ region partitions threads ls can.
       let h = can.playing in
       let low = in_table region partitions threads ls p thread (ops.Reset reg) can reg i can.within.1 points_ref in
       let is = word_is region partitions threads ls p thread (ops.Reset reg) can reg i can.within.1 points_ref in
@@ -87,10 +97,13 @@ module _ (p : Player) (thread reg i : ℕ) (ref : register_at p thread reg ≡ R
       let y = word_as (stepped steps.Reset x.word.0) x in
       let same = word_same (stepped steps.Reset x.word.0) x in
       let keeps = keeps_set p.table i y low same in
-      let shows = shows_step region partitions threads ls p i thread reg Cleared y p.live p.quarantined h low can.within.0 can.within.1 tt same in
-      step_quiet region partitions threads ls p thread (ops.Reset reg) can reg i can.within.1 points_ref (answers.Done seen) y (registered thread reg Cleared p).registers p.live p.quarantined
+      let shows = shows_step region partitions threads ls p i thread reg Cleared y p.live p.quarantined h low can.within.0 can.within.1 tt
+      same in
+      step_quiet region partitions threads ls p thread (ops.Reset reg) can reg i can.within.1 points_ref (answers.Done seen) y
+      (registered thread reg Cleared p).registers p.live p.quarantined
       (after_reset (shown p) thread reg seen) (Some steps.Reset) same (keeps_lists (ops.Reset reg) seen steps.Reset refl stays) refl
-      (reset_goes_on threads ls h.ps (shown p) thread reg seen (can_play region partitions threads ls thread (ops.Reset reg) p can) can.within.1 (ap (reg_of p.table) ref) (sym is))
+      (reset_goes_on threads ls h.ps (shown p) thread reg seen
+      (can_play region partitions threads ls thread (ops.Reset reg) p can) can.within.1 (ap (reg_of p.table) ref) (sym is))
       (record {
         rules = refl;
         regs = shows.regs;
@@ -100,6 +113,8 @@ module _ (p : Player) (thread reg i : ℕ) (ref : register_at p thread reg ≡ R
         content = λ s is_held. content_stays p.table i y s h.slots.apart low same refl;
         usable = λ s some. shows.usable s;
       })
-      (shaped_registered partitions threads (record p { table = set p.table i y }) (shaped_table partitions threads p h.shaped (set p.table i y) keeps) thread reg Cleared tt)
-      (counts_still region partitions threads ls p (reset_at thread reg i p) (Some (mark_at (length ls + 2) seen (Some steps.Reset))) h (reset_adds (length ls + 2) seen stays) refl refl refl
+      (shaped_registered partitions threads (record p { table = set p.table i y })
+      (shaped_table partitions threads p h.shaped (set p.table i y) keeps) thread reg Cleared tt)
+      (counts_still region partitions threads ls p (reset_at thread reg i p) (Some (mark_at (length ls + 2) seen (Some steps.Reset))) h
+      (reset_adds (length ls + 2) seen stays) refl refl refl
       (λ t k class. lists_kept region partitions threads ls p thread (ops.Reset reg) can reg i can.within.1 points_ref y t k class)))

@@ -8,7 +8,8 @@ use Rattle.pa_record.specs.declared.numbered.Numbered.{Numbered}
 use Rattle.pa_record.specs.declared.report.Tally.{Tally}
 use Rattle.pa_rules.specs.Caches.{Caches, with_list, with_cache, listed_slots}
 use Rattle.pa_rules.specs.Report.{cached_slots, cached_bytes, listed_bytes}
-use Rattle.pa_player.specs.Tallies.{no_tally, tally_at}
+use Rattle.pa_rules.specs.Lists.{no_tally}
+use Rattle.pa_player.specs.Tallies.{tally_at}
 use Rattle.pa_player.specs.Changes.{tallied_more, tallied_less}
 
 -- ---- one tally
@@ -18,7 +19,8 @@ pub record IsMoreBy (q count size k : ℕ) (before after : Tally) : Type 0 where
   pub slots : after.slots ≡ before.slots + (if q == k then count else 0)
   pub bytes : after.bytes ≡ before.bytes + (if q == k then size else 0)
 
-more_here : (q slots bytes : ℕ) (before after : Tally) → after.slots ≡ before.slots + slots → after.bytes ≡ before.bytes + bytes → IsMoreBy q slots bytes q before after
+more_here : (q slots bytes : ℕ) (before after : Tally) → after.slots ≡ before.slots + slots → after.bytes ≡ before.bytes + bytes →
+    IsMoreBy q slots bytes q before after
 more_here q slots bytes before after a b = record {
   slots = rw (eq-eqb q q refl) a;
   bytes = rw (eq-eqb q q refl) b;
@@ -30,15 +32,18 @@ more_there q slots bytes k before after ne e = record {
   bytes = rw (ne_eqb q k ne) (omega (arith, ap (λ (t : Tally). t.bytes) e));
 }
 
-pub tally_more : (q slots bytes k : ℕ) (ts : List Tally) → q < length ts → IsMoreBy q slots bytes k (tally_at ts k) (tally_at (tallied_more q slots bytes ts) k)
+pub tally_more : (q slots bytes k : ℕ) (ts : List Tally) → q < length ts →
+    IsMoreBy q slots bytes k (tally_at ts k) (tally_at (tallied_more q slots bytes ts) k)
 tally_more q slots bytes k ts low =
     let new : Tally = record { slots = (tally_at ts q).slots + slots; bytes = (tally_at ts q).bytes + bytes } in
     elim (cases_eq q k) [
       | inl e ↦
           let P : ℕ → Type 0 = λ z. IsMoreBy q slots bytes z (tally_at ts z) (tally_at (tallied_more q slots bytes ts) z) in
           let here = get_or-set_same ts q new no_tally low in
-          subst P e (more_here q slots bytes (tally_at ts q) (tally_at (tallied_more q slots bytes ts) q) (ap (λ (t : Tally). t.slots) here) (ap (λ (t : Tally). t.bytes) here))
-      | inr ne ↦ more_there q slots bytes k (tally_at ts k) (tally_at (tallied_more q slots bytes ts) k) ne (get_or-set_other ts q k new no_tally (λ e. ne (sym e)))
+          subst P e (more_here q slots bytes (tally_at ts q) (tally_at (tallied_more q slots bytes ts) q) (ap (λ (t : Tally). t.slots) here)
+          (ap (λ (t : Tally). t.bytes) here))
+      | inr ne ↦ more_there q slots bytes k (tally_at ts k) (tally_at (tallied_more q slots bytes ts) k) ne
+          (get_or-set_other ts q k new no_tally (λ e. ne (sym e)))
     ]
 
 pub tally_less : (q slots bytes k : ℕ) (ts : List Tally) → q < length ts → slots ≤ (tally_at ts q).slots → bytes ≤ (tally_at ts q).bytes
@@ -52,7 +57,8 @@ tally_less q slots bytes k ts low some many =
           let a : (tally_at (tallied_less q slots bytes ts) q).slots ≡ (tally_at ts q).slots - slots = ap (λ (t : Tally). t.slots) here in
           let b : (tally_at (tallied_less q slots bytes ts) q).bytes ≡ (tally_at ts q).bytes - bytes = ap (λ (t : Tally). t.bytes) here in
           subst P e (more_here q slots bytes (tally_at (tallied_less q slots bytes ts) q) (tally_at ts q) (omega arith) (omega arith))
-      | inr ne ↦ more_there q slots bytes k (tally_at (tallied_less q slots bytes ts) k) (tally_at ts k) ne (sym (get_or-set_other ts q k new no_tally (λ e. ne (sym e))))
+      | inr ne ↦ more_there q slots bytes k (tally_at (tallied_less q slots bytes ts) k) (tally_at ts k) ne
+          (sym (get_or-set_other ts q k new no_tally (λ e. ne (sym e))))
     ]
 
 -- ---- what lists have together, by a weight of each
@@ -65,7 +71,8 @@ totals : (ℕ → List Numbered → ℕ) → Caches → ℕ → ℕ → ℕ
 totals w all k zero = 0
 totals w all k (suc t) = levels w (all t k) 0 170 + totals w all k t
 
-levels_same : (w : ℕ → List Numbered → ℕ) (lists others : ℕ → List Numbered) (from n : ℕ) → ((c : ℕ) → from ≤ c → others c ≡ lists c) → levels w others from n ≡ levels w lists from n
+levels_same : (w : ℕ → List Numbered → ℕ) (lists others : ℕ → List Numbered) (from n : ℕ) → ((c : ℕ) → from ≤ c → others c ≡ lists c) →
+    levels w others from n ≡ levels w lists from n
 unfolding levels
 levels_same w lists others from zero same = refl
 levels_same w lists others from (suc n) same =
@@ -74,7 +81,8 @@ levels_same w lists others from (suc n) same =
     omega arith
 
 levels_one : (w : ℕ → List Numbered → ℕ) (lists others : ℕ → List Numbered) (class from n : ℕ) → from ≤ class → class < from + n
-    → ((c : ℕ) → (c ≡ class → ⊥) → others c ≡ lists c) → levels w others from n + w class (lists class) ≡ levels w lists from n + w class (others class)
+    → ((c : ℕ) → (c ≡ class → ⊥) → others c ≡ lists c) →
+    levels w others from n + w class (lists class) ≡ levels w lists from n + w class (others class)
 unfolding levels
 levels_one w lists others class from zero low high same = absurd (omega arith)
 levels_one w lists others class from (suc n) low high same = elim (cases_eq from class) [
@@ -89,7 +97,8 @@ levels_one w lists others class from (suc n) low high same = elim (cases_eq from
       omega arith
 ]
 
-totals_past : (w : ℕ → List Numbered → ℕ) (all others : Caches) (k n t : ℕ) → n ≤ t → ((u c : ℕ) → (u ≡ t → ⊥) → others u k c ≡ all u k c) → totals w others k n ≡ totals w all k n
+totals_past : (w : ℕ → List Numbered → ℕ) (all others : Caches) (k n t : ℕ) → n ≤ t → ((u c : ℕ) → (u ≡ t → ⊥) → others u k c ≡ all u k c) →
+    totals w others k n ≡ totals w all k n
 unfolding totals
 totals_past w all others k zero t past same = refl
 totals_past w all others k (suc n) t past same =
@@ -113,7 +122,8 @@ totals_one w all others k (suc n) t below same = elim (cases_eq n t) [
       omega arith
 ]
 
-totals_same : (w : ℕ → List Numbered → ℕ) (all others : Caches) (k n : ℕ) → ((t c : ℕ) → others t k c ≡ all t k c) → totals w others k n ≡ totals w all k n
+totals_same : (w : ℕ → List Numbered → ℕ) (all others : Caches) (k n : ℕ) → ((t c : ℕ) → others t k c ≡ all t k c) →
+    totals w others k n ≡ totals w all k n
 totals_same w all others k n same = totals_past w all others k n n (omega arith) (λ u c ne. same u c)
 
 -- the total over the threads changes by as much as the one list that is set
@@ -127,10 +137,13 @@ totals_set w all n t q class k xs below real =
     let there : (u k c : ℕ) → (u ≡ t → ⊥) → others u k c ≡ all u k c = λ u k c ne. rw (ne_eqb u t ne) refl in
     elim (cases_eq q k) [
       | inl e ↦
-          let P : ℕ → Type 0 = λ z. totals w others z n + (if q == z then w class (all t q class) else 0) ≡ totals w all z n + (if q == z then w class xs else 0) in
+          let P : ℕ → Type 0 = λ z. totals w others z n + (if q == z then w class (all t q class) else 0) ≡ totals w all z
+          n + (if q == z then w class xs else 0) in
           let whole = totals_one w all others q n t below (λ u c ne. there u q c ne) in
-          let one = levels_one w (all t q) (others t q) class 0 170 (omega arith) (omega arith) (λ c ne. here q c ∙ rw (ne_eqb c class ne, eq-eqb q q refl) refl) in
-          let new : w class (others t q class) ≡ w class xs = ap (w class) (here q class ∙ rw (eq-eqb q q refl, eq-eqb class class refl) refl) in
+          let one = levels_one w (all t q) (others t q) class 0 170 (omega arith) (omega arith)
+          (λ c ne. here q c ∙ rw (ne_eqb c class ne, eq-eqb q q refl) refl) in
+          let new : w class (others t q class) ≡ w class xs =
+          ap (w class) (here q class ∙ rw (eq-eqb q q refl, eq-eqb class class refl) refl) in
           subst P e (rw (eq-eqb q q refl) (omega arith))
       | inr ne ↦
           let other : k ≡ q → ⊥ = λ e. ne (sym e) in
@@ -184,7 +197,8 @@ cached_slots_set all threads t q class k xs below real =
     omega arith
 
 pub cached_bytes_set : (all : Caches) (threads t q class k : ℕ) (xs : List Numbered) → t < threads → class < 170
-    → cached_bytes (with_cache all t (with_list (all t) q class xs)) k threads + (if q == k then slot_of class * length (all t q class) else 0)
+    → cached_bytes (with_cache all t (with_list (all t) q class xs)) k
+    threads + (if q == k then slot_of class * length (all t q class) else 0)
     ≡ cached_bytes all k threads + (if q == k then slot_of class * length xs else 0)
 unfolding bytes_by
 cached_bytes_set all threads t q class k xs below real =
@@ -194,10 +208,12 @@ cached_bytes_set all threads t q class k xs below real =
     omega arith
 
 -- caches with equal lists have equal numbers of cached slots and of cached bytes
-pub cached_slots_same : (all others : Caches) (threads k : ℕ) → ((t q class : ℕ) → others t q class ≡ all t q class) → cached_slots others k threads ≡ cached_slots all k threads
+pub cached_slots_same : (all others : Caches) (threads k : ℕ) → ((t q class : ℕ) → others t q class ≡ all t q class) →
+    cached_slots others k threads ≡ cached_slots all k threads
 cached_slots_same all others threads k same =
     totals_slots others k threads ∙ totals_same slots_by all others k threads (λ t c. same t k c) ∙ sym (totals_slots all k threads)
 
-pub cached_bytes_same : (all others : Caches) (threads k : ℕ) → ((t q class : ℕ) → others t q class ≡ all t q class) → cached_bytes others k threads ≡ cached_bytes all k threads
+pub cached_bytes_same : (all others : Caches) (threads k : ℕ) → ((t q class : ℕ) → others t q class ≡ all t q class) →
+    cached_bytes others k threads ≡ cached_bytes all k threads
 cached_bytes_same all others threads k same =
     totals_bytes others k threads ∙ totals_same bytes_by all others k threads (λ t c. same t k c) ∙ sym (totals_bytes all k threads)

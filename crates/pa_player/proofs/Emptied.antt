@@ -30,7 +30,8 @@ use Rattle.pa_rules.specs.Sizes.{HasClass}
 use Rattle.pa_rules.specs.Sizes.{class_total}
 
 -- acts of one partition after others of it
-pub grown_twice : (base : Journals) (line q : ℕ) (a b : List RootAct) (j : ℕ) → grown base line (only_in q a) j ++ entries_at line (only_in q b j) ≡ grown base line (only_in q (a ++ b)) j
+pub grown_twice : (base : Journals) (line q : ℕ) (a b : List RootAct) (j : ℕ) → grown base line (only_in q a) j ++
+    entries_at line (only_in q b j) ≡ grown base line (only_in q (a ++ b)) j
 grown_twice base line q a b j = elim (cases_eq j q) [
   | inl e ↦
       let E : List RootAct → List RootEntry = entries_at line in
@@ -38,7 +39,8 @@ grown_twice base line q a b j = elim (cases_eq j q) [
       let y : only_in q b j ≡ b = ap (only_in q b) e ∙ only_here q b in
       let z : only_in q (a ++ b) j ≡ a ++ b = ap (only_in q (a ++ b)) e ∙ only_here q (a ++ b) in
       ap (λ w. (base j ++ E w) ++ E (only_in q b j)) x ∙ ap (λ w. (base j ++ E a) ++ E w) y ∙ append_assoc (base j) (E a) (E b)
-      ∙ ap (λ w. base j ++ w) (sym (map-append (λ (act : RootAct). record { line = line; act = act }) a b)) ∙ ap (λ w. base j ++ E w) (sym z)
+      ∙ ap (λ w. base j ++ w) (sym (map-append (λ (act : RootAct). record { line = line; act = act }) a b)) ∙
+      ap (λ w. base j ++ E w) (sym z)
   | inr ne ↦
       let E : List RootAct → List RootEntry = entries_at line in
       ap (λ w. (base j ++ E w) ++ E (only_in q b j)) (only_else q j a ne) ∙ ap (λ w. (base j ++ []) ++ E w) (only_else q j b ne)
@@ -97,9 +99,11 @@ are_given partitions threads thread q class zero m below low from fits can = rec
 are_given partitions threads thread q class (suc k) m below low from fits can =
     let m1 = given q (list_place m.version m.partitions thread q class) 0 m in
     let one = list_given partitions threads thread q class m below low (from, omega arith) can.shaped can.counted can.long in
-    let rest = are_given partitions threads thread q (class + 1) k m1 below low (omega arith) (omega arith) (record { shaped = one.giving.shaped; counted = one.giving.counted; long = one.long }) in
+    let rest = are_given partitions threads thread q (class + 1) k m1 below low (omega arith) (omega arith)
+    (record { shaped = one.giving.shaped; counted = one.giving.counted; long = one.long }) in
     let list_there : (c : ℕ) → (c ≡ class → ⊥) → caches m1 thread q c ≡ caches m thread q c = λ c ne.
-    one.lists thread q c ∙ with_cache_here (caches m) thread (with_list (caches m thread) q class []) q c ∙ list_of_another_class (caches m thread) q class [] c ne in
+    one.lists thread q c ∙ with_cache_here (caches m) thread (with_list (caches m thread) q class []) q c ∙
+    list_of_another_class (caches m thread) q class [] c ne in
     let same : (c : ℕ) → class + 1 ≤ c → caches m1 thread q c ≡ caches m thread q c = λ c past. list_there c (λ e. omega arith) in
     let lists = caches m thread q in
     record {
@@ -112,7 +116,8 @@ are_given partitions threads thread q class (suc k) m below low from fits can =
       there = λ j ne. rest.there j ne ∙ one.back.there j ne;
       gone = λ c past more. elim (cases_eq c class) [
         | inl e ↦
-            let first : caches (given_from thread q (class + 1) k m1) thread q c ≡ caches m1 thread q c = rest.kept thread q c (λ _ _ a _. omega arith) in
+            let first : caches (given_from thread q (class + 1) k m1) thread q c ≡ caches m1 thread q c =
+            rest.kept thread q c (λ _ _ a _. omega arith) in
             let none : caches m1 thread q class ≡ [] = one.lists thread q class
             ∙ with_cache_here (caches m) thread (with_list (caches m thread) q class []) q class
             ∙ list_changed (caches m thread) q class [] in
@@ -133,12 +138,15 @@ are_given partitions threads thread q class (suc k) m below low from fits can =
 -- A partition was purged.
 pub record IsPurged (partitions threads thread q : ℕ) (m r : Player) : Type 0 where
   pub giving : IsGiving partitions threads m r
-  pub here : root_of r q ≡ purged (all_returned (names (all_of (caches m thread q) (first_class m.version) (class_total m.version))) (root_of m q))
+  pub here : root_of r q ≡ purged
+      (all_returned (names (all_of (caches m thread q) (first_class m.version) (class_total m.version))) (root_of m q))
   pub there : (j : ℕ) → (j ≡ q → ⊥) → root_of r j ≡ root_of m j
   pub gone : (c : ℕ) → caches r thread q c ≡ []
   pub kept : (t j c : ℕ) → (t ≡ thread → j ≡ q → ⊥) → caches r t j c ≡ caches m t j c
   pub long : AreLong partitions threads r
-  pub journals : (j : ℕ) → journals r j ≡ grown (journals m) m.told.line (only_in q (purge_acts (caches m thread q) (first_class m.version) (class_total m.version))) j
+  pub journals : (j : ℕ) →
+      journals r j ≡ grown (journals m) m.told.line
+      (only_in q (purge_acts (caches m thread q) (first_class m.version) (class_total m.version))) j
 
 pub is_purged : (partitions threads thread q : ℕ) (m : Player) → thread < threads → q < partitions → CanGiveBack partitions threads m
     → IsPurged partitions threads thread q m (purged_with q (given_all thread q m))
@@ -169,7 +177,8 @@ is_purged partitions threads thread q m below low can =
         report = g.giving.report;
         line = g.giving.line;
         pool = g.giving.pool;
-        shaped = shaped_told partitions threads (record m1 { heap = r.heap }) (shaped_heap partitions threads m1 g.giving.shaped r.heap.pool r.heap.roots (length-set m1.heap.roots q _)) r.told
+        shaped = shaped_told partitions threads (record m1 { heap = r.heap })
+            (shaped_heap partitions threads m1 g.giving.shaped r.heap.pool r.heap.roots (length-set m1.heap.roots q _)) r.told
             (length-set m1.told.journals q _) refl;
         counted = record { many = g.giving.counted.many; bytes = g.giving.counted.bytes };
       };

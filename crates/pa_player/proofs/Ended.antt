@@ -49,17 +49,20 @@ use Rattle.pa_player.proofs.Reporting.{told_then, places_then}
 -- ---- a line of the report
 
 -- a slot has its size also in journals with entries more
-pub size_on : (roots more : Journals) (q : ℕ) (s : SlotName) (len : ℕ) → ((e : RootEntry) → Contains (roots q) e → Contains (more q) e) → HasSize roots q s len → HasSize more q s len
+pub size_on : (roots more : Journals) (q : ℕ) (s : SlotName) (len : ℕ) → ((e : RootEntry) → Contains (roots q) e → Contains (more q) e) →
+    HasSize roots q s len → HasSize more q s len
 size_on roots more q s len on (inl (class, of, is)) =
     let (e, asked, slots, among, act, member) = of in
     inl (class, (e, asked, slots, on e among, act, member), is)
 size_on roots more q s len on (inr (e, asked, among, act)) = inr (e, asked, on e among, act)
 
-module _ (region partitions threads n phase : ℕ) (ps : List Played) (pools : List PoolEntry) (roots : Journals) (all : Caches) (l : ReportLine)
+module _ (region partitions threads n phase : ℕ) (ps : List Played) (pools : List PoolEntry) (roots : Journals) (all : Caches)
+    (l : ReportLine)
     (placed : IsPlacedTo partitions n ps pools roots all) (run : AreRoots partitions ps pools roots) (pool : IsPoolOf region ps pools roots)
     (t : IsToldLine partitions threads n phase ps pools roots l) where
   at_end : IsPhaseEnd partitions l.phase t.early ps t.entries pools t.before roots t.all
-  at_end = phase_ends partitions t.line n l.phase t.early ps t.entries pools t.before roots t.all all t.placed placed t.goes_on t.within t.later
+  at_end = phase_ends partitions t.line n l.phase t.early ps t.entries pools t.before roots t.all all t.placed placed t.goes_on t.within
+      t.later
 
   tallied : IsTallied region partitions ps t.early pools roots
   tallied = record { journals = run; pool = pool; lines = rising_differ t.early t.placed.rising; slots = t.slots }
@@ -67,7 +70,8 @@ module _ (region partitions threads n phase : ℕ) (ps : List Played) (pools : L
   homes : AreHomes roots t.home t.size (marks_of t.early)
   homes m among =
       size_on t.before roots (t.home m.slot) m.slot (t.size m.slot)
-      (λ e member. subst (λ es. Contains es e) (sym (t.goes_on.grown (t.home m.slot))) (Contains-append_left (t.before (t.home m.slot)) (t.goes_on.journals (t.home m.slot)) e member))
+      (λ e member. subst (λ es. Contains es e) (sym (t.goes_on.grown (t.home m.slot)))
+      (Contains-append_left (t.before (t.home m.slot)) (t.goes_on.journals (t.home m.slot)) e member))
       (t.homes m among)
 
   line_right : IsReportLine partitions threads ps pools roots l
@@ -75,7 +79,8 @@ module _ (region partitions threads n phase : ℕ) (ps : List Played) (pools : L
     live = subst (λ xs. IsTally IsLive roots xs l.partition l.live) (sym at_end.records)
         (tallies_follow.live region partitions l.partition ps t.early pools roots t.home t.size l.live tallied homes t.live);
     quarantined = subst (λ xs. IsTally IsQuarantined roots xs l.partition l.quarantined) (sym at_end.records)
-        (tallies_follow.quarantined region partitions l.partition ps t.early pools roots t.home t.size l.quarantined tallied homes t.quarantined);
+        (tallies_follow.quarantined region partitions l.partition ps t.early pools roots t.home t.size l.quarantined tallied homes
+        t.quarantined);
     cached = at_end.cached threads l.partition l.cached t.many t.bytes;
     root = subst (λ (c : Census). HasCensus ps pools roots l.phase l.partition c) (sym t.census) (at_end.census l.partition);
   }
@@ -84,14 +89,27 @@ module _ (region partitions threads n phase : ℕ) (ps : List Played) (pools : L
 
 -- the lists as a run has them
 abbrev pub lists_of : Lists → Told
-lists_of t = record { entries = t.entries; roots = journal_at t.journals; pools = t.pools; cells = λ k. get_or t.histories k []; report = t.report }
+lists_of t = record {
+  entries = t.entries;
+  roots = journal_at t.journals;
+  pools = t.pools;
+  cells = λ k. get_or t.histories k [];
+  report = t.report;
+}
 
 pub told_same : (t : Lists) (r : Run) → IsToldRun t r → told_by r ≡ lists_of t
 told_same t r is =
     let a : List Entry → Told = λ x. record (told_by r) { entries = x } in
     let b : List (List RootEntry) → Told = λ x. record (told_by r) { entries = t.entries; roots = journal_at x } in
     let c : List PoolEntry → Told = λ x. record (told_by r) { entries = t.entries; roots = journal_at t.journals; pools = x } in
-    let d : List (List CellEntry) → Told = λ x. record { entries = t.entries; roots = journal_at t.journals; pools = t.pools; cells = λ k. get_or x k []; report = r.report.items } in
+    let d : List (List CellEntry) →
+    Told = λ x. record {
+      entries = t.entries;
+      roots = journal_at t.journals;
+      pools = t.pools;
+      cells = λ k. get_or x k [];
+      report = r.report.items;
+    } in
     let e : List ReportLine → Told = λ x. record (lists_of t) { report = x } in
     ap a is.entries ∙ ap b is.roots ∙ ap c is.pool ∙ ap d is.cells ∙ ap e is.report
 
@@ -106,14 +124,16 @@ module _ (t : Trace) (p : Player) (same_version : p.version ≡ t.version) (h : 
   right = ends_right t.threads t.lines h.ps (shown p) h.told
 
   run_of : AreRoots t.partitions h.ps p.told.pools (journals p) × IsPoolOf t.region h.ps p.told.pools (journals p)
-  run_of = placed_are_roots t.region t.partitions (length t.lines + 2) (rules_at p) t.lines h.ps p.told.pools (journals p) (caches p) h.told.lines h.placed h.pooled
+  run_of = placed_are_roots t.region t.partitions (length t.lines + 2) (rules_at p) t.lines h.ps p.told.pools (journals p)
+      (caches p) h.told.lines h.placed h.pooled
 
   report_right : All (IsReportLine t.partitions t.threads h.ps p.told.pools (journals p)) (phase_ended p).told.report
   report_right =
       let P : ReportLine → Type 0 = IsToldLine t.partitions t.threads (length t.lines + 2) (p.phase + 1) h.ps p.told.pools (journals p) in
       let Q : ReportLine → Type 0 = IsReportLine t.partitions t.threads h.ps p.told.pools (journals p) in
       let on : (l : ReportLine) → P l → Q l = λ l told.
-      line_right t.region t.partitions t.threads (length t.lines + 2) (p.phase + 1) h.ps p.told.pools (journals p) (caches p) l h.placed run_of.0 run_of.1 told in
+      line_right t.region t.partitions t.threads (length t.lines + 2) (p.phase + 1) h.ps p.told.pools (journals p)
+      (caches p) l h.placed run_of.0 run_of.1 told in
       All-weaker P Q on (phase_ended p).told.report (told_then t.region t.partitions t.threads t.lines p h)
 
   report : IsReport (phases_in t.lines) t.partitions t.threads h.ps p.told.pools (journals p) (phase_ended p).told.report
@@ -159,7 +179,8 @@ module _ (t : Trace) (p : Player) (same_version : p.version ≡ t.version) (h : 
   )
 
 -- after the last phase the run is the trace's
-pub ends_filed : (t : Trace) (p : Player) (r : Run) → p.version ≡ t.version → IsPlaying t.region t.partitions t.threads t.lines p → IsToldRun (phase_ended p).told r → IsFileRun t r
+pub ends_filed : (t : Trace) (p : Player) (r : Run) → p.version ≡ t.version → IsPlaying t.region t.partitions t.threads t.lines p →
+    IsToldRun (phase_ended p).told r → IsFileRun t r
 ends_filed t p r same_version h is = subst (IsFileTold t) (sym (told_same (phase_ended p).told r is)) (file_told t p same_version h)
 
 -- journals can be printed if each of their entries names slots
@@ -168,13 +189,16 @@ journals_print : (journals : List (List RootEntry)) → ((q : ℕ) (e : RootEntr
 journals_print journals h =
     let N : RootEntry → Type 0 = λ e. NamesSlots e.act in
     let each : (q : ℕ) → AllByRecursion N (get_or journals q []) = λ q.
-    recursion_from_All N (get_or journals q []) (λ k d lt. h q (get_or (get_or journals q []) k d) (Contains-get_or (get_or journals q []) k d lt)) in
+    recursion_from_All N (get_or journals q [])
+    (λ k d lt. h q (get_or (get_or journals q []) k d) (Contains-get_or (get_or journals q []) k d lt)) in
     recursion_from_All (AllByRecursion N) journals (All-from_get_or (AllByRecursion N) journals [] (λ q lt. each q))
 
-pub ends_printed : (region partitions threads : ℕ) (ls : List Line) (p : Player) (r : Run) → IsPlaying region partitions threads ls p → IsToldRun (phase_ended p).told r
+pub ends_printed : (region partitions threads : ℕ) (ls : List Line) (p : Player) (r : Run) → IsPlaying region partitions threads ls p →
+    IsToldRun (phase_ended p).told r
     → IsPrintable r
 ends_printed region partitions threads ls p r h is = record {
   roots = omega (arith, ap length is.roots, h.shaped.journals, h.shaped.four);
   cells = omega (arith, ap length is.cells, h.shaped.histories);
-  slots = subst (AllByRecursion (AllByRecursion (λ (e : RootEntry). NamesSlots e.act))) (sym is.roots) (journals_print p.told.journals h.printable);
+  slots = subst (AllByRecursion (AllByRecursion (λ (e : RootEntry). NamesSlots e.act))) (sym is.roots)
+      (journals_print p.told.journals h.printable);
 }

@@ -33,7 +33,8 @@ pub record IsFillOf (class want : ℕ) (r after : Root) (titles : List Title) : 
   pub turn : after.turn ≤ r.turn + want
   pub differ : AllPairs (λ (t : Title) (u : Title). name_of t ≢ name_of u) titles
 
-taken_is : (class want : ℕ) (r from after : Root) (titles : List Title) → from.maps ≡ r.maps → from.turn ≡ r.turn → IsTaken class want from (takes class want from)
+taken_is : (class want : ℕ) (r from after : Root) (titles : List Title) → from.maps ≡ r.maps → from.turn ≡ r.turn →
+    IsTaken class want from (takes class want from)
     → record { root = after; titles = titles } ≡ takes class want from → IsFillOf class want r after titles
 taken_is class want r from after titles maps turn taken is =
     let ts : titles ≡ (takes class want from).titles = ap (λ (f : Filled). f.titles) is in
@@ -46,9 +47,11 @@ taken_is class want r from after titles maps turn taken is =
       differ = subst (λ zs. AllPairs (λ (t : Title) (u : Title). name_of t ≢ name_of u) zs) (sym ts) taken.differ;
     }
 
-pub fill_of_root : (class want : ℕ) (before next : PoolState) (r after : Root) (titles : List Title) (o : Option ℕ) → IsSound r → IsBornBelow before.entries r → class < 170
+pub fill_of_root : (class want : ℕ) (before next : PoolState) (r after : Root) (titles : List Title) (o : Option ℕ) → IsSound r →
+    IsBornBelow before.entries r → class < 170
     → Fills class want before next r (record { root = after; titles = titles }) o → IsFillOf class want r after titles
-fill_of_root class want before next r after titles None sound born real (some, same, is) = taken_is class want r r after titles refl refl (takes_filled class want r sound real) is
+fill_of_root class want before next r after titles None sound born real (some, same, is) =
+    taken_is class want r r after titles refl refl (takes_filled class want r sound real) is
 fill_of_root class want before next r after titles (Some entry) sound born real (no_span, None, ask, is) =
     let ts : titles ≡ [] = ap (λ (f : Filled). f.titles) is in
     let root : after ≡ r = ap (λ (f : Filled). f.root) is in
@@ -57,16 +60,19 @@ fill_of_root class want before next r after titles (Some entry) sound born real 
       many = let e : length titles ≡ 0 = ap length ts in omega arith;
       maps = ap (λ (z : Root). z.maps) root;
       turn = let e : after.turn ≡ r.turn = ap (λ (z : Root). z.turn) root in omega arith;
-      differ = subst (λ zs. AllPairs (λ (t : Title) (u : Title). name_of t ≢ name_of u) zs) (sym ts) (pairs_none (λ (t : Title) (u : Title). name_of t ≢ name_of u));
+      differ = subst (λ zs. AllPairs (λ (t : Title) (u : Title). name_of t ≢ name_of u) zs) (sym ts)
+          (pairs_none (λ (t : Title) (u : Title). name_of t ≢ name_of u));
     }
 fill_of_root class want before next r after titles (Some entry) sound born real (no_span, Some first, ask, is) =
     taken_is class want r (opened first entry r) after titles refl refl
-    (takes_filled class want (opened first entry r) (opened_sound first entry r sound (subst (λ k. IsBornBelow k r) (sym ask.entry) born)) real) is
+    (takes_filled class want (opened first entry r)
+    (opened_sound first entry r sound (subst (λ k. IsBornBelow k r) (sym ask.entry) born)) real) is
 
 -- the entry that a call made of the pool, if it asked, comes after the pool's entries so far
 pub asked_told : (q count : ℕ) (titles : List Title) (o : Option ℕ) (p : Player)
     → asked_in q count titles o p ≡ record p { told = record p.told { pools = p.told.pools ++ asked_for p.told.line q count titles o } }
-asked_told q count titles None p = ap (λ (zs : List PoolEntry). record p { told = record p.told { pools = zs } }) (sym (append-nil p.told.pools))
+asked_told q count titles None p =
+    ap (λ (zs : List PoolEntry). record p { told = record p.told { pools = zs } }) (sym (append-nil p.told.pools))
 asked_told q count titles (Some entry) p = refl
 
 -- a fill lets its slots out

@@ -65,20 +65,23 @@ pub record IsTaken (class want : ℕ) (r : Root) (f : Filled) : Type 0 where
   pub stays : (name : SlotName) → IsOut r name → IsOut before name
   pub filled : IsFilled class want before f
 
-pub fill_takes : (class want : ℕ) (pool next : PoolState) (r : Root) (f : Filled) (asked : Option ℕ) → IsSound r → IsBornBelow pool.entries r → class < 170 → Fills class want pool next r f asked
+pub fill_takes : (class want : ℕ) (pool next : PoolState) (r : Root) (f : Filled) (asked : Option ℕ) → IsSound r →
+    IsBornBelow pool.entries r → class < 170 → Fills class want pool next r f asked
     → (f.titles ≡ [] → ⊥) → IsTaken class want r f
 fill_takes class want pool next r f None sound born real (some, same, is) none = record {
   before = r;
   stays = λ name out. out;
   filled = subst (IsFilled class want r) (sym is) (fill_keeps.filled class want r sound real);
 }
-fill_takes class want pool next r f (Some entry) sound born real (no_span, None, asked, is) none = absurd (none (ap (λ (g : Filled). g.titles) is))
+fill_takes class want pool next r f (Some entry) sound born real (no_span, None, asked, is) none =
+    absurd (none (ap (λ (g : Filled). g.titles) is))
 fill_takes class want pool next r f (Some entry) sound born real (no_span, Some first, asked, is) none =
     let low : IsBornBelow entry r = subst (λ n. IsBornBelow n r) (sym asked.entry) born in
     record {
       before = opened first entry r;
       stays = λ name out. out;
-      filled = subst (IsFilled class want (opened first entry r)) (sym is) (fill_keeps.filled class want (opened first entry r) (fill_keeps.opens first entry r sound low) real);
+      filled = subst (IsFilled class want (opened first entry r)) (sym is)
+          (fill_keeps.filled class want (opened first entry r) (fill_keeps.opens first entry r sound low) real);
     }
 
 -- ---- numbers of slots
@@ -119,9 +122,12 @@ pub record IsFreeOf (p : Player) (q class i : ℕ) : Type 0 where
   pub held : held_of (slot_at p.table i).word.0 ≡ 0
   pub refs : refs_of (slot_at p.table i).word.0 ≡ 0
 
-module _ (region partitions threads : ℕ) (ls : List Line) (p : Player) (thread reg q size class : ℕ) (can : CanGoOn region partitions threads ls (Do thread (ops.Alloc reg q size)) p)
-    (of : IsClassIn p.version (max size 1 + 8) class) (empty : list_at p thread q class ≡ []) (plan : PoolState) (after : Root) (placed : Placed)
-    (did : FillDid class (fill_of class) p.heap.pool plan (root_of p q) after placed) (first : Title) (others : List Title) (got : placed.titles.items ≡ first ∷ others) where
+module _ (region partitions threads : ℕ) (ls : List Line) (p : Player) (thread reg q size class : ℕ)
+    (can : CanGoOn region partitions threads ls (Do thread (ops.Alloc reg q size)) p)
+    (of : IsClassIn p.version (max size 1 + 8) class) (empty : list_at p thread q class ≡ []) (plan : PoolState) (after : Root)
+    (placed : Placed)
+    (did : FillDid class (fill_of class) p.heap.pool plan (root_of p q) after placed) (first : Title) (others : List Title)
+    (got : placed.titles.items ≡ first ∷ others) where
   abbrev h : IsPlaying region partitions threads ls p
   h = can.playing
 
@@ -149,36 +155,54 @@ module _ (region partitions threads : ℕ) (ls : List Line) (p : Player) (thread
   no_cache : caches p thread q class ≡ []
   no_cache = caches_here p thread q class (omega (arith, low, h.shaped.many)) (of.from, of.real) ∙ ap (map (numbered_at p.table)) empty
 
-  called : IsCalled region partitions (length ls + 2) x p.told.pools more (journals p) q (Fill class placed.pool slots ∷ []) (caches p thread) (with_list (caches p thread) q class rest) after plan
+  called : IsCalled region partitions (length ls + 2) x p.told.pools more (journals p) q (Fill class placed.pool slots ∷ [])
+      (caches p thread) (with_list (caches p thread) q class rest) after plan
   called =
       let D : PoolState → Root → Type 0 = λ s r. FillDid class (fill_of class) s plan r after placed in
-      let here : D (pool_at region p.told.pools) (root_at p.told.pools (journals p) q) = subst (D (pool_at region p.told.pools)) (h.roots q) (subst (λ s. D s (root_of p q)) h.plan did) in
-      let front : FrontIs seen slots rest = subst (λ ts. FrontIs seen (map (numbered_by (journals p q)) ts) rest) (sym got) (front_by (numbered_by (journals p q) first) rest) in
-      fill_is_done region partitions (length ls + 2) q class 0 h.ps x p.told.pools (journals p) (caches p) seen slots rest plan after placed h.placed refl refl (reg, size, refl, of) low no_cache
+      let here : D (pool_at region p.told.pools) (root_at p.told.pools (journals p) q) =
+      subst (D (pool_at region p.told.pools)) (h.roots q) (subst (λ s. D s (root_of p q)) h.plan did) in
+      let front : FrontIs seen slots rest =
+      subst (λ ts. FrontIs seen (map (numbered_by (journals p q)) ts) rest) (sym got)
+      (front_by (numbered_by (journals p q) first) rest) in
+      fill_is_done region partitions (length ls + 2) q class 0 h.ps x p.told.pools (journals p)
+      (caches p) seen slots rest plan after placed h.placed refl refl (reg, size, refl, of) low no_cache
       here (names_by (journals p q) placed.titles.items) (numbers_by (journals p) q placed.titles.items) front
 
   run_then : AreRoots partitions (h.ps ++ x ∷ []) (p.told.pools ++ more) (grown (journals p) (length ls + 2) acts)
       × IsPoolOf region (h.ps ++ x ∷ []) (p.told.pools ++ more) (grown (journals p) (length ls + 2) acts)
   run_then =
-      let then_placed = line_extends partitions (length ls + 2) h.ps x p.told.pools more (journals p) acts (caches p) (with_list (caches p thread) q class rest) h.placed called.done.deed in
+      let then_placed = line_extends partitions (length ls + 2) h.ps x p.told.pools more (journals p) acts (caches p)
+      (with_list (caches p thread) q class rest) h.placed called.done.deed in
       let then_pooled = pool_extends region (length ls + 2) p.told.pools more (journals p) acts h.pooled called.done.asks in
       placed_are_roots region partitions (length ls + 2 + 1) (rules_at p) (ls ++ Do thread (ops.Alloc reg q size) ∷ []) (h.ps ++ x ∷ [])
       (p.told.pools ++ more) (grown (journals p) (length ls + 2) acts)
-      (with_cache (caches p) thread (with_list (caches p thread) q class rest)) (lines_more (rules_at p) ls h.ps thread (ops.Alloc reg q size) (Made seen 0) h.told.lines) then_placed then_pooled
+      (with_cache (caches p) thread (with_list (caches p thread) q class rest))
+      (lines_more (rules_at p) ls h.ps thread (ops.Alloc reg q size) (Made seen 0) h.told.lines) then_placed then_pooled
 
   one : (s : SlotName) → HasOneKind (h.ps ++ x ∷ []) (grown (journals p) (length ls + 2) acts) s
-  one s = one_kind region partitions (h.ps ++ x ∷ []) (p.told.pools ++ more) (grown (journals p) (length ls + 2) acts) s run_then.0 run_then.1
+  one s = one_kind region partitions (h.ps ++ x ∷ []) (p.told.pools ++ more)
+      (grown (journals p) (length ls + 2) acts) s run_then.0 run_then.1
 
   -- a slot of the fill is of its class
   filled_class : (t : Title) → Contains placed.titles.items t → IsOfClass (grown (journals p) (length ls + 2) acts) (name_of t) q class
   filled_class t among =
       let here : acts q ≡ Fill class placed.pool slots ∷ [] = rw (eq-eqb q q refl) refl in
-      let act : Contains (acts q) (Fill class placed.pool slots) = subst (λ zs. Contains zs (Fill class placed.pool slots)) (sym here) (first_in (Fill class placed.pool slots) []) in
-      let member : Contains (names slots) (name_of t) = map_in (λ (n : Numbered). n.slot) slots (numbered_by (journals p q) t) (map_in (numbered_by (journals p q)) placed.titles.items t among) in
-      (record { line = length ls + 2; act = Fill class placed.pool slots }, placed.pool, slots, grown_new (journals p) (length ls + 2) acts q (Fill class placed.pool slots) act, refl, member)
+      let act : Contains (acts q) (Fill class placed.pool slots) =
+      subst (λ zs. Contains zs (Fill class placed.pool slots)) (sym here) (first_in (Fill class placed.pool slots) []) in
+      let member : Contains (names slots) (name_of t) =
+      map_in (λ (n : Numbered). n.slot) slots (numbered_by (journals p q) t)
+      (map_in (numbered_by (journals p q)) placed.titles.items t among) in (
+        record { line = length ls + 2; act = Fill class placed.pool slots },
+        placed.pool,
+        slots,
+        grown_new (journals p) (length ls + 2) acts q (Fill class placed.pool slots) act,
+        refl,
+        member,
+      )
 
   taken : IsTaken class (fill_of class) (root_of p q) (record { root = after; titles = placed.titles.items })
-  taken = fill_takes class (fill_of class) p.heap.pool plan (root_of p q) (record { root = after; titles = placed.titles.items }) placed.pool (root_sound region partitions threads ls p h q)
+  taken = fill_takes class (fill_of class) p.heap.pool plan (root_of p q)
+      (record { root = after; titles = placed.titles.items }) placed.pool (root_sound region partitions threads ls p h q)
       (h.bounded.born q) (real_in p.version class (of.from, of.real)) did (λ none. not_cons (sym got ∙ none))
     where
       not_cons : first ∷ others ≡ [] → ⊥
@@ -188,17 +212,22 @@ module _ (region partitions threads : ℕ) (ls : List Line) (p : Player) (thread
   taken_len t among = taken.filled.len t among
 
   -- one that is in the table
-  module _ (t : Title) (among : Contains placed.titles.items t) (i : ℕ) (inside : i < length p.table) (is : named_at p.table i ≡ name_of t) where
-    same_kind : (o : Option ℕ) → IsLetOut p.version (journals p) (slot_at p.table i) o → ((slot_at p.table i).partition ≡ q) × (o ≡ Some class)
+  module _ (t : Title) (among : Contains placed.titles.items t) (i : ℕ) (inside : i < length p.table)
+      (is : named_at p.table i ≡ name_of t) where
+    same_kind : (o : Option ℕ) → IsLetOut p.version (journals p) (slot_at p.table i) o → ((slot_at p.table i).partition ≡ q) ×
+        (o ≡ Some class)
     same_kind o out = by_class o (let_out_grown p.version (journals p) (length ls + 2) acts (slot_at p.table i) o out)
       where
         filled : IsOfClass (grown (journals p) (length ls + 2) acts) (named_at p.table i) q class
         filled = subst (λ s. IsOfClass (grown (journals p) (length ls + 2) acts) s q class) (sym is) (filled_class t among)
 
-        by_class : (o : Option ℕ) → IsLetOut p.version (grown (journals p) (length ls + 2) acts) (slot_at p.table i) o → ((slot_at p.table i).partition ≡ q) × (o ≡ Some class)
-        by_class (Some c) out = let k = (one (named_at p.table i)).class (slot_at p.table i).partition q c class out.1 filled in (k.0, ap (λ z. Some z) k.1)
+        by_class : (o : Option ℕ) → IsLetOut p.version (grown (journals p) (length ls + 2) acts) (slot_at p.table i) o →
+            ((slot_at p.table i).partition ≡ q) × (o ≡ Some class)
+        by_class (Some c) out = let k = (one (named_at p.table i)).class (slot_at p.table i).partition q c class out.1 filled in
+            (k.0, ap (λ z. Some z) k.1)
         by_class None (e, asked, there, act) =
-            absurd ((one (named_at p.table i)).either q (slot_at p.table i).partition class filled (e, asked, (slot_at p.table i).title.len, there, act))
+            absurd ((one (named_at p.table i)).either q (slot_at p.table i).partition class filled
+            (e, asked, (slot_at p.table i).title.len, there, act))
 
     of_class : IsOfClass (journals p) (named_at p.table i) q class
     of_class =
@@ -209,15 +238,18 @@ module _ (region partitions threads : ℕ) (ls : List Line) (p : Player) (thread
 
     not_out : IsNameOut (root_at p.told.pools (journals p) q) (named_at p.table i) → ⊥
     not_out out =
-        let slot = class_out region partitions (length ls + 2) ls h.ps p.told.pools (journals p) (caches p) (so_far region partitions threads ls p h) q class (named_at p.table i) of_class out in
-        taken.filled.fresh t among (taken.stays (name_of t) (subst (IsOut (root_of p q)) is (subst (λ r. IsOut r (named_at p.table i)) (sym (h.roots q)) slot)))
+        let slot = class_out region partitions (length ls + 2) ls h.ps p.told.pools (journals p) (caches p)
+        (so_far region partitions threads ls p h) q class (named_at p.table i) of_class out in
+        taken.filled.fresh t among
+        (taken.stays (name_of t) (subst (IsOut (root_of p q)) is (subst (λ r. IsOut r (named_at p.table i)) (sym (h.roots q)) slot)))
 
     pub taken_free : IsFreeOf p q class i
     taken_free =
         let k = same_kind (slot_at p.table i).class (h.slots.let_out i inside) in
         let left = class_leaves (journals p) (named_at p.table i) q class of_class in
         let word = has_word region partitions threads ls p h i inside in
-        let once = stands_once region partitions (length ls + 2) ls h.ps p.told.pools (journals p) (caches p) (so_far region partitions threads ls p h) q 0 (named_at p.table i)
+        let once = stands_once region partitions (length ls + 2) ls h.ps p.told.pools (journals p) (caches p)
+        (so_far region partitions threads ls p h) q 0 (named_at p.table i)
         (slot_at p.table i).word.0 low left word in
         let none : busy (slot_at p.table i).word.0 ≡ 0 = elim once [
           | inl once_there ↦ absurd (not_out once_there.0)

@@ -55,7 +55,8 @@ use Rattle.pa_player.proofs.Frees.{home_at, set_both}
 use Rattle.pa_rules.proofs.Versions.{real_in}
 
 -- the length of a slot of a class
-let_out_class : (version : ℕ) (roots : Journals) (x : Slot) (o : Option ℕ) (class : ℕ) → o ≡ Some class → IsLetOut version roots x o → x.title.len ≡ slot_of class
+let_out_class : (version : ℕ) (roots : Journals) (x : Slot) (o : Option ℕ) (class : ℕ) → o ≡ Some class → IsLetOut version roots x o →
+    x.title.len ≡ slot_of class
 let_out_class version roots x (Some c) class is of = of.2 ∙ ap slot_of (same_class c class is)
   where
     same_class : (a b : ℕ) → Some a ≡ Some b → a ≡ b
@@ -79,7 +80,8 @@ less_by q k a before after was now n m step lists less is = elim (cases_eq q k) 
       omega (arith, one, two, is)
 ]
 
-module _ (p : Player) (thread reg q size class i : ℕ) (rest : List ℕ) (none : HasNone (register_at p thread reg)) (of : IsClassIn p.version (max size 1 + 8) class)
+module _ (p : Player) (thread reg q size class i : ℕ) (rest : List ℕ) (none : HasNone (register_at p thread reg))
+    (of : IsClassIn p.version (max size 1 + 8) class)
     (front : list_at p thread q class ≡ i ∷ rest) where
   abbrev at : ℕ
   at = list_place p.version p.partitions thread q class
@@ -101,9 +103,16 @@ module _ (p : Player) (thread reg q size class i : ℕ) (rest : List ℕ) (none 
   cached = tallied_less q 1 x.title.len p.cached.of
 
   abbrev after : Player
-  after = record p { table = set p.table i y; registers = (registered thread reg (Own i) p).registers; caches = set p.caches at rest; live = record { of = live }; cached = record { of = cached } }
+  after = record p {
+    table = set p.table i y;
+    registers = (registered thread reg (Own i) p).registers;
+    caches = set p.caches at rest;
+    live = record { of = live };
+    cached = record { of = cached };
+  }
 
-  module _ (region partitions threads : ℕ) (ls : List Line) (can : CanGoOn region partitions threads ls (Do thread (ops.Alloc reg q size)) p) where
+  module _ (region partitions threads : ℕ) (ls : List Line)
+      (can : CanGoOn region partitions threads ls (Do thread (ops.Alloc reg q size)) p) where
     abbrev h : IsPlaying region partitions threads ls p
     h = can.playing
 
@@ -129,23 +138,34 @@ module _ (p : Player) (thread reg q size class i : ℕ) (rest : List ℕ) (none 
     shape_listed : AreShaped partitions threads (listed at rest p)
     shape_listed =
         shaped_listed partitions threads p h.shaped thread q class rest can.within.0 can.within.1.1 (of.from, of.real)
-        (λ j among. h.shaped.listed thread q class j can.within.0 can.within.1.1 (of.from, of.real) (subst (λ z. Contains z j) (sym front) (later_in i j rest among)))
+        (λ j among. h.shaped.listed thread q class j can.within.0 can.within.1.1 (of.from, of.real)
+        (subst (λ z. Contains z j) (sym front) (later_in i j rest among)))
         (let long : length (list_at p thread q class) ≡ length (i ∷ rest) = ap length front in
         let short = h.shaped.short thread q class can.within.0 can.within.1.1 (of.from, of.real) in
         omega (arith, long, short))
 
     -- what is listed then is another slot
-    unmoved : (t k c j : ℕ) → t < threads → k < partitions → HasClass p.version c → Contains (list_at (listed at rest p) t k c) j → numbered_at (set p.table i y) j ≡ numbered_at p.table j
+    unmoved : (t k c j : ℕ) → t < threads → k < partitions → HasClass p.version c → Contains (list_at (listed at rest p) t k c) j →
+        numbered_at (set p.table i y) j ≡ numbered_at p.table j
     unmoved t k c j below low real among =
         let apart : j ≡ i → ⊥ = λ e. elim (cases_eq (list_place p.version p.partitions t k c) at) [
           | inl is ↦
-              let room : at < length p.caches = omega (arith, place_below p.version p.partitions threads thread q class can.within.0 inside (of.from, of.real), h.shaped.lists, same_room) in
-              let now : list_at (listed at rest p) t k c ≡ rest = ap (λ z. get_or (set p.caches at rest) z []) is ∙ get_or-set_same p.caches at rest [] room in
+              let room : at < length p.caches =
+              omega (
+                arith,
+                place_below p.version p.partitions threads thread q class can.within.0 inside (of.from, of.real),
+                h.shaped.lists,
+                same_room,
+              ) in
+              let now : list_at (listed at rest p) t k c ≡ rest = ap (λ z. get_or (set p.caches at rest) z []) is ∙
+              get_or-set_same p.caches at rest [] room in
               front_once region partitions threads ls p h i thread q class rest can.within.0 can.within.1.1 (of.from, of.real) front
               (subst (λ z. Contains rest z) e (subst (λ z. Contains z j) now among))
           | inr ne ↦
-              let old : list_at (listed at rest p) t k c ≡ list_at p t k c = get_or-set_other p.caches at (list_place p.version p.partitions t k c) rest [] ne in
-              let (a, b, d) = listed_once region partitions threads ls p h i thread q class t k c can.within.0 can.within.1.1 (of.from, of.real) below low real there
+              let old : list_at (listed at rest p) t k c ≡ list_at p t k c =
+              get_or-set_other p.caches at (list_place p.version p.partitions t k c) rest [] ne in
+              let (a, b, d) = listed_once region partitions threads ls p h i thread q class t k c can.within.0 can.within.1.1
+              (of.from, of.real) below low real there
               (subst (λ z. Contains (list_at p t k c) z) e (subst (λ z. Contains z j) old among)) in
               ne (ap (λ z. list_place p.version p.partitions z k c) (sym a)
               ∙ ap (λ z. list_place p.version p.partitions thread z c) (sym b)
@@ -157,7 +177,8 @@ module _ (p : Player) (thread reg q size class i : ℕ) (rest : List ℕ) (none 
         same_room : threads * p.partitions * class_total p.version ≡ threads * partitions * class_total p.version
         same_room = ap (λ z. threads * z * class_total p.version) h.shaped.many
 
-    lists : (t k c : ℕ) → caches after t k c ≡ with_cache (caches p) thread (with_list (caches p thread) q class (map (numbered_at p.table) rest)) t k c
+    lists : (t k c : ℕ) → caches after t k c ≡ with_cache (caches p) thread
+        (with_list (caches p thread) q class (map (numbered_at p.table) rest)) t k c
     lists t k c =
         caches_kept partitions threads (listed at rest p) (set p.table i y) shape_listed unmoved t k c
         ∙ caches_listed p thread q class rest inside (of.from, of.real)
@@ -174,15 +195,19 @@ module _ (p : Player) (thread reg q size class i : ℕ) (rest : List ℕ) (none 
     shaped : AreShaped partitions threads after
     shaped =
         let low = here.0 in
-        let counted = shaped_cached partitions threads (listed at rest p) shape_listed cached (length-set p.cached.of q _ ∙ h.shaped.cached) in
+        let counted = shaped_cached partitions threads (listed at rest p) shape_listed cached
+        (length-set p.cached.of q _ ∙ h.shaped.cached) in
         let p1 : Player = record p { caches = set p.caches at rest; cached = record { of = cached } } in
         let tabled = shaped_table partitions threads p1 counted (set p.table i y) (keeps_set p.table i y low same) in
         let p2 : Player = record p1 { table = set p.table i y } in
-        let registered_shape = shaped_registered partitions threads p2 tabled thread reg (Own i) (omega (arith, low, length-set p.table i y)) in
-        shaped_live partitions threads (registered thread reg (Own i) p2) registered_shape live (length-set p.live.of x.partition _ ∙ h.shaped.live)
+        let registered_shape = shaped_registered partitions threads p2 tabled thread reg (Own i)
+        (omega (arith, low, length-set p.table i y)) in
+        shaped_live partitions threads (registered thread reg (Own i) p2) registered_shape live
+        (length-set p.live.of x.partition _ ∙ h.shaped.live)
 
     long : length (caches p thread q class) ≡ length (map (numbered_at p.table) rest) + 1
-    long = let is : length (caches p thread q class) ≡ length (numbered_at p.table i ∷ map (numbered_at p.table) rest) = ap length front_is in omega (arith, is)
+    long = let is : length (caches p thread q class) ≡ length (numbered_at p.table i ∷ map (numbered_at p.table) rest) =
+        ap length front_is in omega (arith, is)
 
     heavy : slot_of class * length (caches p thread q class) ≡ slot_of class * length (map (numbered_at p.table) rest) + x.title.len
     heavy =
@@ -206,28 +231,36 @@ module _ (p : Player) (thread reg q size class i : ℕ) (rest : List ℕ) (none 
         let new = with_cache (caches p) thread (with_list (caches p thread) q class (map (numbered_at p.table) rest)) in
         record {
           live = λ k low.
-              tally_in issues frees (set p.table i y) k x.partition x.title.len (named_at p.table i) (Some m) (tally_at p.live.of k) (tally_at live k) home.0 home.1 (λ w. refl) (λ w. refl)
+              tally_in issues frees (set p.table i y) k x.partition x.title.len (named_at p.table i) (Some m) (tally_at p.live.of k)
+              (tally_at live k) home.0 home.1 (λ w. refl) (λ w. refl)
               (tally_more x.partition 1 x.title.len k p.live.of (omega (arith, h.slots.among i here.0, h.shaped.four, h.shaped.live)));
-          quarantined = λ k low. tally_still enters leaves (set p.table i y) k (Some m) (tally_at p.quarantined.of k) (λ w. refl) (λ w. refl);
+          quarantined = λ k low. tally_still enters leaves (set p.table i y) k (Some m) (tally_at p.quarantined.of k) (λ w. refl)
+              (λ w. refl);
           many = λ k low.
-              less_by q k 1 (tally_at p.cached.of k).slots (tally_at cached k).slots (cached_slots (caches p) k threads) (cached_slots new k threads)
+              less_by q k 1 (tally_at p.cached.of k).slots (tally_at cached k).slots (cached_slots (caches p) k threads)
+              (cached_slots new k threads)
               (length (caches p thread q class)) (length (map (numbered_at p.table) rest)) (λ e. long)
-              (cached_slots_set (caches p) threads thread q class k (map (numbered_at p.table) rest) can.within.0 (real_in p.version class (of.from, of.real))) (fewer k).slots (h.tallied k low).many
+              (cached_slots_set (caches p) threads thread q class k (map (numbered_at p.table) rest) can.within.0
+              (real_in p.version class (of.from, of.real))) (fewer k).slots (h.tallied k low).many
               ∙ sym (cached_slots_same new (caches after) threads k lists);
           bytes = λ k low.
-              less_by q k x.title.len (tally_at p.cached.of k).bytes (tally_at cached k).bytes (cached_bytes (caches p) k threads) (cached_bytes new k threads)
+              less_by q k x.title.len (tally_at p.cached.of k).bytes (tally_at cached k).bytes (cached_bytes (caches p) k threads)
+              (cached_bytes new k threads)
               (slot_of class * length (caches p thread q class)) (slot_of class * length (map (numbered_at p.table) rest)) (λ e. heavy)
-              (cached_bytes_set (caches p) threads thread q class k (map (numbered_at p.table) rest) can.within.0 (real_in p.version class (of.from, of.real))) (fewer k).bytes (h.tallied k low).bytes
+              (cached_bytes_set (caches p) threads thread q class k (map (numbered_at p.table) rest) can.within.0
+              (real_in p.version class (of.from, of.real))) (fewer k).bytes (h.tallied k low).bytes
               ∙ sym (cached_bytes_same new (caches after) threads k lists);
         }
 
-    quiet : IsQuiet region partitions threads ls p after h thread (ops.Alloc reg q size) (answers.Made (seen_at p.table i) (x.title.len - 8))
+    quiet : IsQuiet region partitions threads ls p after h thread (ops.Alloc reg q size)
+        (answers.Made (seen_at p.table i) (x.title.len - 8))
     quiet =
         let low = here.0 in
         let seen = seen_at p.table i in
         let free = listed_free region partitions threads ls p h i thread q class can.within.0 can.within.1.1 (of.from, of.real) there in
         let away = listed_away region partitions threads ls p h i thread q class can.within.0 can.within.1.1 (of.from, of.real) there in
-        let shows = shows_step region partitions threads ls p i thread reg (Own i) y (record { of = live }) p.quarantined h low can.within.0 can.within.1.0 low same in
+        let shows = shows_step region partitions threads ls p i thread reg (Own i) y
+        (record { of = live }) p.quarantined h low can.within.0 can.within.1.0 low same in
         let keeps = keeps_set p.table i y low same in
         record {
           next = with_list (caches p thread) q class (map (numbered_at p.table) rest);
@@ -238,10 +271,14 @@ module _ (p : Player) (thread reg q size class i : ℕ) (rest : List ℕ) (none 
               (journals p) (caches p) seen
               (map (numbered_at p.table) rest) h.placed refl refl (reg, size, refl, of) front_is;
           turn =
-              subst (λ n. LeadsTo threads ls h.ps thread (ops.Alloc reg q size) (answers.Made seen n) (after_made (shown p) thread reg seen)) (sym usable_is)
-              (made_goes_on threads ls h.ps (shown p) thread reg q size seen (can_play region partitions threads ls thread (ops.Alloc reg q size) p can) can.within.1.0
-              (none_holds p.table (register_at p thread reg) none) (omega (arith, of.fits, (IsRow-of class (real_in p.version class (of.from, of.real))).greatest_slot))
-              (sym (at_name (λ z. z.word.0) p.table i h.slots.apart low)) free.held free.refs (at_name (λ z. z.title.len - 8) p.table i h.slots.apart low ∙ usable_is));
+              subst (λ n. LeadsTo threads ls h.ps thread (ops.Alloc reg q size) (answers.Made seen n)
+              (after_made (shown p) thread reg seen)) (sym usable_is)
+              (made_goes_on threads ls h.ps (shown p) thread reg q size seen
+              (can_play region partitions threads ls thread (ops.Alloc reg q size) p can) can.within.1.0
+              (none_holds p.table (register_at p thread reg) none)
+              (omega (arith, of.fits, (IsRow-of class (real_in p.version class (of.from, of.real))).greatest_slot))
+              (sym (at_name (λ z. z.word.0) p.table i h.slots.apart low)) free.held free.refs
+              (at_name (λ z. z.title.len - 8) p.table i h.slots.apart low ∙ usable_is));
           like = record {
             rules = refl;
             regs = shows.regs;
@@ -266,24 +303,31 @@ module _ (p : Player) (thread reg q size class i : ℕ) (rest : List ℕ) (none 
           };
           keeps = keeps;
           few = omega (arith, length-set p.table i y);
-          slots = all_slots_set partitions p.table p.told.pools (journals p) (root_of p) i y h.slots low same away.none (mapped_class (root_of p x.partition) y x.class class here.2);
+          slots = all_slots_set partitions p.table p.told.pools (journals p) (root_of p) i y h.slots low same away.none
+              (mapped_class (root_of p x.partition) y x.class class here.2);
           shaped = shaped;
           marked = λ m e.
-              let slot : named_at p.table i ≡ m.slot = ap (λ (z : Mark). z.slot) (some_mark (mark_at (length ls + 2) seen (Some steps.Issue)) m e) in
+              let slot : named_at p.table i ≡ m.slot =
+              ap (λ (z : Mark). z.slot) (some_mark (mark_at (length ls + 2) seen (Some steps.Issue)) m e) in
               (i, (omega (arith, length-set p.table i y, low), keeps_named p.table (set p.table i y) i keeps low ∙ slot));
           counts = counts;
         }
 
   -- the front of the list was issued
-  pub front_issued : Plays p thread (ops.Alloc reg q size) (issued thread reg i (cached_less q 1 x.title.len (listed at rest p))) (answers.Made (seen_at p.table i) (x.title.len - 8))
+  pub front_issued : Plays p thread (ops.Alloc reg q size) (issued thread reg i (cached_less q 1 x.title.len (listed at rest p)))
+      (answers.Made (seen_at p.table i) (x.title.len - 8))
   front_issued region partitions threads ls can =
-      let made = quiet_plays p thread (ops.Alloc reg q size) after (answers.Made (seen_at p.table i) (x.title.len - 8)) quiet region partitions threads ls can in
-      subst (λ slots. PlaysAfter region partitions threads ls p thread (ops.Alloc reg q size) (record after { table = slots }) (answers.Made (seen_at p.table i) (x.title.len - 8)))
+      let made = quiet_plays p thread (ops.Alloc reg q size) after
+      (answers.Made (seen_at p.table i) (x.title.len - 8)) quiet region partitions threads ls can in
+      subst (λ slots. PlaysAfter region partitions threads ls p thread (ops.Alloc reg q size) (record after { table = slots })
+      (answers.Made (seen_at p.table i) (x.title.len - 8)))
       (sym (set_both p.table i 0 (stepped steps.Issue x.word.0) (here region partitions threads ls can).0)) made
 
 -- an allocation is played if its list has a front
-pub front_plays : (p r : Player) (thread reg q size class : ℕ) (answer : Answer) → HasNone (register_at p thread reg) → IsClassIn p.version (max size 1 + 8) class
-    → IsFrontIssued thread reg q (list_place p.version p.partitions thread q class) p r answer → Plays p thread (ops.Alloc reg q size) r answer
+pub front_plays : (p r : Player) (thread reg q size class : ℕ) (answer : Answer) → HasNone (register_at p thread reg) →
+    IsClassIn p.version (max size 1 + 8) class
+    → IsFrontIssued thread reg q (list_place p.version p.partitions thread q class) p r answer →
+    Plays p thread (ops.Alloc reg q size) r answer
 front_plays p r thread reg q size class answer none of h =
     let made = front_issued p thread reg q size class h.place h.rest none of h.front in
     subst (λ z. Plays p thread (ops.Alloc reg q size) z answer) (sym h.issued)

@@ -24,7 +24,8 @@ use Rattle.pa_player.specs.Asks.{CanGive}
 use Rattle.pa_player.specs.Changes.{gave_back, bytes_at}
 use Rattle.pa_player.specs.Playing.{numbered_at, root_of}
 use Rattle.pa_player.specs.Tables.{slot_at}
-use Rattle.pa_player.specs.Tallies.{tally_at, no_tally}
+use Rattle.pa_rules.specs.Lists.{no_tally}
+use Rattle.pa_player.specs.Tallies.{tally_at}
 use Rattle.pa_player.specs.Told.{journal_in}
 use Rattle.pa_rules.proofs.Batches.{batches_same}
 
@@ -89,9 +90,11 @@ bytes_append slots xs ys =
 
 -- a player with these roots, journals and tallies of the caches
 abbrev pub with_given : Player → List Root → List (List RootEntry) → List Tally → Player
-with_given p roots journals cached = record p { heap = record p.heap { roots = roots }; told = record p.told { journals = journals }; cached = record { of = cached } }
+with_given p roots journals cached =
+    record p { heap = record p.heap { roots = roots }; told = record p.told { journals = journals }; cached = record { of = cached } }
 
-with_same : (p : Player) (rs rs' : List Root) (js js' : List (List RootEntry)) (ts ts' : List Tally) → rs ≡ rs' → js ≡ js' → ts ≡ ts' → with_given p rs js ts ≡ with_given p rs' js' ts'
+with_same : (p : Player) (rs rs' : List Root) (js js' : List (List RootEntry)) (ts ts' : List Tally) → rs ≡ rs' → js ≡ js' → ts ≡ ts' →
+    with_given p rs js ts ≡ with_given p rs' js' ts'
 with_same p rs rs' js js' ts ts' a b c =
     ap (λ z. with_given p z js ts) a ∙ ap (λ z. with_given p rs' z ts) b ∙ ap (λ z. with_given p rs' js' z) c
 
@@ -102,7 +105,8 @@ tally_same a b c d e f = ap (λ z. tally_of z b) e ∙ ap (tally_of c) f
 pub gave_none : (q : ℕ) (p : Player) → gave_back q [] p ≡ p
 gave_none q p =
     let t = tally_at p.cached.of q in
-    let same : tally_of (t.slots - 0) (t.bytes - 0) ≡ t = tally_same (t.slots - 0) (t.bytes - 0) t.slots t.bytes (omega arith) (omega arith) in
+    let same : tally_of (t.slots - 0) (t.bytes - 0) ≡ t =
+    tally_same (t.slots - 0) (t.bytes - 0) t.slots t.bytes (omega arith) (omega arith) in
     with_same p (set p.heap.roots q (root_of p q)) p.heap.roots (set p.told.journals q (journal_in p.told q ++ [])) p.told.journals
     (set p.cached.of q (tally_of (t.slots - 0) (t.bytes - 0))) p.cached.of
     (set-get_or p.heap.roots q new_root)
@@ -110,11 +114,13 @@ gave_none q p =
     (ap (set p.cached.of q) same ∙ set-get_or p.cached.of q no_tally)
 
 -- what is out of both parts
-out_parts : (slots : List Slot) (r : Root) (xs ys : List ℕ) → AreOut r (map (numbered_at slots) (xs ++ ys)) → AreOut r (map (numbered_at slots) xs ++ map (numbered_at slots) ys)
+out_parts : (slots : List Slot) (r : Root) (xs ys : List ℕ) → AreOut r (map (numbered_at slots) (xs ++ ys)) →
+    AreOut r (map (numbered_at slots) xs ++ map (numbered_at slots) ys)
 out_parts slots r xs ys h = subst (λ z. AreOut r z) (map-append (numbered_at slots) xs ys) h
 
 -- what goes back in two parts, the first of which is a batch
-pub gave_parts : (q : ℕ) (xs ys : List ℕ) (p : Player) → IsBatch xs ys → q < length p.heap.roots → q < length p.told.journals → q < length p.cached.of
+pub gave_parts : (q : ℕ) (xs ys : List ℕ) (p : Player) → IsBatch xs ys → q < length p.heap.roots → q < length p.told.journals →
+    q < length p.cached.of
     → gave_back q (xs ++ ys) p ≡ gave_back q ys (gave_back q xs p)
 gave_parts q xs ys p batch root journal tally =
     let num = numbered_at p.table in
@@ -127,29 +133,35 @@ gave_parts q xs ys p batch root journal tally =
     let roots : set p.heap.roots q (all_returned (names (map num (xs ++ ys))) r)
     ≡ set (set p.heap.roots q r1) q (all_returned (names (map num ys)) (get_or (set p.heap.roots q r1) q new_root)) =
     ap (set p.heap.roots q) e1 ∙ sym (set-set p.heap.roots q r1 r2)
-    ∙ ap (λ z. set (set p.heap.roots q r1) q (all_returned (names (map num ys)) z)) (sym (get_or-set_same p.heap.roots q r1 new_root root)) in
+    ∙ ap (λ z. set (set p.heap.roots q r1) q (all_returned (names (map num ys)) z))
+    (sym (get_or-set_same p.heap.roots q r1 new_root root)) in
     let j = journal_in p.told q in
     let line = p.told.line in
     let g1 = entries_at line (gives (map num xs)) in
     let g2 = entries_at line (gives (map num ys)) in
     let many : IsBatch (map num xs) (map num ys) = batch_map num xs ys batch in
     let e2 : j ++ entries_at line (gives (map num (xs ++ ys))) ≡ (j ++ g1) ++ g2 =
-    ap (λ z. j ++ entries_at line (gives z)) (map-append num xs ys) ∙ ap (λ z. j ++ entries_at line z) (gives_append (map num xs) (map num ys) many)
+    ap (λ z. j ++ entries_at line (gives z)) (map-append num xs ys) ∙
+    ap (λ z. j ++ entries_at line z) (gives_append (map num xs) (map num ys) many)
     ∙ ap (λ z. j ++ z) (map-append (λ (a : RootAct). record { line = line; act = a }) (gives (map num xs)) (gives (map num ys)))
     ∙ sym (append_assoc j g1 g2) in
-    let journals : set p.told.journals q (j ++ entries_at line (gives (map num (xs ++ ys)))) ≡ set (set p.told.journals q (j ++ g1)) q (get_or (set p.told.journals q (j ++ g1)) q [] ++ g2) =
+    let journals : set p.told.journals q (j ++ entries_at line (gives (map num (xs ++ ys)))) ≡ set (set p.told.journals q (j ++ g1)) q
+    (get_or (set p.told.journals q (j ++ g1)) q [] ++ g2) =
     ap (set p.told.journals q) e2 ∙ sym (set-set p.told.journals q (j ++ g1) ((j ++ g1) ++ g2))
     ∙ ap (λ z. set (set p.told.journals q (j ++ g1)) q (z ++ g2)) (sym (get_or-set_same p.told.journals q (j ++ g1) [] journal)) in
     let t = tally_at p.cached.of q in
     let t1 = tally_of (t.slots - length xs) (t.bytes - bytes_at p.table xs) in
     let ea = length-append xs ys in
     let eb = bytes_append p.table xs ys in
-    let e3 : tally_of (t.slots - length (xs ++ ys)) (t.bytes - bytes_at p.table (xs ++ ys)) ≡ tally_of (t1.slots - length ys) (t1.bytes - bytes_at p.table ys) =
+    let e3 : tally_of (t.slots - length (xs ++ ys)) (t.bytes - bytes_at p.table (xs ++ ys)) ≡ tally_of (t1.slots - length ys)
+    (t1.bytes - bytes_at p.table ys) =
     tally_same (t.slots - length (xs ++ ys)) (t.bytes - bytes_at p.table (xs ++ ys)) (t.slots - length xs - length ys)
     (t.bytes - bytes_at p.table xs - bytes_at p.table ys) (omega arith) (omega arith) in
     let less : Tally → Tally = λ z. tally_of (z.slots - length ys) (z.bytes - bytes_at p.table ys) in
-    let cached : set p.cached.of q (tally_of (t.slots - length (xs ++ ys)) (t.bytes - bytes_at p.table (xs ++ ys))) ≡ set (set p.cached.of q t1) q (less (get_or (set p.cached.of q t1) q no_tally)) =
-    ap (set p.cached.of q) e3 ∙ sym (set-set p.cached.of q t1 (less t1)) ∙ ap (λ z. set (set p.cached.of q t1) q (less z)) (sym (get_or-set_same p.cached.of q t1 no_tally tally)) in
+    let cached : set p.cached.of q (tally_of (t.slots - length (xs ++ ys)) (t.bytes - bytes_at p.table (xs ++ ys))) ≡ set
+    (set p.cached.of q t1) q (less (get_or (set p.cached.of q t1) q no_tally)) =
+    ap (set p.cached.of q) e3 ∙ sym (set-set p.cached.of q t1 (less t1)) ∙
+    ap (λ z. set (set p.cached.of q t1) q (less z)) (sym (get_or-set_same p.cached.of q t1 no_tally tally)) in
     with_same p _ _ _ _ _ _ roots journals cached
 
 -- the partitions of the caches' tallies stay
@@ -168,9 +180,11 @@ can_front q xs ys p h =
       root = h.root;
       journal = h.journal;
       four = h.four;
-      among = All-same (λ i. i < length p.table) xs (take (length xs) (xs ++ ys)) (sym (take-append_seam xs ys)) (All-take (λ i. i < length p.table) (length xs) (xs ++ ys) h.among);
+      among = All-same (λ i. i < length p.table) xs (take (length xs) (xs ++ ys)) (sym (take-append_seam xs ys))
+          (All-take (λ i. i < length p.table) (length xs) (xs ++ ys) h.among);
       sound = h.sound;
-      out = parts_are_out.front (root_of p q) (map (numbered_at p.table) xs) (map (numbered_at p.table) ys) (out_parts p.table (root_of p q) xs ys h.out);
+      out = parts_are_out.front (root_of p q) (map (numbered_at p.table) xs) (map (numbered_at p.table) ys)
+          (out_parts p.table (root_of p q) xs ys h.out);
       turn = let k = h.turn in omega arith;
       few = let k = h.few in omega arith;
       slots = let k = h.slots in omega arith;
@@ -178,7 +192,8 @@ can_front q xs ys p h =
     }
 
 behind_among : (n : ℕ) (xs ys : List ℕ) → All (λ i. i < n) (xs ++ ys) → All (λ i. i < n) ys
-behind_among n xs ys h = All-same (λ i. i < n) ys (drop (length xs) (xs ++ ys)) (sym (drop-append_seam xs ys)) (All-drop (λ i. i < n) (length xs) (xs ++ ys) h)
+behind_among n xs ys h =
+    All-same (λ i. i < n) ys (drop (length xs) (xs ++ ys)) (sym (drop-append_seam xs ys)) (All-drop (λ i. i < n) (length xs) (xs ++ ys) h)
 
 pub can_behind : (q : ℕ) (xs ys : List ℕ) (p : Player) → CanGive q (xs ++ ys) p → CanGive q ys p
 can_behind q xs ys p h =
@@ -189,7 +204,8 @@ can_behind q xs ys p h =
       four = h.four;
       among = behind_among (length p.table) xs ys h.among;
       sound = h.sound;
-      out = parts_are_out.behind (root_of p q) (map (numbered_at p.table) xs) (map (numbered_at p.table) ys) (out_parts p.table (root_of p q) xs ys h.out);
+      out = parts_are_out.behind (root_of p q) (map (numbered_at p.table) xs) (map (numbered_at p.table) ys)
+          (out_parts p.table (root_of p q) xs ys h.out);
       turn = let k = h.turn in omega arith;
       few = let k = h.few in omega arith;
       slots = let k = h.slots in omega arith;
@@ -217,7 +233,8 @@ can_rest q xs ys p tally h =
     let k1 = length-set p.heap.roots q r1 in
     let k2 = length-set p.told.journals q (j ++ g1) in
     let n1 : length (names (map num xs)) ≡ length xs = length-map (map num xs) (λ (n : Numbered). n.slot) ∙ length-map xs num in
-    let n2 : length g1 ≡ length (gives (map num xs)) = length-map (gives (map num xs)) (λ (z : RootAct). record { line = p.told.line; act = z }) in
+    let n2 : length g1 ≡ length (gives (map num xs)) =
+    length-map (gives (map num xs)) (λ (z : RootAct). record { line = p.told.line; act = z }) in
     let n3 = gives_short (map num xs) in
     let n4 = length-map xs num in
     let n5 = length-append j g1 in

@@ -35,11 +35,13 @@ use Rattle.pa_player.proofs.Shows.{gain, IsTallyMore}
 
 -- ---- sizes, and where a slot that has one is
 
-pub let_out_sized : (version : ℕ) (roots : Journals) (x : Slot) (class : Option ℕ) → IsLetOut version roots x class → HasSize roots x.partition (name_of x.title) x.title.len
+pub let_out_sized : (version : ℕ) (roots : Journals) (x : Slot) (class : Option ℕ) → IsLetOut version roots x class →
+    HasSize roots x.partition (name_of x.title) x.title.len
 let_out_sized version roots x (Some class) of = inl (class, of.1, of.2)
 let_out_sized version roots x None of = inr of
 
-pub moves_not_none : (journal : List RootEntry) (s : SlotName) (e : RootEntry) (m : Move) → Contains journal e → Contains (moves_by e.line e.act) m → m.slot ≡ s → moves_of journal s ≡ [] → ⊥
+pub moves_not_none : (journal : List RootEntry) (s : SlotName) (e : RootEntry) (m : Move) → Contains journal e →
+    Contains (moves_by e.line e.act) m → m.slot ≡ s → moves_of journal s ≡ [] → ⊥
 moves_not_none journal s e m among moves is none =
     let all = flat_in (λ (f : RootEntry). moves_by f.line f.act) journal e m among moves in
     let kept = filter_in (is_of s) (all_moves journal) m all (same_slot_yes m.slot s is) in
@@ -49,19 +51,22 @@ pub size_moves : (roots : Journals) (k : ℕ) (s : SlotName) (len : ℕ) → Has
 size_moves roots k s len (inl (class, of, is)) none =
     let (e, asked, slots, among, act, member) = of in
     let (n, there, name) = map_cases (λ (z : Numbered). z.slot) slots s member in
-    moves_not_none (roots k) s e (move_of e.line Out n) among (subst (λ a. Contains (moves_by e.line a) (move_of e.line Out n)) (sym act) (map_in (move_of e.line Out) slots n there)) name none
+    moves_not_none (roots k) s e (move_of e.line Out n) among
+    (subst (λ a. Contains (moves_by e.line a) (move_of e.line Out n)) (sym act) (map_in (move_of e.line Out) slots n there)) name none
 size_moves roots k s len (inr (e, asked, among, act)) none =
     let m : Move = record { line = e.line; slot = s; number = 0; way = Out } in
     moves_not_none (roots k) s e m among (subst (λ a. Contains (moves_by e.line a) m) (sym act) (first_in m [])) refl none
 
-pub sized_place : {version : ℕ} (partitions : ℕ) (slots : List Slot) (pools : List PoolEntry) (roots : Journals) (root : ℕ → Root) (k : ℕ) (s : SlotName) (len : ℕ)
+pub sized_place : {version : ℕ} (partitions : ℕ) (slots : List Slot) (pools : List PoolEntry) (roots : Journals) (root : ℕ → Root) (k : ℕ)
+    (s : SlotName) (len : ℕ)
     → AreAllSlots version partitions slots pools roots root → HasSize roots k s len → (i : ℕ) × IsPlaceOf slots s i
 sized_place partitions slots pools roots root k s len h sized = elim (slot_cases slots s) [
   | inl there ↦ there
   | inr none ↦ absurd (size_moves roots k s len sized (h.others k s none))
 ]
 
-pub size_grown : (roots : Journals) (n : ℕ) (acts : Acts) (k : ℕ) (s : SlotName) (len : ℕ) → HasSize roots k s len → HasSize (grown roots n acts) k s len
+pub size_grown : (roots : Journals) (n : ℕ) (acts : Acts) (k : ℕ) (s : SlotName) (len : ℕ) → HasSize roots k s len →
+    HasSize (grown roots n acts) k s len
 size_grown roots n acts k s len (inl (class, of, is)) =
     let (e, asked, slots, among, act, member) = of in
     inl (class, (e, asked, slots, grown_old roots n acts k e among, act, member), is)
@@ -69,11 +74,13 @@ size_grown roots n acts k s len (inr (e, asked, among, act)) = inr (e, asked, gr
 
 -- ---- weights
 
-weight_push : (test : Step → ℕ → Bool) (weight : SlotName → ℕ) (ms : List Mark) (o : Option Mark) → weight_of test weight (with_mark ms o) ≡ weight_of test weight ms + gain test weight o
+weight_push : (test : Step → ℕ → Bool) (weight : SlotName → ℕ) (ms : List Mark) (o : Option Mark) →
+    weight_of test weight (with_mark ms o) ≡ weight_of test weight ms + gain test weight o
 weight_push test weight ms None = omega arith
 weight_push test weight ms (Some m) = sum_by_push (λ (x : Mark). if at_step test x.found x.step then weight x.slot else 0) ms m
 
-weight_same : (test : Step → ℕ → Bool) (f g : SlotName → ℕ) (ms : List Mark) → ((m : Mark) → Contains ms m → g m.slot ≡ f m.slot) → weight_of test g ms ≡ weight_of test f ms
+weight_same : (test : Step → ℕ → Bool) (f g : SlotName → ℕ) (ms : List Mark) → ((m : Mark) → Contains ms m → g m.slot ≡ f m.slot) →
+    weight_of test g ms ≡ weight_of test f ms
 weight_same test f g [] same = refl
 weight_same test f g (m ∷ ms) same =
     let v : (SlotName → ℕ) → Mark → ℕ = λ w x. if at_step test x.found x.step then w x.slot else 0 in
@@ -85,14 +92,20 @@ weight_same test f g (m ∷ ms) same =
 
 -- the homes and the lengths of the slots of some marks are the same in both tables
 abbrev pub AreSameHomes : List Slot → List Slot → List Mark → Type 0
-AreSameHomes before after ms = (m : Mark) → Contains ms m → (home_in after m.slot ≡ home_in before m.slot) × (len_in after m.slot ≡ len_in before m.slot)
+AreSameHomes before after ms = (m : Mark) → Contains ms m → (home_in after m.slot ≡ home_in before m.slot) ×
+    (len_in after m.slot ≡ len_in before m.slot)
 
-pub left_more : (into out : Step → ℕ → Bool) (before after : List Slot) (k : ℕ) (ms : List Mark) (o : Option Mark) (t u : Tally) → AreSameHomes before after ms
-    → IsLeft into out (home_in before) (len_in before) k ms t → IsTallyMore into out after k o t u → IsLeft into out (home_in after) (len_in after) k (with_mark ms o) u
+pub left_more : (into out : Step → ℕ → Bool) (before after : List Slot) (k : ℕ) (ms : List Mark) (o : Option Mark) (t u : Tally) →
+    AreSameHomes before after ms
+    → IsLeft into out (home_in before) (len_in before) k ms t → IsTallyMore into out after k o t u →
+    IsLeft into out (home_in after) (len_in after) k (with_mark ms o) u
 left_more into out before after k ms o t u same h m =
-    let one : (x : Mark) → Contains ms x → one_of (home_in after) k x.slot ≡ one_of (home_in before) k x.slot = λ x among. ap (λ z. if z == k then 1 else 0) (same x among).0 in
-    let many : (x : Mark) → Contains ms x → bytes_of (home_in after) (len_in after) k x.slot ≡ bytes_of (home_in before) (len_in before) k x.slot =
-    λ x among. ap (λ z. if z == k then len_in after x.slot else 0) (same x among).0 ∙ ap (λ z. if home_in before x.slot == k then z else 0) (same x among).1 in
+    let one : (x : Mark) → Contains ms x → one_of (home_in after) k x.slot ≡ one_of (home_in before) k x.slot =
+    λ x among. ap (λ z. if z == k then 1 else 0) (same x among).0 in
+    let many : (x : Mark) → Contains ms x →
+    bytes_of (home_in after) (len_in after) k x.slot ≡ bytes_of (home_in before) (len_in before) k x.slot =
+    λ x among. ap (λ z. if z == k then len_in after x.slot else 0) (same x among).0 ∙
+    ap (λ z. if home_in before x.slot == k then z else 0) (same x among).1 in
     record {
       slots =
           let a = weight_push into (one_of (home_in after) k) ms o in

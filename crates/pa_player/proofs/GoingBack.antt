@@ -48,7 +48,8 @@ use Rattle.pa_rules.proofs.Versions.{real_in}
 use Rattle.pa_rules.specs.Sizes.{HasClass}
 
 -- slots of one length
-pub bytes_of_one : (slots : List Slot) (len : ℕ) (xs : List ℕ) → ((i : ℕ) → Contains xs i → (slot_at slots i).title.len ≡ len) → bytes_at slots xs ≡ len * length xs
+pub bytes_of_one : (slots : List Slot) (len : ℕ) (xs : List ℕ) → ((i : ℕ) → Contains xs i → (slot_at slots i).title.len ≡ len) →
+    bytes_at slots xs ≡ len * length xs
 bytes_of_one slots len [] one = omega arith
 bytes_of_one slots len (x ∷ xs) one =
     let more = sum_by-cons (λ (n : ℕ). n) (slot_at slots x).title.len (map (λ (i : ℕ). (slot_at slots i).title.len) xs) in
@@ -63,7 +64,8 @@ names_kept before after [] keeps among = refl
 names_kept before after (x ∷ xs) keeps among =
     let f : SlotName → List SlotName = λ s. s ∷ names (map (numbered_at after) xs) in
     let g : List SlotName → List SlotName = λ zs. named_at before x ∷ zs in
-    ap f (keeps_named before after x keeps (among x (first_in x xs))) ∙ ap g (names_kept before after xs keeps (λ i there. among i (later_in x i xs there)))
+    ap f (keeps_named before after x keeps (among x (first_in x xs))) ∙
+    ap g (names_kept before after xs keeps (λ i there. among i (later_in x i xs there)))
 
 -- slots of these names can go back to the root
 abbrev pub AreNamesOut : Root → List SlotName → Type 0
@@ -77,33 +79,45 @@ module _ (region partitions threads : ℕ) (ls : List Line) (p : Player) (h : Is
   entries_are = ap (λ (s : PoolState). s.entries) h.plan ∙ pool_is_sound.counted region p.told.pools
 
   -- a slot of a list
-  pub listed_len : (t q class i : ℕ) → t < threads → q < partitions → HasClass p.version class → Contains (list_at p t q class) i → (slot_at p.table i).title.len ≡ slot_of class
+  pub listed_len : (t q class i : ℕ) → t < threads → q < partitions → HasClass p.version class → Contains (list_at p t q class) i →
+      (slot_at p.table i).title.len ≡ slot_of class
   listed_len t q class i below low real among =
       let (inside, home, of) = h.shaped.listed t q class i below low real among in
       (subst (IsLetOut p.version (journals p) (slot_at p.table i)) of (h.slots.let_out i inside)).2
 
   pub list_length : (t q class : ℕ) → q < partitions → HasClass p.version class → length (caches p t q class) ≡ length (list_at p t q class)
-  list_length t q class low real = ap length (caches_here p t q class (omega (arith, low, h.shaped.many)) real) ∙ length-map (list_at p t q class) (numbered_at p.table)
+  list_length t q class low real = ap length (caches_here p t q class (omega (arith, low, h.shaped.many)) real) ∙
+      length-map (list_at p t q class) (numbered_at p.table)
 
   -- a list is counted
   pub list_counted : (t q class : ℕ) → t < threads → q < partitions → HasClass p.version class
-      → (length (list_at p t q class) ≤ (tally_at p.cached.of q).slots) × (slot_of class * length (list_at p t q class) ≤ (tally_at p.cached.of q).bytes)
+      → (length (list_at p t q class) ≤ (tally_at p.cached.of q).slots) ×
+      (slot_of class * length (list_at p t q class) ≤ (tally_at p.cached.of q).bytes)
   list_counted t q class below low real =
       let same = list_length t q class low real in
       let (slots, bytes) = list_within (caches p) threads t q class below (real_in p.version class real) in
-      let product : slot_of class * length (caches p t q class) ≡ slot_of class * length (list_at p t q class) = ap (λ n. slot_of class * n) same in
+      let product : slot_of class * length (caches p t q class) ≡ slot_of class * length (list_at p t q class) =
+      ap (λ n. slot_of class * n) same in
       (omega (arith, same, slots, (h.tallied q low).many), omega (arith, product, bytes, (h.tallied q low).bytes))
 
 -- ---- a slot that a step returned
 
-module _ (region partitions threads : ℕ) (ls : List Line) (p : Player) (h : IsPlaying region partitions threads ls p) (thread : ℕ) (op : Op) (short : length ls ≤ 65535) (few : threads ≤ 16)
-    (below : thread < threads) (i : ℕ) (inside : i < length p.table) (step : Step) (makes : step_of op ≡ Some step) (returning : IsReturning step (slot_at p.table i).word.0)
+module _ (region partitions threads : ℕ) (ls : List Line) (p : Player) (h : IsPlaying region partitions threads ls p) (thread : ℕ) (op : Op)
+    (short : length ls ≤ 65535) (few : threads ≤ 16)
+    (below : thread < threads) (i : ℕ) (inside : i < length p.table) (step : Step) (makes : step_of op ≡ Some step)
+    (returning : IsReturning step (slot_at p.table i).word.0)
     (table : List Slot) (keeps : KeepsSlots p.table table) (registers : List (List (Register ℕ))) (live quarantined : Tallies) where
   low : (slot_at p.table i).partition < partitions
   low = h.slots.among i inside
 
   returns : Returns h.ps (played_at (rules_at p) ls thread op (answers.Done (seen_at p.table i))) (seen_at p.table i)
-  returns = record { step = step; answer = refl; makes = makes; returning = returning; word = has_word region partitions threads ls p h i inside }
+  returns = record {
+    step = step;
+    answer = refl;
+    makes = makes;
+    returning = returning;
+    word = has_word region partitions threads ls p h i inside;
+  }
 
   -- to its list
   module _ (class : ℕ) (of : (slot_at p.table i).class ≡ Some class) where
@@ -121,14 +135,17 @@ module _ (region partitions threads : ℕ) (ls : List Line) (p : Player) (h : Is
         ap (λ (t : Title). t.len) (keeps.title j (h.shaped.listed thread (slot_at p.table i).partition class j below low let_out.0 among).0)
         ∙ listed_len region partitions threads ls p h thread (slot_at p.table i).partition class j below low let_out.0 among
 
-    out : AreOut (root_of p (slot_at p.table i).partition) (map (numbered_at table) (i ∷ list_at p thread (slot_at p.table i).partition class))
+    out : AreOut (root_of p (slot_at p.table i).partition)
+        (map (numbered_at table) (i ∷ list_at p thread (slot_at p.table i).partition class))
     out =
         let q = (slot_at p.table i).partition in
-        let back = return_is_done region partitions (length ls + 2) q class ls h.ps (played_at (rules_at p) ls thread op (answers.Done (seen_at p.table i))) p.told.pools (journals p) (caches p)
+        let back = return_is_done region partitions (length ls + 2) q class ls h.ps
+        (played_at (rules_at p) ls thread op (answers.Done (seen_at p.table i))) p.told.pools (journals p) (caches p)
         (seen_at p.table i) (so_far region partitions threads ls p h) refl returns let_out.1 in
         let here = caches_here p thread q class (omega (arith, low, h.shaped.many)) let_out.0 in
         let N : Root → List Numbered → Type 0 = λ r zs. AreOut r (returned_by (seen_at p.table i) ∷ zs) in
-        let a : N (root_of p q) (map (numbered_at p.table) (list_at p thread q class)) = subst (N (root_of p q)) here (subst (λ r. N r (caches p thread q class)) (sym (h.roots q)) back.0) in
+        let a : N (root_of p q) (map (numbered_at p.table) (list_at p thread q class)) =
+        subst (N (root_of p q)) here (subst (λ r. N r (caches p thread q class)) (sym (h.roots q)) back.0) in
         subst (AreNamesOut (root_of p q)) (sym (names_kept p.table table (i ∷ list_at p thread q class) keeps member)) a
 
     gives : CanGive (slot_at p.table i).partition (i ∷ list_at p thread (slot_at p.table i).partition class)
@@ -158,7 +175,8 @@ module _ (region partitions threads : ℕ) (ls : List Line) (p : Player) (h : Is
           bytes = omega (arith, bytes, first, bytes_of_one table (slot_of class) xs long, counted.1);
         }
 
-    put_back : CanPutBack thread i (slot_at p.table i).partition class (record p { table = table; registers = registers; live = live; quarantined = quarantined })
+    put_back : CanPutBack thread i (slot_at p.table i).partition class
+        (record p { table = table; registers = registers; live = live; quarantined = quarantined })
     put_back =
         let q = (slot_at p.table i).partition in
         let cached = cached_few region partitions threads ls p h q few low in
@@ -175,15 +193,18 @@ module _ (region partitions threads : ℕ) (ls : List Line) (p : Player) (h : Is
         }
 
   -- to the pool
-  module _ (of : (slot_at p.table i).class ≡ None) (used : 0 < held_of (slot_at p.table i).word.0 + refs_of (slot_at p.table i).word.0) where
+  module _ (of : (slot_at p.table i).class ≡ None)
+      (used : 0 < held_of (slot_at p.table i).word.0 + refs_of (slot_at p.table i).word.0) where
     mapped : Contains (root_of p (slot_at p.table i).partition).maps (slot_at p.table i).title
     mapped = subst (IsMappedAs (root_of p (slot_at p.table i).partition) (slot_at p.table i)) of (h.slots.mapped i inside) used
 
-    unmap : CanUnmap i (slot_at p.table i).partition (record p { table = table; registers = registers; live = live; quarantined = quarantined })
+    unmap : CanUnmap i (slot_at p.table i).partition
+        (record p { table = table; registers = registers; live = live; quarantined = quarantined })
     unmap =
         let q = (slot_at p.table i).partition in
         let there = subst (λ r. Contains r.maps (slot_at p.table i).title) (h.roots q) mapped in
-        let (u, one, whose) = maps_are_taken region partitions (length ls + 2) q h.ps p.told.pools (journals p) (caches p) (slot_at p.table i).title h.placed h.pooled there in
+        let (u, one, whose) = maps_are_taken region partitions (length ls + 2) q h.ps p.told.pools (journals p) (caches p)
+        (slot_at p.table i).title h.placed h.pooled there in
         let T : PoolState → Title → Type 0 = λ s t. (v : Taken) × IsOneTake s (super_page_at t.start) (supers_for t.len) v in
         let same = keeps.title i inside in
         record {
@@ -197,7 +218,8 @@ module _ (region partitions threads : ℕ) (ls : List Line) (p : Player) (h : Is
 
   -- a slot that a step returned can go back
   pub take_back : 0 < held_of (slot_at p.table i).word.0 + refs_of (slot_at p.table i).word.0
-      → CanTakeBack thread i (slot_at p.table i).partition (slot_at p.table i).class (record p { table = table; registers = registers; live = live; quarantined = quarantined })
+      → CanTakeBack thread i (slot_at p.table i).partition (slot_at p.table i).class
+      (record p { table = table; registers = registers; live = live; quarantined = quarantined })
   take_back used = by_class (slot_at p.table i).class refl
     where
       by_class : (o : Option ℕ) → (slot_at p.table i).class ≡ o

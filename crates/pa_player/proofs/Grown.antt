@@ -40,17 +40,20 @@ module _ (before after news : List Slot) (g : IsGrown before after news) where
   new_at i past low =
       let there : slot_at after i ≡ slot_at (before ++ news) i = ap (λ z. slot_at z i) g.table in
       let e = grown_length in
-      let at : slot_at (before ++ news) i ≡ slot_at news (i - length before) = get_or-append_right before news (length before) i no_slot refl past in
+      let at : slot_at (before ++ news) i ≡ slot_at news (i - length before) =
+      get_or-append_right before news (length before) i no_slot refl past in
       subst (λ z. Contains news z) (sym (there ∙ at)) (Contains-get_or news (i - length before) no_slot (omega arith))
 
   -- a name leads to the same slot, or to one that was never issued
-  pub by_name_grown : AreNamed before → (s : SlotName) → (slot_of_name after s ≡ slot_of_name before s) ⊎ ((word_in before s ≡ 0) × (word_in after s ≡ 0))
+  pub by_name_grown : AreNamed before → (s : SlotName) → (slot_of_name after s ≡ slot_of_name before s) ⊎
+      ((word_in before s ≡ 0) × (word_in after s ≡ 0))
   by_name_grown named s = elim (slot_cases before s) [
     | inl there ↦
         let i = there.0 in
         let low = there.1.0 in
         let e = grown_length in
-        inl (slot_here after s i g.apart (omega arith, keeps_named before after i keeps_grown low ∙ there.1.1) ∙ old_at i low ∙ sym (slot_here before s i named there.1))
+        inl (slot_here after s i g.apart (omega arith, keeps_named before after i keeps_grown low ∙ there.1.1) ∙ old_at i low ∙
+        sym (slot_here before s i named there.1))
     | inr none ↦ elim (slot_cases after s) [
       | inl there ↦
           let j = there.0 in
@@ -58,13 +61,18 @@ module _ (before after news : List Slot) (g : IsGrown before after news) where
             | inl low ↦ absurd (none j low (sym (keeps_named before after j keeps_grown low) ∙ there.1.1))
             | inr at_least ↦ at_least
           ] in
-          inr (ap (λ (z : Slot). z.word.0) (slot_nowhere before s none), ap (λ (z : Slot). z.word.0) (slot_here after s j g.apart there.1) ∙ g.unissued (slot_at after j) (new_at j past there.1.0))
+          inr (
+            ap (λ (z : Slot). z.word.0) (slot_nowhere before s none),
+            ap (λ (z : Slot). z.word.0) (slot_here after s j g.apart there.1) ∙
+                g.unissued (slot_at after j) (new_at j past there.1.0),
+          )
       | inr nowhere ↦ inl (slot_nowhere after s nowhere ∙ sym (slot_nowhere before s none))
     ]
   ]
 
 -- the eye sees no difference
-pub like_grown : (partitions threads : ℕ) (p : Player) (after news : List Slot) → AreShaped partitions threads p → AreNamed p.table → IsGrown p.table after news
+pub like_grown : (partitions threads : ℕ) (p : Player) (after news : List Slot) → AreShaped partitions threads p → AreNamed p.table →
+    IsGrown p.table after news
     → IsLike (shown p) (shown (record p { table = after }))
 like_grown partitions threads p after news shaped named g =
     let keeps = keeps_grown p.table after news g in
@@ -88,8 +96,10 @@ like_grown partitions threads p after news shaped named g =
     }
 
 -- the lists show the same slots after the table grew
-pub lists_grown : (partitions threads : ℕ) (p : Player) (after news : List Slot) → AreShaped partitions threads p → IsGrown p.table after news
+pub lists_grown : (partitions threads : ℕ) (p : Player) (after news : List Slot) → AreShaped partitions threads p →
+    IsGrown p.table after news
     → (t k c : ℕ) → caches (record p { table = after }) t k c ≡ caches p t k c
 lists_grown partitions threads p after news shaped g =
     caches_kept partitions threads p after shaped
-    (λ t k c i below low real among. ap (λ (z : Slot). numbered_at (z ∷ []) 0) (old_at p.table after news g i (shaped.listed t k c i below low real among).0))
+    (λ t k c i below low real among. ap (λ (z : Slot). numbered_at (z ∷ []) 0)
+    (old_at p.table after news g i (shaped.listed t k c i below low real among).0))

@@ -17,7 +17,8 @@ use Rattle.pa_player.specs.Plays.{CanGoOn}
 use Rattle.pa_player.proofs.Slots.{slot_here}
 use Rattle.pa_player.proofs.Showing.{points_in, points_names}
 
-module _ (region partitions threads : ℕ) (ls : List Line) (p : Player) (thread : ℕ) (op : Op) (can : CanGoOn region partitions threads ls (Do thread op) p) where
+module _ (region partitions threads : ℕ) (ls : List Line) (p : Player) (thread : ℕ) (op : Op)
+    (can : CanGoOn region partitions threads ls (Do thread op) p) where
   pub can_play : CanPlay threads ls can.playing.ps (shown p) thread
   can_play = record { told = can.playing.told; among = can.within.0; few = can.head.2.1; short = omega (arith, can.short) }
 
@@ -31,31 +32,39 @@ module _ (region partitions threads : ℕ) (ls : List Line) (p : Player) (thread
   pub word_here : (i : ℕ) → i < length p.table → word_in p.table (named_at p.table i) ≡ (slot_at p.table i).word.0
   word_here i low = ap (λ (x : Slot). x.word.0) (slot_here p.table (named_at p.table i) i can.playing.slots.apart (low, refl))
 
-  pub used_by : (reg i : ℕ) → reg < 64 → Points (register_at p thread reg) i → 0 < held_of (slot_at p.table i).word.0 + refs_of (slot_at p.table i).word.0
+  pub used_by : (reg i : ℕ) → reg < 64 → Points (register_at p thread reg) i →
+      0 < held_of (slot_at p.table i).word.0 + refs_of (slot_at p.table i).word.0
   used_by reg i low points =
       let U : ℕ → Type 0 = λ w. 0 < held_of w + refs_of w in
-      subst U (word_here i (place_of reg i points)) ((lets reg low).in_use (named_at p.table i) (points_names p.table (register_at p thread reg) i points))
+      subst U (word_here i (place_of reg i points))
+      ((lets reg low).in_use (named_at p.table i) (points_names p.table (register_at p thread reg) i points))
 
   pub copies : (reg i : ℕ) → reg < 64 → Points (register_at p thread reg) i → CanStep steps.Copy (slot_at p.table i).word.0
   copies reg i low points =
-      subst (CanStep steps.Copy) (word_here i (place_of reg i points)) ((lets reg low).copies (named_at p.table i) (points_names p.table (register_at p thread reg) i points))
+      subst (CanStep steps.Copy) (word_here i (place_of reg i points))
+      ((lets reg low).copies (named_at p.table i) (points_names p.table (register_at p thread reg) i points))
 
   owned : (reg i : ℕ) → register_at p thread reg ≡ Own i → i < length p.table
   owned reg i e = place_of reg i (subst (λ x. Points x i) (sym e) refl)
 
   pub resets : (reg i : ℕ) → reg < 64 → register_at p thread reg ≡ Ref i → CanStep steps.Reset (slot_at p.table i).word.0
   resets reg i low e =
-      subst (CanStep steps.Reset) (word_here i (place_of reg i (subst (λ x. Points x i) (sym e) refl))) ((lets reg low).resets (named_at p.table i) (ap (reg_of p.table) e))
+      subst (CanStep steps.Reset) (word_here i (place_of reg i (subst (λ x. Points x i) (sym e) refl)))
+      ((lets reg low).resets (named_at p.table i) (ap (reg_of p.table) e))
 
   pub frees : (reg i : ℕ) → reg < 64 → register_at p thread reg ≡ Own i → CanStep steps.Free (slot_at p.table i).word.0
-  frees reg i low e = subst (CanStep steps.Free) (word_here i (owned reg i e)) ((lets reg low).frees (named_at p.table i) (ap (reg_of p.table) e))
+  frees reg i low e = subst (CanStep steps.Free) (word_here i (owned reg i e))
+      ((lets reg low).frees (named_at p.table i) (ap (reg_of p.table) e))
 
-  pub writes : (reg i : ℕ) → reg < 64 → register_at p thread reg ≡ Own i → refs_of (slot_at p.table i).word.0 ≡ 0 → CanStep steps.Write (slot_at p.table i).word.0
+  pub writes : (reg i : ℕ) → reg < 64 → register_at p thread reg ≡ Own i → refs_of (slot_at p.table i).word.0 ≡ 0 →
+      CanStep steps.Write (slot_at p.table i).word.0
   writes reg i low e none =
       let same = word_here i (owned reg i e) in
       subst (CanStep steps.Write) same ((lets reg low).writes (named_at p.table i) (ap (reg_of p.table) e) (ap refs_of same ∙ none))
 
-  pub issues : (i : ℕ) → i < length p.table → held_of (slot_at p.table i).word.0 ≡ 0 → refs_of (slot_at p.table i).word.0 ≡ 0 → CanStep steps.Issue (slot_at p.table i).word.0
+  pub issues : (i : ℕ) → i < length p.table → held_of (slot_at p.table i).word.0 ≡ 0 → refs_of (slot_at p.table i).word.0 ≡ 0 →
+      CanStep steps.Issue (slot_at p.table i).word.0
   issues i low held refs =
       let same = word_here i low in
-      subst (CanStep steps.Issue) same ((lets 0 (omega arith)).issues (named_at p.table i) (ap held_of same ∙ held) (ap refs_of same ∙ refs))
+      subst (CanStep steps.Issue) same
+      ((lets 0 (omega arith)).issues (named_at p.table i) (ap held_of same ∙ held) (ap refs_of same ∙ refs))

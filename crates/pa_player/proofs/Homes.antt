@@ -21,16 +21,19 @@ cases_last i n l = elim (cases_lt i n) [
 ]
 
 -- a slot that is changed keeps its name
-pub named_set : (slots : List Slot) (i j : ℕ) (x : Slot) → i < length slots → name_of x.title ≡ named_at slots i → named_at (set slots i x) j ≡ named_at slots j
+pub named_set : (slots : List Slot) (i j : ℕ) (x : Slot) → i < length slots → name_of x.title ≡ named_at slots i →
+    named_at (set slots i x) j ≡ named_at slots j
 named_set slots i j x lt e = elim (cases_eq j i) [
   | inl same ↦
       let N : ℕ → Type 0 = λ k. named_at (set slots i x) k ≡ named_at slots k in
-      let here : named_at (set slots i x) i ≡ named_at slots i = ap (λ (y : Slot). name_of y.title) (get_or-set_same slots i x no_slot lt) ∙ e in
+      let here : named_at (set slots i x) i ≡ named_at slots i = ap (λ (y : Slot). name_of y.title) (get_or-set_same slots i x no_slot lt) ∙
+      e in
       subst N (sym same) here
   | inr ne ↦ ap (λ (y : Slot). name_of y.title) (get_or-set_other slots i j x no_slot ne)
 ]
 
-pub homed_set : (slots : List Slot) (home : ℕ → Option ℕ) (i : ℕ) (x : Slot) → i < length slots → name_of x.title ≡ named_at slots i → IsHomed slots home
+pub homed_set : (slots : List Slot) (home : ℕ → Option ℕ) (i : ℕ) (x : Slot) → i < length slots → name_of x.title ≡ named_at slots i →
+    IsHomed slots home
     → IsHomed (set slots i x) home
 homed_set slots home i x lt e h = record {
   leads = λ j l. ap (λ n. home (key_of n)) (named_set slots i j x lt e) ∙ h.leads j (omega (arith, l, length-set slots i x));
@@ -51,14 +54,19 @@ key_name s t l m e =
     let f : ℕ → ℕ → SlotName = λ a b. record { start = a; born = b } in
     ap (λ a. f a s.born) k.0 ∙ ap (f t.start) k.1
 
-pub homed_push : (slots : List Slot) (home after : ℕ → Option ℕ) (x : Slot) → (name_of x.title).start < 4294967296 → home (key_of (name_of x.title)) ≡ None
-    → after (key_of (name_of x.title)) ≡ Some (length slots) → ((k : ℕ) → (k ≡ key_of (name_of x.title) → ⊥) → after k ≡ home k) → IsHomed slots home
+pub homed_push : (slots : List Slot) (home after : ℕ → Option ℕ) (x : Slot) → (name_of x.title).start < 4294967296 →
+    home (key_of (name_of x.title)) ≡ None
+    → after (key_of (name_of x.title)) ≡ Some (length slots) → ((k : ℕ) → (k ≡ key_of (name_of x.title) → ⊥) → after k ≡ home k) →
+    IsHomed slots home
     → IsHomed (slots ++ x ∷ []) after
 homed_push slots home after x low none here others h =
     let key = key_of (name_of x.title) in
-    let old : (i : ℕ) → i < length slots → named_at (slots ++ x ∷ []) i ≡ named_at slots i = λ i l. ap (λ (y : Slot). name_of y.title) (get_or_append_left slots (x ∷ []) no_slot i l) in
-    let new : named_at (slots ++ x ∷ []) (length slots) ≡ name_of x.title = ap (λ (y : Slot). name_of y.title) (get_or_push slots x no_slot (length slots) refl) in
-    let cases : (i : ℕ) → i < length (slots ++ x ∷ []) → (i < length slots) ⊎ (i ≡ length slots) = λ i l. cases_last i (length slots) (omega (arith, l, length_push slots x)) in
+    let old : (i : ℕ) → i < length slots → named_at (slots ++ x ∷ []) i ≡ named_at slots i =
+    λ i l. ap (λ (y : Slot). name_of y.title) (get_or_append_left slots (x ∷ []) no_slot i l) in
+    let new : named_at (slots ++ x ∷ []) (length slots) ≡ name_of x.title =
+    ap (λ (y : Slot). name_of y.title) (get_or_push slots x no_slot (length slots) refl) in
+    let cases : (i : ℕ) → i < length (slots ++ x ∷ []) → (i < length slots) ⊎
+    (i ≡ length slots) = λ i l. cases_last i (length slots) (omega (arith, l, length_push slots x)) in
     record {
       leads = λ i l. elim (cases i l) [
         | inl a ↦
@@ -86,7 +94,8 @@ homed_push slots home after x low none here others h =
     }
 
 -- where a name's key leads, and that no slot has it where it leads nowhere
-pub home_found : (slots : List Slot) (home : ℕ → Option ℕ) (s : SlotName) (i : ℕ) → s.start < 4294967296 → home (key_of s) ≡ Some i → IsHomed slots home
+pub home_found : (slots : List Slot) (home : ℕ → Option ℕ) (s : SlotName) (i : ℕ) → s.start < 4294967296 → home (key_of s) ≡ Some i →
+    IsHomed slots home
     → (i < length slots) × (named_at slots i ≡ s)
 home_found slots home s i low f h = let o = h.only (key_of s) i f in (o.0, key_name (named_at slots i) s (h.low i o.0) low o.1)
 
@@ -94,7 +103,8 @@ pub home_none : (slots : List Slot) (home : ℕ → Option ℕ) (s : SlotName) �
 home_none slots home s none h i l e = absurd (none_some i (sym (h.leads i l) ∙ ap (λ n. home (key_of n)) e ∙ none))
 
 -- if a map leads names to their slots, a map with equal entries leads them to equal slots
-pub homed_same : {S : Type 0} (slots more : List Slot) (m n : HashMap ℕ ℕ S) → more ≡ slots → n.entries ≡ m.entries → IsHomed slots (get nat_eq m)
+pub homed_same : {S : Type 0} (slots more : List Slot) (m n : HashMap ℕ ℕ S) → more ≡ slots → n.entries ≡ m.entries →
+    IsHomed slots (get nat_eq m)
     → IsHomed more (get nat_eq n)
 homed_same slots more m n e f h =
     let P : List (ℕ × ℕ) → Type 0 = λ es. IsHomed more (λ k. lookup (nat_eq k) es) in

@@ -45,7 +45,8 @@ pub record IsFillable (thread q class at : ℕ) (s : Player) : Type 0 where
   pub many : length (list_in s at) ≤ (tally_at s.cached.of q).slots
   pub size : slot_of class * length (list_in s at) ≤ (tally_at s.cached.of q).bytes
 
-pub front_issued : (thread reg q class at : ℕ) (s : Player) → reg < 64 → q < 4 → class < 170 → IsFillable thread q class at s → CanIssueFront thread reg q at s
+pub front_issued : (thread reg q class at : ℕ) (s : Player) → reg < 64 → q < 4 → class < 170 → IsFillable thread q class at s →
+    CanIssueFront thread reg q at s
 front_issued thread reg q class at s regs four real h = record {
   four = four;
   issue = λ i rest is.
@@ -72,7 +73,8 @@ front_issued thread reg q class at s regs four real h = record {
 -- ---- a list that is filled
 
 -- a slot that is in the table stays as it is
-home_slot : (before after : List Slot) (new : Slot) (place i : ℕ) → IsHome before after new place → i < length before → slot_at after i ≡ slot_at before i
+home_slot : (before after : List Slot) (new : Slot) (place i : ℕ) → IsHome before after new place → i < length before →
+    slot_at after i ≡ slot_at before i
 home_slot before after new place i (inl h) low = ap (λ zs. slot_at zs i) h.0
 home_slot before after new place i (inr h) low = ap (λ zs. slot_at zs i) h.0 ∙ get_or_append_left before (new ∷ []) no_slot i low
 
@@ -84,7 +86,8 @@ home_longer before after new place (inr h) = omega (arith, ap length h.0, length
 abbrev IsFine : List Slot → ℕ → ℕ → Title → Type 0
 IsFine slots q class t = (t.len ≡ slot_of class) × ((i : ℕ) → i < length slots → named_at slots i ≡ name_of t → IsIssuable slots q class i)
 
-issuable_same : (before after : List Slot) (q class i : ℕ) → slot_at after i ≡ slot_at before i → length before ≤ length after → IsIssuable before q class i → IsIssuable after q class i
+issuable_same : (before after : List Slot) (q class i : ℕ) → slot_at after i ≡ slot_at before i → length before ≤ length after →
+    IsIssuable before q class i → IsIssuable after q class i
 issuable_same before after q class i same longer h = record {
   inside = omega (arith, longer, h.inside);
   step = subst (λ (x : Slot). CanStep steps.Issue x.word.0) (sym same) h.step;
@@ -93,7 +96,8 @@ issuable_same before after q class i same longer h = record {
 }
 
 -- a slot that comes after the others is new
-issuable_new : (before : List Slot) (t : Title) (q class : ℕ) → t.len ≡ slot_of class → IsIssuable (before ++ new_slot t q (Some class) ∷ []) q class (length before)
+issuable_new : (before : List Slot) (t : Title) (q class : ℕ) → t.len ≡ slot_of class →
+    IsIssuable (before ++ new_slot t q (Some class) ∷ []) q class (length before)
 issuable_new before t q class len =
     let new = new_slot t q (Some class) in
     let here : slot_at (before ++ new ∷ []) (length before) ≡ new = get_or_push before new no_slot (length before) refl in
@@ -105,14 +109,16 @@ issuable_new before t q class len =
     }
 
 -- the place of a title
-issuable_home : (before after : List Slot) (t : Title) (q class place : ℕ) → IsFine before q class t → IsHome before after (new_slot t q (Some class)) place → IsIssuable after q class place
+issuable_home : (before after : List Slot) (t : Title) (q class place : ℕ) → IsFine before q class t →
+    IsHome before after (new_slot t q (Some class)) place → IsIssuable after q class place
 issuable_home before after t q class place fine (inl h) = subst (λ zs. IsIssuable zs q class place) (sym h.0) (fine.1 place h.1 h.2)
 issuable_home before after t q class place fine (inr h) =
     let P : List Slot → ℕ → Type 0 = λ zs k. IsIssuable zs q class k in
     subst (λ k. P after k) (sym h.1) (subst (λ zs. P zs (length before)) (sym h.0) (issuable_new before t q class fine.0))
 
 -- the titles that come after one are still fine once that one is in the table
-fine_home : (before after : List Slot) (t u : Title) (q class place : ℕ) → IsFine before q class t → IsFine before q class u → IsHome before after (new_slot t q (Some class)) place
+fine_home : (before after : List Slot) (t u : Title) (q class place : ℕ) → IsFine before q class t → IsFine before q class u →
+    IsHome before after (new_slot t q (Some class)) place
     → IsFine after q class u
 fine_home before after t u q class place fine h (inl e) = subst (λ zs. IsFine zs q class u) (sym e.0) h
 fine_home before after t u q class place fine h (inr e) =
@@ -122,7 +128,8 @@ fine_home before after t u q class place fine h (inr e) =
       h.0,
       λ i low is. elim (cases_lt i (length before)) [
         | inl old ↦
-            issuable_same before (before ++ new ∷ []) q class i (get_or_append_left before (new ∷ []) no_slot i old) (omega (arith, length_push before new))
+            issuable_same before (before ++ new ∷ []) q class i (get_or_append_left before (new ∷ []) no_slot i old)
+            (omega (arith, length_push before new))
             (h.1 i old (sym (keeps_named before (before ++ new ∷ []) i (keeps_push before new) old) ∙ is))
         | inr past ↦
             let last : length before ≡ i = omega (arith, past, low, length_push before new) in
@@ -131,26 +138,37 @@ fine_home before after t u q class place fine h (inr e) =
     ) in
     subst P (sym e.0) then'
 
-fillable_more : (thread q class at : ℕ) (s : Player) (t : Title) (after : List Slot) (place : ℕ) → IsFine s.table q class t → IsHome s.table after (new_slot t q (Some class)) place
-    → IsFillable thread q class at s → IsFillable thread q class at (cached_more q t.len (listed at (list_in s at ++ place ∷ []) (record s { table = after })))
+fillable_more : (thread q class at : ℕ) (s : Player) (t : Title) (after : List Slot) (place : ℕ) → IsFine s.table q class t →
+    IsHome s.table after (new_slot t q (Some class)) place
+    → IsFillable thread q class at s →
+    IsFillable thread q class at (cached_more q t.len (listed at (list_in s at ++ place ∷ []) (record s { table = after })))
 fillable_more thread q class at s t after place fine home h =
     let new = new_slot t q (Some class) in
-    let here : get_or (set s.caches at (list_in s at ++ place ∷ [])) at [] ≡ list_in s at ++ place ∷ [] = get_or-set_same s.caches at (list_in s at ++ place ∷ []) [] h.room in
-    let count : length (get_or (set s.caches at (list_in s at ++ place ∷ [])) at []) ≡ length (list_in s at) + 1 = ap length here ∙ length_push (list_in s at) place in
+    let here : get_or (set s.caches at (list_in s at ++ place ∷ [])) at [] ≡ list_in s at ++
+    place ∷ [] = get_or-set_same s.caches at (list_in s at ++ place ∷ []) [] h.room in
+    let count : length (get_or (set s.caches at (list_in s at ++ place ∷ [])) at []) ≡ length (list_in s at) + 1 = ap length here ∙
+    length_push (list_in s at) place in
     let more = tally_more q 1 t.len q s.cached.of h.tallies in
     let slots = rw (eq-eqb q q refl) at more.slots in
     let bytes = rw (eq-eqb q q refl) at more.bytes in
-    let product : slot_of class * length (get_or (set s.caches at (list_in s at ++ place ∷ [])) at []) ≡ slot_of class * (length (list_in s at) + 1) = ap (λ n. slot_of class * n) count in
+    let product : slot_of class * length
+    (get_or (set s.caches at (list_in s at ++ place ∷ [])) at []) ≡ slot_of class * (length (list_in s at) + 1) =
+    ap (λ n. slot_of class * n) count in
     record {
       threads = h.threads;
       slots = h.slots;
       bytes = h.bytes;
       room = omega (arith, h.room, length-set s.caches at (list_in s at ++ place ∷ []));
-      tallies = omega (arith, h.tallies, length-set s.cached.of q (record { slots = (tally_at s.cached.of q).slots + 1; bytes = (tally_at s.cached.of q).bytes + t.len }));
+      tallies = omega (
+        arith,
+        h.tallies,
+        length-set s.cached.of q (record { slots = (tally_at s.cached.of q).slots + 1; bytes = (tally_at s.cached.of q).bytes + t.len }),
+      );
       each = λ i among. elim (Contains-push_cases (list_in s at) place i (subst (λ zs. Contains zs i) here among)) [
         | inl old ↦
             let one = h.each i old in
-            issuable_same s.table after q class i (home_slot s.table after new place i home one.inside) (home_longer s.table after new place home) one
+            issuable_same s.table after q class i (home_slot s.table after new place i home one.inside)
+            (home_longer s.table after new place home) one
         | inr last ↦ subst (λ k. IsIssuable after q class k) last (issuable_home s.table after t q class place fine home)
       ];
       many = omega (arith, count, slots, h.many);
@@ -158,7 +176,8 @@ fillable_more thread q class at s t after place fine home h =
     }
 
 -- a list that is fillable still is after slots were put into it
-pub fillable_put : (thread q class at : ℕ) (ts : List Title) (s r : Player) (xs : List Numbered) → IsFillable thread q class at s → ((t : Title) → Contains ts t → IsFine s.table q class t)
+pub fillable_put : (thread q class at : ℕ) (ts : List Title) (s r : Player) (xs : List Numbered) → IsFillable thread q class at s →
+    ((t : Title) → Contains ts t → IsFine s.table q class t)
     → ArePut q at class ts s r xs → IsFillable thread q class at r
 fillable_put thread q class at [] s r xs h fine put = subst (IsFillable thread q class at) (sym put.0) h
 fillable_put thread q class at (t ∷ ts) s r xs h fine (after, place, rest, home, is, put) =
@@ -169,7 +188,8 @@ fillable_put thread q class at (t ∷ ts) s r xs h fine (after, place, rest, hom
     put
 
 -- if the call asked the pool
-pub fillable_asked : (thread q class at : ℕ) (s : Player) (after : Root) (plan : PoolState) (titles : List Title) (asked : Option ℕ) → IsFillable thread q class at s
+pub fillable_asked : (thread q class at : ℕ) (s : Player) (after : Root) (plan : PoolState) (titles : List Title) (asked : Option ℕ) →
+    IsFillable thread q class at s
     → IsFillable thread q class at (asked_in q 1 titles asked (placed_in q after plan s))
 fillable_asked thread q class at s after plan titles None h = record {
   threads = h.threads;
@@ -192,6 +212,7 @@ fillable_asked thread q class at s after plan titles (Some entry) h = record {
   size = h.size;
 }
 
-pub table_asked : (q : ℕ) (s : Player) (after : Root) (plan : PoolState) (titles : List Title) (asked : Option ℕ) → (asked_in q 1 titles asked (placed_in q after plan s)).table ≡ s.table
+pub table_asked : (q : ℕ) (s : Player) (after : Root) (plan : PoolState) (titles : List Title) (asked : Option ℕ) →
+    (asked_in q 1 titles asked (placed_in q after plan s)).table ≡ s.table
 table_asked q s after plan titles None = refl
 table_asked q s after plan titles (Some entry) = refl

@@ -73,10 +73,14 @@ use Rattle.pa_player.proofs.Leaving.{LetsOut, IsToldOn, out_first, out_last, non
 use Rattle.pa_player.proofs.Grown.{IsGrown, old_at, keeps_grown, grown_length, new_at, like_grown}
 use Rattle.pa_lists.proofs.Elements.{in_one}
 
-module _ (region partitions threads : ℕ) (ls : List Line) (p : Player) (thread reg q size : ℕ) (can : CanGoOn region partitions threads ls (Do thread (ops.Alloc reg q size)) p)
-    (none : HasNone (register_at p thread reg)) (fits : size ≤ 33521656) (table news : List Slot) (grown_by : IsGrown p.table table news) (few : length news ≤ 8)
-    (i : ℕ) (low : i < length table) (here : (slot_at table i).partition ≡ q) (serves : (slot_at table i).title.len - 8 ≡ usable_of (rules_at p).version size)
-    (act : RootAct) (outs : List SlotName) (lets_out : LetsOut act outs) (names_slots : NamesSlots act) (more : List PoolEntry) (after : Root) (plan : PoolState) (next : Cache)
+module _ (region partitions threads : ℕ) (ls : List Line) (p : Player) (thread reg q size : ℕ)
+    (can : CanGoOn region partitions threads ls (Do thread (ops.Alloc reg q size)) p)
+    (none : HasNone (register_at p thread reg)) (fits : size ≤ 33521656) (table news : List Slot) (grown_by : IsGrown p.table table news)
+    (few : length news ≤ 8)
+    (i : ℕ) (low : i < length table) (here : (slot_at table i).partition ≡ q)
+    (serves : (slot_at table i).title.len - 8 ≡ usable_of (rules_at p).version size)
+    (act : RootAct) (outs : List SlotName) (lets_out : LetsOut act outs) (names_slots : NamesSlots act) (more : List PoolEntry)
+    (after : Root) (plan : PoolState) (next : Cache)
     (called : IsCalled region partitions (length ls + 2) (played_at (rules_at p) ls thread (ops.Alloc reg q size)
     (answers.Made (seen_at table i) (usable_of (rules_at p).version size))) p.told.pools more (journals p) q (act ∷ [])
     (caches p thread)
@@ -97,7 +101,8 @@ module _ (region partitions threads : ℕ) (ls : List Line) (p : Player) (thread
   inside = can.within.1.1
 
   -- what the act does with a slot
-  acted_moves : (k : ℕ) (s : SlotName) (m : Move) → Contains (moves_of (entries_at n (only_in q (act ∷ []) k)) s) m → (m.way ≡ Out) × Contains outs s × (k ≡ q)
+  acted_moves : (k : ℕ) (s : SlotName) (m : Move) → Contains (moves_of (entries_at n (only_in q (act ∷ []) k)) s) m → (m.way ≡ Out) ×
+      Contains outs s × (k ≡ q)
   acted_moves k s m among = elim (cases_eq k q) [
     | inl e ↦
         let (a, member, moves, is) = move_by n (only_in q (act ∷ []) k) s m among in
@@ -111,16 +116,22 @@ module _ (region partitions threads : ℕ) (ls : List Line) (p : Player) (thread
   out_moves s out =
       let (m, member, is) = lets_out.each n s out in
       let all : Contains (all_moves (entries_at n (act ∷ []))) m = flat_in (λ (e : RootEntry). moves_by e.line e.act)
-      (entries_at n (act ∷ [])) (record { line = n; act = act }) m (first_in _ []) member in
-      (m, subst (λ bs. Contains (moves_of (entries_at n bs) s) m) (sym (only_here q (act ∷ []))) (filter_in (is_of s) (all_moves (entries_at n (act ∷ []))) m all (same_slot_yes m.slot s is)))
+      (entries_at n (act ∷ [])) (record { line = n; act = act }) m (first_in _ []) member in (
+        m,
+        subst (λ bs. Contains (moves_of (entries_at n bs) s) m) (sym (only_here q (act ∷ [])))
+            (filter_in (is_of s) (all_moves (entries_at n (act ∷ []))) m all (same_slot_yes m.slot s is)),
+      )
 
   -- the root had what it let out, and doesn't have it then
   pub had : (s : SlotName) → Contains outs s → (k : ℕ) × (at_end (Some 0) (moves_of (journals p q) s) ≡ Some k)
   had s out =
       let (m, member) = out_moves s out in
-      out_first (at_end (Some 0) (moves_of (journals p q) s)) (moves_of (entries_at n (only_in q (act ∷ []) q)) s) m (λ z among. (acted_moves q s z among).0) (called.done.deed.numbers q s) member
+      out_first (at_end (Some 0) (moves_of (journals p q) s)) (moves_of (entries_at n (only_in q (act ∷ []) q)) s) m
+      (λ z among. (acted_moves q s z among).0) (called.done.deed.numbers q s) member
 
-  at_then : (k : ℕ) (s : SlotName) → at_end (Some 0) (moves_of (roots k) s) ≡ at_end (at_end (Some 0) (moves_of (journals p k) s)) (moves_of (entries_at n (only_in q (act ∷ []) k)) s)
+  at_then : (k : ℕ) (s : SlotName) →
+      at_end (Some 0) (moves_of (roots k) s) ≡ at_end (at_end (Some 0) (moves_of (journals p k) s))
+      (moves_of (entries_at n (only_in q (act ∷ []) k)) s)
   at_then k s =
       ap (at_end (Some 0)) (numbers_grow.moves (journals p k) (entries_at n (only_in q (act ∷ []) k)) s)
       ∙ numbers_grow.ends (Some 0) (moves_of (journals p k) s) (moves_of (entries_at n (only_in q (act ∷ []) k)) s)
@@ -129,25 +140,33 @@ module _ (region partitions threads : ℕ) (ls : List Line) (p : Player) (thread
   gone s out =
       let (m, member) = out_moves s out in
       at_then q s
-      ∙ out_last (at_end (Some 0) (moves_of (journals p q) s)) (moves_of (entries_at n (only_in q (act ∷ []) q)) s) m (λ z among. (acted_moves q s z among).0) member
+      ∙ out_last (at_end (Some 0) (moves_of (journals p q) s)) (moves_of (entries_at n (only_in q (act ∷ []) q)) s) m
+      (λ z among. (acted_moves q s z among).0) member
 
   -- a number at which a root has a slot then is one at which it had it
-  still_at : (k number : ℕ) (s : SlotName) → at_end (Some 0) (moves_of (roots k) s) ≡ Some number → at_end (Some 0) (moves_of (journals p k) s) ≡ Some number
-  still_at k number s e = by_moves (moves_of (entries_at n (only_in q (act ∷ []) k)) s) (λ m among. (acted_moves k s m among).0) (sym (at_then k s) ∙ e)
+  still_at : (k number : ℕ) (s : SlotName) → at_end (Some 0) (moves_of (roots k) s) ≡ Some number →
+      at_end (Some 0) (moves_of (journals p k) s) ≡ Some number
+  still_at k number s e = by_moves (moves_of (entries_at n (only_in q (act ∷ []) k)) s) (λ m among. (acted_moves k s m among).0)
+      (sym (at_then k s) ∙ e)
     where
-      by_moves : (ms : List Move) → ((m : Move) → Contains ms m → m.way ≡ Out) → at_end (at_end (Some 0) (moves_of (journals p k) s)) ms ≡ Some number
+      by_moves : (ms : List Move) → ((m : Move) → Contains ms m → m.way ≡ Out) →
+          at_end (at_end (Some 0) (moves_of (journals p k) s)) ms ≡ Some number
           → at_end (Some 0) (moves_of (journals p k) s) ≡ Some number
       by_moves [] outs is = is
-      by_moves (m ∷ ms) outs is = absurd (none_some number (sym (out_last (at_end (Some 0) (moves_of (journals p k) s)) (m ∷ ms) m outs (first_in m ms)) ∙ is))
+      by_moves (m ∷ ms) outs is =
+          absurd (none_some number (sym (out_last (at_end (Some 0) (moves_of (journals p k) s)) (m ∷ ms) m outs (first_in m ms)) ∙ is))
 
   -- ---- the slots, before one is issued
 
   abbrev pub root_then : ℕ → Root
   root_then k = slice_index_or (set p.heap.roots q after) k new_root
 
-  module _ (out_here : Contains outs (named_at table i)) (new_out : (x : Slot) → Contains news x → Contains outs (name_of x.title)) (new_here : (x : Slot) → Contains news x → x.partition ≡ q)
-      (new_let : (x : Slot) → Contains news x → IsLetOut p.version roots x x.class) (new_born : (x : Slot) → Contains news x → (name_of x.title).born < length pools)
-      (outs_in : (s : SlotName) → Contains outs s → (j : ℕ) × IsPlaceOf table s j) (maps_stay : (t : Title) → Contains (root_of p q).maps t → Contains after.maps t)
+  module _ (out_here : Contains outs (named_at table i)) (new_out : (x : Slot) → Contains news x → Contains outs (name_of x.title))
+      (new_here : (x : Slot) → Contains news x → x.partition ≡ q)
+      (new_let : (x : Slot) → Contains news x → IsLetOut p.version roots x x.class)
+      (new_born : (x : Slot) → Contains news x → (name_of x.title).born < length pools)
+      (outs_in : (s : SlotName) → Contains outs s → (j : ℕ) × IsPlaceOf table s j)
+      (maps_stay : (t : Title) → Contains (root_of p q).maps t → Contains after.maps t)
       (mapped_now : (slot_at table i).class ≡ None → Contains after.maps (slot_at table i).title) where
     roots_low : q < length p.heap.roots
     roots_low = let a = h.shaped.roots in let b = inside in omega arith
@@ -157,7 +176,8 @@ module _ (region partitions threads : ℕ) (ls : List Line) (p : Player) (thread
     mapped_more x None m = λ used. elim (cases_eq x.partition q) [
       | inl e ↦
           let before : Contains (root_of p q).maps x.title = subst (λ k. Contains (root_of p k).maps x.title) e (m used) in
-          subst (λ k. Contains (root_then k).maps x.title) (sym e) (subst (λ (r : Root). Contains r.maps x.title) (sym (root_here p.heap.roots q after roots_low)) (maps_stay x.title before))
+          subst (λ k. Contains (root_then k).maps x.title) (sym e)
+          (subst (λ (r : Root). Contains r.maps x.title) (sym (root_here p.heap.roots q after roots_low)) (maps_stay x.title before))
       | inr ne ↦ subst (λ (r : Root). Contains r.maps x.title) (sym (root_there p.heap.roots q x.partition after ne)) (m used)
     ]
 
@@ -184,7 +204,8 @@ module _ (region partitions threads : ℕ) (ls : List Line) (p : Player) (thread
       let_out = new_let x among;
       mapped = unused_mapped x (root_then x.partition) x.class (grown_by.unissued x among);
       at = λ number e.
-          let back : at_end (Some 0) (moves_of (roots q) (name_of x.title)) ≡ Some number = subst (λ k. at_end (Some 0) (moves_of (roots k) (name_of x.title)) ≡ Some number) (new_here x among) e in
+          let back : at_end (Some 0) (moves_of (roots q) (name_of x.title)) ≡ Some number =
+          subst (λ k. at_end (Some 0) (moves_of (roots k) (name_of x.title)) ≡ Some number) (new_here x among) e in
           absurd (none_some number (sym (gone (name_of x.title) (new_out x among)) ∙ back));
       born = new_born x among;
     }
@@ -193,7 +214,8 @@ module _ (region partitions threads : ℕ) (ls : List Line) (p : Player) (thread
     placed_slots =
         all_known partitions table pools roots root_then
         (λ j there. elim (cases_lt j (length p.table)) [
-          | inl old ↦ subst (IsKnownSlot p.version partitions pools roots root_then) (sym (old_at p.table table news grown_by j old)) (old_known j old)
+          | inl old ↦ subst (IsKnownSlot p.version partitions pools roots root_then) (sym (old_at p.table table news grown_by j old))
+              (old_known j old)
           | inr past ↦ new_known (slot_at table j) (new_at p.table table news grown_by j past there)
         ])
         grown_by.apart
@@ -203,7 +225,8 @@ module _ (region partitions threads : ℕ) (ls : List Line) (p : Player) (thread
         nobody j (omega arith) (keeps_named p.table table j (keeps_grown p.table table news grown_by) there ∙ e)) in
         let made : moves_of (entries_at n (only_in q (act ∷ []) k)) s ≡ [] = no_members (moves_of (entries_at n (only_in q (act ∷ []) k)) s)
         (λ m among. let (j, at) = outs_in s (acted_moves k s m among).1 in nobody j at.0 at.1) in
-        numbers_grow.moves (journals p k) (entries_at n (only_in q (act ∷ []) k)) s ∙ ap (λ ms. ms ++ moves_of (entries_at n (only_in q (act ∷ []) k)) s) before ∙ made)
+        numbers_grow.moves (journals p k) (entries_at n (only_in q (act ∷ []) k)) s ∙
+        ap (λ ms. ms ++ moves_of (entries_at n (only_in q (act ∷ []) k)) s) before ∙ made)
 
     -- ---- the slot that is issued
 
@@ -250,27 +273,40 @@ module _ (region partitions threads : ℕ) (ls : List Line) (p : Player) (thread
     told_grown =
         let can_before = can_play region partitions threads ls thread (ops.Alloc reg q size) p can in
         record {
-          told = like_is_told threads ls h.ps (shown p) (shown grown_player) h.told (like_grown partitions threads p table news h.shaped h.slots.apart grown_by);
+          told = like_is_told threads ls h.ps (shown p) (shown grown_player) h.told
+              (like_grown partitions threads p table news h.shaped h.slots.apart grown_by);
           among = can_before.among;
           few = can_before.few;
           short = can_before.short;
         }
 
-    turn : LeadsTo threads ls h.ps thread (ops.Alloc reg q size) (answers.Made (seen_at table i) (usable_of (rules_at p).version size)) (after_made (shown grown_player) thread reg (seen_at table i))
+    turn : LeadsTo threads ls h.ps thread (ops.Alloc reg q size) (answers.Made (seen_at table i) (usable_of (rules_at p).version size))
+        (after_made (shown grown_player) thread reg (seen_at table i))
     turn =
         let idle = free in
-        made_goes_on threads ls h.ps (shown grown_player) thread reg q size (seen_at table i) told_grown can.within.1.0 (none_holds table (register_at p thread reg) none) fits
-        (sym (at_name (λ z. z.word.0) table i grown_by.apart low)) (omega arith) (omega arith) (at_name (λ z. z.title.len - 8) table i grown_by.apart low ∙ serves)
+        made_goes_on threads ls h.ps (shown grown_player) thread reg q size (seen_at table i) told_grown can.within.1.0
+        (none_holds table (register_at p thread reg) none) fits
+        (sym (at_name (λ z. z.word.0) table i grown_by.apart low)) (omega arith) (omega arith)
+        (at_name (λ z. z.title.len - 8) table i grown_by.apart low ∙ serves)
 
     -- ---- the player after the op
 
     module _ (heap : Heap) (told : Lists) (lists : List (List ℕ)) (cached : Tallies) (told_on : IsToldOn p told more q act)
-        (heap_pool : heap.pool ≡ plan) (heap_roots : heap.roots ≡ set p.heap.roots q after) (turns : after.turn ≤ (root_of p q).turn + 32768) where
+        (heap_pool : heap.pool ≡ plan) (heap_roots : heap.roots ≡ set p.heap.roots q after)
+        (turns : after.turn ≤ (root_of p q).turn + 32768) where
       abbrev pub lives : List Tally
       lives = tallied_more it.partition 1 it.title.len p.live.of
 
       abbrev pub final : Player
-      final = record p { heap = heap; table = slots_then; registers = (registered thread reg (Own i) p).registers; caches = lists; live = record { of = lives }; cached = cached; told = told }
+      final = record p {
+        heap = heap;
+        table = slots_then;
+        registers = (registered thread reg (Own i) p).registers;
+        caches = lists;
+        live = record { of = lives };
+        cached = cached;
+        told = told;
+      }
 
       keeps_it : KeepsSlots table slots_then
       keeps_it = keeps_set table i issued_slot low same
@@ -281,7 +317,8 @@ module _ (region partitions threads : ℕ) (ls : List Line) (p : Player) (thread
           all_slots_set partitions table pools roots root_then i issued_slot placed_slots low same
           (subst (λ k. at_end (Some 0) (moves_of (roots k) (named_at table i)) ≡ None) (sym here) (gone (named_at table i) out_here))
           (issued_mapped it.class refl) in
-          subst (λ rs. AreAllSlots p.version partitions slots_then pools roots (λ k. slice_index_or rs k new_root)) (sym heap_roots) issued_then
+          subst (λ rs. AreAllSlots p.version partitions slots_then pools roots (λ k. slice_index_or rs k new_root))
+          (sym heap_roots) issued_then
         where
           issued_mapped : (c : Option ℕ) → it.class ≡ c → IsMappedAs (root_then it.partition) issued_slot c
           issued_mapped (Some class) e = tt
@@ -294,12 +331,14 @@ module _ (region partitions threads : ℕ) (ls : List Line) (p : Player) (thread
         regs = λ u k.
             regs_registered p slots_then thread reg (Own i) u k (let a = h.shaped.registers in let b = can.within.0 in omega arith)
             (let a = h.shaped.sixty_four thread can.within.0 in let b = can.within.1.0 in omega arith)
-            ∙ with_reg_same (shown grown_player).regs (λ v j. reg_of slots_then (register_at p v j)) thread reg (reg_of table (Own i)) (reg_of slots_then (Own i)) u k
+            ∙ with_reg_same (shown grown_player).regs (λ v j. reg_of slots_then (register_at p v j)) thread reg (reg_of table (Own i))
+            (reg_of slots_then (Own i)) u k
             (λ v j. reg_kept table slots_then (register_at p v j) keeps_it
             (in_longer (length p.table) (length table) (register_at p v j) (keeps_grown p.table table news grown_by).longer
             (h.shaped.held v j)))
             (reg_kept table slots_then (Own i) keeps_it low);
-        held = λ k. told_kept table slots_then (cell_at p k) keeps_it (in_longer (length p.table) (length table) (cell_at p k) (keeps_grown p.table table news grown_by).longer (h.shaped.celled k));
+        held = λ k. told_kept table slots_then (cell_at p k) keeps_it
+            (in_longer (length p.table) (length table) (cell_at p k) (keeps_grown p.table table news grown_by).longer (h.shaped.celled k));
         cells = λ k. ap (λ (hs : List (List CellEntry)). slice_index_or hs k []) told_on.histories;
         word = λ s. word_set table i issued_slot s grown_by.apart low same;
         content = λ s is_held. content_set table i issued_slot s grown_by.apart low same;
@@ -325,18 +364,21 @@ module _ (region partitions threads : ℕ) (ls : List Line) (p : Player) (thread
           (answers.Made (seen_at table i) (usable_of (rules_at p).version size)) ∷ []) pools roots
           (with_cache (caches p) thread next) placed_then q in
           let e = entries_then in
-          subst (λ r. IsBornBelow plan.entries r) called.root (born_more (least_after_all 0 (roots q)) plan.entries (root_at pools roots q) (omega arith) left.born)
+          subst (λ r. IsBornBelow plan.entries r) called.root
+          (born_more (least_after_all 0 (roots q)) plan.entries (root_at pools roots q) (omega arith) left.born)
 
       heap_final : HasHeap region p final n more (only_in q (act ∷ []))
       heap_final =
-          let before : p.heap.pool.entries ≡ length p.told.pools = ap (λ (z : PoolState). z.entries) h.plan ∙ pool_is_sound.counted region p.told.pools in
+          let before : p.heap.pool.entries ≡ length p.told.pools = ap (λ (z : PoolState). z.entries) h.plan ∙
+          pool_is_sound.counted region p.told.pools in
           let e = entries_then in
           let l = length-append p.told.pools more in
           heap_called region partitions n (played_at (rules_at p) ls thread (ops.Alloc reg q size)
           (answers.Made (seen_at table i) (usable_of (rules_at p).version size))) p final more q (act ∷ []) (caches p thread) next
           after plan called h.roots
           (ap (λ rs. slice_index_or rs q new_root) heap_roots ∙ root_here p.heap.roots q after roots_low)
-          (λ k ne. ap (λ rs. slice_index_or rs k new_root) heap_roots ∙ root_there p.heap.roots q k after ne) heap_pool turns (omega arith) born_then h.bounded.born
+          (λ k ne. ap (λ rs. slice_index_or rs k new_root) heap_roots ∙ root_there p.heap.roots q k after ne) heap_pool turns
+          (omega arith) born_then h.bounded.born
 
       tells_final : TellsMore p final n more (only_in q (act ∷ []))
       tells_final = record {
@@ -352,11 +394,13 @@ module _ (region partitions threads : ℕ) (ls : List Line) (p : Player) (thread
             ∙ ap (λ line. grown (journals p) line (only_in q (act ∷ [])) k) h.line;
         histories = λ k. inl (ap (λ (hs : List (List CellEntry)). slice_index_or hs k []) told_on.histories);
         few = of_only (λ bs. length bs ≤ 512) q (act ∷ []) (omega arith) (omega arith);
-        printable = of_only (λ bs. (a : RootAct) → Contains bs a → NamesSlots a) q (act ∷ []) (λ a among. subst NamesSlots (in_one act a among) names_slots) (λ a among. absurd (not_in_none a among));
+        printable = of_only (λ bs. (a : RootAct) → Contains bs a → NamesSlots a) q (act ∷ [])
+            (λ a among. subst NamesSlots (in_one act a among) names_slots) (λ a among. absurd (not_in_none a among));
       }
 
       -- its lists
-      module _ (shaped : AreShaped partitions threads (record p { table = table; caches = lists; cached = cached })) (counted : AreCounted partitions threads final)
+      module _ (shaped : AreShaped partitions threads (record p { table = table; caches = lists; cached = cached }))
+          (counted : AreCounted partitions threads final)
           (lists_then : (t k c : ℕ) → caches final t k c ≡ with_cache (caches p) thread next t k c) where
         shaped_final : AreShaped partitions threads final
         shaped_final =
@@ -367,13 +411,16 @@ module _ (region partitions threads : ℕ) (ls : List Line) (p : Player) (thread
             let p2 : Player = registered thread reg (Own i) p1 in
             let s3 = shaped_live partitions threads p2 s2 lives (length-set p.live.of it.partition _ ∙ h.shaped.live) in
             let p3 : Player = record p2 { live = record { of = lives } } in
-            let s4 = shaped_told partitions threads p3 s3 told (ap length told_on.journals ∙ length-set p.told.journals q _) (ap length told_on.histories) in
-            shaped_heap partitions threads (record p3 { told = told }) s4 heap.pool heap.roots (ap length heap_roots ∙ length-set p.heap.roots q _)
+            let s4 = shaped_told partitions threads p3 s3 told (ap length told_on.journals ∙ length-set p.told.journals q _)
+            (ap length told_on.histories) in
+            shaped_heap partitions threads (record p3 { told = told }) s4 heap.pool heap.roots
+            (ap length heap_roots ∙ length-set p.heap.roots q _)
 
         abbrev mark : Mark
         mark = mark_at n (seen_at table i) (Some steps.Issue)
 
-        pub issued_played : IsPlayed region partitions threads ls p final can.playing thread (ops.Alloc reg q size) (answers.Made (seen_at table i) (usable_of (rules_at p).version size))
+        pub issued_played : IsPlayed region partitions threads ls p final can.playing thread (ops.Alloc reg q size)
+            (answers.Made (seen_at table i) (usable_of (rules_at p).version size))
         issued_played =
             let home = home_at table i issued_slot grown_by.apart low same in
             let four = h.shaped.four in
@@ -401,9 +448,11 @@ module _ (region partitions threads : ℕ) (ls : List Line) (p : Player) (thread
               };
               counts = record {
                 live = λ k fit.
-                    tally_in issues frees slots_then k it.partition it.title.len (named_at table i) (Some mark) (tally_at p.live.of k) (tally_at lives k) home.0 home.1 (λ w. refl) (λ w. refl)
+                    tally_in issues frees slots_then k it.partition it.title.len (named_at table i) (Some mark) (tally_at p.live.of k)
+                    (tally_at lives k) home.0 home.1 (λ w. refl) (λ w. refl)
                     (tally_more it.partition 1 it.title.len k p.live.of (omega (arith, at_q, some, four, h.shaped.live)));
-                quarantined = λ k fit. tally_still enters leaves slots_then k (Some mark) (tally_at p.quarantined.of k) (λ w. refl) (λ w. refl);
+                quarantined = λ k fit. tally_still enters leaves slots_then k (Some mark) (tally_at p.quarantined.of k) (λ w. refl)
+                    (λ w. refl);
                 many = counted.many;
                 bytes = counted.bytes;
               };

@@ -17,7 +17,8 @@ pub record LetsOut (act : RootAct) (outs : List SlotName) : Type 0 where
   pub each : (line : ℕ) (s : SlotName) → Contains outs s → (m : Move) × Contains (moves_by line act) m × (m.slot ≡ s)
 
 -- the first of some moves out takes the slot at its number, and then the root doesn't have it
-pub out_first : (at : Option ℕ) (ms : List Move) (m : Move) → ((z : Move) → Contains ms z → z.way ≡ Out) → IsNumbered at ms → Contains ms m → (k : ℕ) × (at ≡ Some k)
+pub out_first : (at : Option ℕ) (ms : List Move) (m : Move) → ((z : Move) → Contains ms z → z.way ≡ Out) → IsNumbered at ms →
+    Contains ms m → (k : ℕ) × (at ≡ Some k)
 out_first at [] m outs fits among = absurd (not_in_none m among)
 out_first at (z ∷ ms) m outs (has, rest) among = (z.number, out_has at z.way z.number (outs z (first_in z ms)) has)
   where
@@ -28,10 +29,12 @@ out_first at (z ∷ ms) m outs (has, rest) among = (z.number, out_has at z.way z
         back_out : Back ≡ Out → ⊥
         back_out e = cc
 
-pub out_last : (at : Option ℕ) (ms : List Move) (m : Move) → ((z : Move) → Contains ms z → z.way ≡ Out) → Contains ms m → at_end at ms ≡ None
+pub out_last : (at : Option ℕ) (ms : List Move) (m : Move) → ((z : Move) → Contains ms z → z.way ≡ Out) → Contains ms m →
+    at_end at ms ≡ None
 out_last at [] m outs among = absurd (not_in_none m among)
 out_last at (z ∷ []) m outs among = ap (λ w. at_after w z.number) (outs z (first_in z []))
-out_last at (z ∷ y ∷ ms) m outs among = out_last (at_after z.way z.number) (y ∷ ms) y (λ x there. outs x (later_in z x (y ∷ ms) there)) (first_in y ms)
+out_last at (z ∷ y ∷ ms) m outs among =
+    out_last (at_after z.way z.number) (y ∷ ms) y (λ x there. outs x (later_in z x (y ∷ ms) there)) (first_in y ms)
 
 pub none_some : (k : ℕ) → None ≡ Some k → ⊥
 none_some k e = cc

@@ -60,7 +60,8 @@ pub record IsMapOf (len entry : ℕ) (r after : Root) (title : Title) (before : 
   pub born : title.born ≡ entry
   pub root : after ≡ mapped title r
 
-map_of : (len : ℕ) (before next : PoolState) (r after : Root) (titles : List Title) (o : Option ℕ) (entry : ℕ) (title : Title) → Maps len before next r (record { root = after; titles = titles }) o
+map_of : (len : ℕ) (before next : PoolState) (r after : Root) (titles : List Title) (o : Option ℕ) (entry : ℕ) (title : Title) →
+    Maps len before next r (record { root = after; titles = titles }) o
     → o ≡ Some entry → titles ≡ title ∷ [] → IsMapOf len entry r after title before
 map_of len before next r after titles None entry title did at is = absurd did
 map_of len before next r after titles (Some asked) entry title (None, ask, e) at is =
@@ -83,7 +84,8 @@ map_of len before next r after titles (Some asked) entry title (Some first, ask,
     some_same : (a b : ℕ) → Some a ≡ Some b → a ≡ b
     some_same a b e = cc
 
-module _ (p : Player) (thread reg q size : ℕ) (none : HasNone (register_at p thread reg)) (direct : IsMapSize p.version size) (mapped_to : Player) (i : ℕ)
+module _ (p : Player) (thread reg q size : ℕ) (none : HasNone (register_at p thread reg)) (direct : IsMapSize p.version size)
+    (mapped_to : Player) (i : ℕ)
     (m : IsMapPlaced q (shape_of size).slot (shape_of size).supers p mapped_to i) (region partitions threads : ℕ) (ls : List Line)
     (can : CanGoOn region partitions threads ls (Do thread (ops.Alloc reg q size)) p) where
   abbrev h : IsPlaying region partitions threads ls p
@@ -108,7 +110,8 @@ module _ (p : Player) (thread reg q size : ℕ) (none : HasNone (register_at p t
   inside = can.within.1.1
 
   is_map : IsMapOf (shape_of size).slot m.asked (root_of p q) m.after title p.heap.pool
-  is_map = map_of (shape_of size).slot p.heap.pool m.plan (root_of p q) m.after m.placed.titles.items m.placed.pool m.asked title m.did m.asks m.some
+  is_map = map_of (shape_of size).slot p.heap.pool m.plan
+      (root_of p q) m.after m.placed.titles.items m.placed.pool m.asked title m.did m.asks m.some
 
   next_entry : m.asked ≡ length p.told.pools
   next_entry = is_map.asked ∙ ap (λ (z : PoolState). z.entries) h.plan ∙ pool_is_sound.counted region p.told.pools
@@ -142,18 +145,22 @@ module _ (p : Player) (thread reg q size : ℕ) (none : HasNone (register_at p t
   slot_is = ap (λ z. slot_at z i) is_new.0 ∙ get_or_push p.table new no_slot i (sym is_new.1)
 
   serves : (slot_at m.table i).title.len - 8 ≡ usable_of (rules_at p).version size
-  serves = ap (λ (z : Slot). z.title.len - 8) slot_is ∙ ap (λ k. k - 8) (is_map.long ∙ sym (sizes_fit.direct (rules_at p).version size direct))
+  serves = ap (λ (z : Slot). z.title.len - 8) slot_is ∙
+      ap (λ k. k - 8) (is_map.long ∙ sym (sizes_fit.direct (rules_at p).version size direct))
 
   called : IsCalled region partitions n (played_at (rules_at p) ls thread (ops.Alloc reg q size)
       (answers.Made (seen_at m.table i) (usable_of (rules_at p).version size))) p.told.pools more (journals p) q (act ∷ [])
       (caches p thread) (caches p thread)
       m.after m.plan
   called =
-      let x = played_at (rules_at p) ls thread (ops.Alloc reg q size) (answers.Made (seen_at m.table i) (usable_of (rules_at p).version size)) in
+      let x = played_at (rules_at p) ls thread (ops.Alloc reg q size)
+      (answers.Made (seen_at m.table i) (usable_of (rules_at p).version size)) in
       let did : MapDid (shape_of size).slot (pool_at region p.told.pools) m.plan (root_at p.told.pools (journals p) q) m.after m.placed =
       subst (λ s. MapDid (shape_of size).slot (pool_at region p.told.pools) m.plan s m.after m.placed) (h.roots q)
       (subst (λ z. MapDid (shape_of size).slot z m.plan (root_of p q) m.after m.placed) h.plan m.did) in
-      let C : RootAct → Type 0 = λ a. IsCalled region partitions n x p.told.pools more (journals p) q (a ∷ []) (caches p thread) (caches p thread) m.after m.plan in
+      let C : RootAct → Type 0 =
+      λ a. IsCalled region partitions n x p.told.pools more (journals p) q (a ∷ []) (caches p thread)
+      (caches p thread) m.after m.plan in
       subst C (ap (λ s. Map m.asked s (shape_of size).slot) place.1 ∙ ap (λ k. Map m.asked (name_of title) k) (sym is_map.long))
       (map_is_done region partitions n q size (usable_of (rules_at p).version size) m.asked h.ps x p.told.pools (journals p) (caches p)
       (seen_at m.table i) title m.plan m.after m.placed h.placed refl refl (reg, refl, direct) inside did m.asks m.some (sym place.1))
@@ -163,7 +170,10 @@ module _ (p : Player) (thread reg q size : ℕ) (none : HasNone (register_at p t
     moves = λ line z among.
         let mv : Move = record { line = line; slot = name_of title; number = 0; way = Out } in
         elim (in_cases mv z [] among) [
-          | inl e ↦ (sym (ap (λ (y : Move). y.way) e), subst (λ (y : Move). Contains (name_of title ∷ []) y.slot) e (first_in (name_of title) []))
+          | inl e ↦ (
+            sym (ap (λ (y : Move). y.way) e),
+            subst (λ (y : Move). Contains (name_of title ∷ []) y.slot) e (first_in (name_of title) []),
+          )
           | inr nothing ↦ absurd (not_in_none z nothing)
         ];
     each = λ line s among.
@@ -189,7 +199,8 @@ module _ (p : Player) (thread reg q size : ℕ) (none : HasNone (register_at p t
   )
 
   abbrev base : Player
-  base = record (acted q (act ∷ []) (pooled q (pool.Take (shape_of size).supers (found_by (title ∷ []))) (placed_in q m.after m.plan p))) { table = m.table }
+  base = record (acted q (act ∷ []) (pooled q (pool.Take (shape_of size).supers (found_by (title ∷ []))) (placed_in q m.after m.plan p)))
+      { table = m.table }
 
   told_on : IsToldOn p base.told more q act
   told_on = record {
@@ -197,7 +208,8 @@ module _ (p : Player) (thread reg q size : ℕ) (none : HasNone (register_at p t
     report = refl;
     line = refl;
     histories = refl;
-    pools = ap (λ (line : ℕ). p.told.pools ++ record { line = line; partition = q; act = pool.Take (shape_of size).supers (found_by (title ∷ [])) } ∷ []) h.line;
+    pools = ap (λ (line : ℕ). p.told.pools ++
+        record { line = line; partition = q; act = pool.Take (shape_of size).supers (found_by (title ∷ [])) } ∷ []) h.line;
     journals = refl;
   }
 
@@ -215,12 +227,15 @@ module _ (p : Player) (thread reg q size : ℕ) (none : HasNone (register_at p t
       let there = (h.shaped.listed t k c j below low real among).0 in
       let at = is_new.1 in
       let apart : j ≡ i → ⊥ = λ e. omega arith in
-      ap (λ (z : Slot). numbered_at (z ∷ []) 0) (get_or-set_other m.table i j issued_it no_slot apart ∙ old_at p.table m.table (new ∷ []) grown_by j there))
+      ap (λ (z : Slot). numbered_at (z ∷ []) 0) (get_or-set_other m.table i j issued_it no_slot apart ∙
+      old_at p.table m.table (new ∷ []) grown_by j there))
 
-  pub map_played : IsPlayed region partitions threads ls p (issued thread reg i base) can.playing thread (ops.Alloc reg q size) (answers.Made (seen_at m.table i) (usable_of (rules_at p).version size))
+  pub map_played : IsPlayed region partitions threads ls p (issued thread reg i base) can.playing thread (ops.Alloc reg q size)
+      (answers.Made (seen_at m.table i) (usable_of (rules_at p).version size))
   map_played =
       let F : List Slot → Player = λ slots. record (issued thread reg i base) { table = slots } in
-      let made = issued_played region partitions threads ls p thread reg q size can none direct.1 m.table (new ∷ []) grown_by (omega arith) i place.0 (ap (λ (z : Slot). z.partition) slot_is) serves
+      let made = issued_played region partitions threads ls p thread reg q size can none direct.1 m.table (new ∷ []) grown_by
+      (omega arith) i place.0 (ap (λ (z : Slot). z.partition) slot_is) serves
       act (name_of title ∷ []) lets_out tt more m.after m.plan (caches p thread) called
       (subst (λ s. Contains (name_of title ∷ []) s) (sym place.1) (first_in (name_of title) []))
       (only_new (λ x. Contains (name_of title ∷ []) (name_of x.title)) (first_in (name_of title) []))
@@ -239,11 +254,14 @@ module _ (p : Player) (thread reg q size : ℕ) (none : HasNone (register_at p t
       (let e : m.after.turn ≡ (root_of p q).turn = ap (λ (s : Root). s.turn) is_map.root in omega arith)
       shaped
       (record {
-        many = λ k fit. (h.tallied k fit).many ∙ sym (cached_slots_same (caches p) (caches (record p { table = set m.table i issued_it })) threads k lists_same);
-        bytes = λ k fit. (h.tallied k fit).bytes ∙ sym (cached_bytes_same (caches p) (caches (record p { table = set m.table i issued_it })) threads k lists_same);
+        many = λ k fit. (h.tallied k fit).many ∙
+            sym (cached_slots_same (caches p) (caches (record p { table = set m.table i issued_it })) threads k lists_same);
+        bytes = λ k fit. (h.tallied k fit).bytes ∙
+            sym (cached_bytes_same (caches p) (caches (record p { table = set m.table i issued_it })) threads k lists_same);
       })
       (λ t k c. lists_same t k c ∙ cache_same (caches p) thread t k c) in
-      subst (λ slots. IsPlayed region partitions threads ls p (F slots) can.playing thread (ops.Alloc reg q size) (answers.Made (seen_at m.table i) (usable_of (rules_at p).version size)))
+      subst (λ slots. IsPlayed region partitions threads ls p (F slots) can.playing thread (ops.Alloc reg q size)
+      (answers.Made (seen_at m.table i) (usable_of (rules_at p).version size)))
       (sym (set_both m.table i 0 (stepped steps.Issue (slot_at m.table i).word.0) place.0)) made
 
 -- a direct map is made and issued
@@ -253,10 +271,14 @@ map_plays p r thread reg q size answer none direct u region partitions threads l
     let m = u.placed in
     let played = map_played p thread reg q size none direct u.mapped u.place m region partitions threads ls can in
     let said : answer ≡ answers.Made (seen_at m.table u.place) (usable_of (rules_at p).version size) =
-    u.says ∙ ap (λ z. made_at z u.place) m.acted ∙ ap (λ k. answers.Made (seen_at m.table u.place) k) (serves p thread reg q size none direct u.mapped u.place m region partitions threads ls can) in
-    let after : r ≡ issued thread reg u.place (base p thread reg q size none direct u.mapped u.place m region partitions threads ls can) = u.issued ∙ ap (issued thread reg u.place) m.acted in
+    u.says ∙ ap (λ z. made_at z u.place) m.acted ∙
+    ap (λ k. answers.Made (seen_at m.table u.place) k)
+    (serves p thread reg q size none direct u.mapped u.place m region partitions threads ls can) in
+    let after : r ≡ issued thread reg u.place (base p thread reg q size none direct u.mapped u.place m region partitions threads ls can) =
+    u.issued ∙ ap (issued thread reg u.place) m.acted in
     subst (λ a. PlaysAfter region partitions threads ls p thread (ops.Alloc reg q size) r a) (sym said)
-    (subst (λ z. PlaysAfter region partitions threads ls p thread (ops.Alloc reg q size) z (answers.Made (seen_at m.table u.place) (usable_of (rules_at p).version size))) (sym after)
+    (subst (λ z. PlaysAfter region partitions threads ls p thread (ops.Alloc reg q size) z
+    (answers.Made (seen_at m.table u.place) (usable_of (rules_at p).version size))) (sym after)
     (playing_more region partitions threads ls p (issued thread reg u.place
     (base p thread reg q size none direct u.mapped u.place m region partitions threads ls can)) can.playing thread
     (ops.Alloc reg q size)

@@ -63,7 +63,8 @@ one_goes_on : (before after : List CellEntry) → IsOneMore before after → (mo
 one_goes_on before after (inl same) = ([], same ∙ sym (append-nil before))
 one_goes_on before after (inr (e, more)) = (e ∷ [], more)
 
-module _ (region partitions threads : ℕ) (ls : List Line) (p q : Player) (h : IsPlaying region partitions threads ls p) (thread : ℕ) (op : Op) (answer : Answer)
+module _ (region partitions threads : ℕ) (ls : List Line) (p q : Player) (h : IsPlaying region partitions threads ls p) (thread : ℕ)
+    (op : Op) (answer : Answer)
     (short : length ls < 65535) (m : IsPlayed region partitions threads ls p q h thread op answer) where
   abbrev x : Played
   x = played_at m.after.rules ls thread op answer
@@ -75,15 +76,18 @@ module _ (region partitions threads : ℕ) (ls : List Line) (p q : Player) (h : 
   next_line = omega (arith, longer)
 
   -- what is said of the entries and the acts of the line, said of what is reported then
-  told_then : (P : List PoolEntry → Journals → Type 0) → P (p.told.pools ++ m.more) (grown (journals p) (length ls + 2) m.acts) → P q.told.pools (journals q)
+  told_then : (P : List PoolEntry → Journals → Type 0) → P (p.told.pools ++ m.more) (grown (journals p) (length ls + 2) m.acts) →
+      P q.told.pools (journals q)
   told_then P d =
       let J : journals q ≡ grown (journals p) (length ls + 2) m.acts = fun_ext m.told.journals in
       subst (λ z. P z (journals q)) (sym m.told.pools) (subst (λ z. P (p.told.pools ++ m.more) z) (sym J) d)
 
   placed : IsPlacedTo partitions (length (ls ++ Do thread op ∷ []) + 2) (h.ps ++ x ∷ []) q.told.pools (journals q) (caches q)
   placed =
-      let made = line_extends partitions (length ls + 2) h.ps x p.told.pools m.more (journals p) m.acts (caches p) m.next h.placed m.done.deed in
-      let same = same_is_placed.placed partitions (length ls + 2 + 1) (h.ps ++ x ∷ []) (p.told.pools ++ m.more) (grown (journals p) (length ls + 2) m.acts)
+      let made = line_extends partitions (length ls + 2) h.ps x p.told.pools m.more (journals p) m.acts
+      (caches p) m.next h.placed m.done.deed in
+      let same = same_is_placed.placed partitions (length ls + 2 + 1) (h.ps ++ x ∷ []) (p.told.pools ++ m.more)
+      (grown (journals p) (length ls + 2) m.acts)
       (grown (journals p) (length ls + 2) m.acts) (with_cache (caches p) thread m.next) (caches q) made (λ k. refl) m.lists in
       subst (λ n. IsPlacedTo partitions n (h.ps ++ x ∷ []) q.told.pools (journals q) (caches q)) next_line
       (told_then (λ pools roots. IsPlacedTo partitions (length ls + 2 + 1) (h.ps ++ x ∷ []) pools roots (caches q)) same)
@@ -91,7 +95,8 @@ module _ (region partitions threads : ℕ) (ls : List Line) (p q : Player) (h : 
   pooled : IsPooledTo region (length (ls ++ Do thread op ∷ []) + 2) q.told.pools (journals q)
   pooled =
       let made = pool_extends region (length ls + 2) p.told.pools m.more (journals p) m.acts h.pooled m.done.asks in
-      subst (λ n. IsPooledTo region n q.told.pools (journals q)) next_line (told_then (λ pools roots. IsPooledTo region (length ls + 2 + 1) pools roots) made)
+      subst (λ n. IsPooledTo region n q.told.pools (journals q)) next_line
+      (told_then (λ pools roots. IsPooledTo region (length ls + 2 + 1) pools roots) made)
 
   slots : AreAllSlots q.version partitions q.table q.told.pools (journals q) (root_of q)
   slots = told_then (λ pools roots. AreAllSlots q.version partitions q.table pools roots (root_of q)) m.table.slots
@@ -106,7 +111,8 @@ module _ (region partitions threads : ℕ) (ls : List Line) (p q : Player) (h : 
   -- a slot with a size is where it stood
   same_homes : AreSameHomes p.table q.table (marks_of h.ps)
   same_homes mark among =
-      let (i, at) = sized_place partitions p.table p.told.pools (journals p) (root_of p) (home_in p.table mark.slot) mark.slot (len_in p.table mark.slot) h.slots (h.marked mark among) in
+      let (i, at) = sized_place partitions p.table p.told.pools (journals p) (root_of p) (home_in p.table mark.slot) mark.slot
+      (len_in p.table mark.slot) h.slots (h.marked mark among) in
       let kept = by_name_kept p.table q.table mark.slot i h.slots.apart m.table.slots.apart m.table.keeps at in
       (kept.0, kept.1)
 
@@ -114,9 +120,11 @@ module _ (region partitions threads : ℕ) (ls : List Line) (p q : Player) (h : 
   marked mark among = elim (mark_cases (marks_of h.ps) (mark_of x) mark (subst (λ ms. Contains ms mark) (marks_push h.ps x) among)) [
     | inl old ↦
         let same = same_homes mark old in
-        let grew = size_grown (journals p) (length ls + 2) m.acts (home_in p.table mark.slot) mark.slot (len_in p.table mark.slot) (h.marked mark old) in
+        let grew = size_grown (journals p) (length ls + 2) m.acts (home_in p.table mark.slot) mark.slot (len_in p.table mark.slot)
+        (h.marked mark old) in
         let now = told_then (λ pools roots. HasSize roots (home_in p.table mark.slot) mark.slot (len_in p.table mark.slot)) grew in
-        subst (λ l. HasSize (journals q) (home_in q.table mark.slot) mark.slot l) (sym same.1) (subst (λ k. HasSize (journals q) k mark.slot (len_in p.table mark.slot)) (sym same.0) now)
+        subst (λ l. HasSize (journals q) (home_in q.table mark.slot) mark.slot l) (sym same.1)
+        (subst (λ k. HasSize (journals q) k mark.slot (len_in p.table mark.slot)) (sym same.0) now)
     | inr new ↦
         let (i, at) = m.table.marked mark new in
         let here = slot_here q.table mark.slot i m.table.slots.apart at in
@@ -136,18 +144,27 @@ module _ (region partitions threads : ℕ) (ls : List Line) (p q : Player) (h : 
     journals = λ k.
         let grew : length (journals q k) ≡ length (journals p k) + length (entries_at (length ls + 2) (m.acts k)) =
         ap length (m.told.journals k) ∙ length-append (journals p k) (entries_at (length ls + 2) (m.acts k)) in
-        let same : length (entries_at (length ls + 2) (m.acts k)) ≡ length (m.acts k) = length-map (m.acts k) (λ (a : RootAct). record { line = length ls + 2; act = a }) in
+        let same : length (entries_at (length ls + 2) (m.acts k)) ≡ length (m.acts k) =
+        length-map (m.acts k) (λ (a : RootAct). record { line = length ls + 2; act = a }) in
         omega (arith, longer, grew, same, m.told.few k, h.bounded.journals k);
-    histories = λ k. omega (arith, longer, one_longer (history_in p.told k) (history_in q.told k) (m.told.histories k), h.bounded.histories k);
+    histories = λ k. omega (
+      arith,
+      longer,
+      one_longer (history_in p.told k) (history_in q.told k) (m.told.histories k),
+      h.bounded.histories k,
+    );
     turns = λ k. omega (arith, longer, m.heap.turns k, h.bounded.turns k);
     born = m.heap.born;
   }
 
-  tallied : (k : ℕ) → k < partitions → AreTallied threads q.table (h.ps ++ x ∷ []) (caches q) (tally_at q.live.of k) (tally_at q.quarantined.of k) (tally_at q.cached.of k) k
+  tallied : (k : ℕ) → k < partitions →
+      AreTallied threads q.table (h.ps ++ x ∷ []) (caches q) (tally_at q.live.of k) (tally_at q.quarantined.of k) (tally_at q.cached.of k) k
   tallied k low =
       let old = h.tallied k low in
       record {
-        is_live = rw (marks_push h.ps x) (left_more _ _ p.table q.table k (marks_of h.ps) (mark_of x) (tally_at p.live.of k) (tally_at q.live.of k) same_homes old.is_live (m.counts.live k low));
+        is_live = rw (marks_push h.ps x)
+            (left_more _ _ p.table q.table k (marks_of h.ps) (mark_of x) (tally_at p.live.of k)
+            (tally_at q.live.of k) same_homes old.is_live (m.counts.live k low));
         is_quarantined = rw (marks_push h.ps x) (left_more _ _ p.table q.table k (marks_of h.ps) (mark_of x) (tally_at p.quarantined.of k)
             (tally_at q.quarantined.of k) same_homes old.is_quarantined (m.counts.quarantined k low));
         many = m.counts.many k low;
@@ -170,7 +187,8 @@ module _ (region partitions threads : ℕ) (ls : List Line) (p q : Player) (h : 
     placed = t.placed;
     slots = t.slots;
     goes_on = told_then (λ pools roots. GoesOn t.line t.early (h.ps ++ x ∷ []) t.entries pools t.before roots)
-        (run_goes_on.line t.line (length ls + 2) t.early h.ps x t.entries p.told.pools m.more t.before (journals p) m.acts t.passed refl t.goes_on);
+        (run_goes_on.line t.line (length ls + 2) t.early h.ps x t.entries p.told.pools m.more t.before
+        (journals p) m.acts t.passed refl t.goes_on);
     within = t.within;
     later = λ y among past. elim (Contains-push_cases h.ps x y among) [
       | inl old ↦ t.later y old past
@@ -184,10 +202,12 @@ module _ (region partitions threads : ℕ) (ls : List Line) (p q : Player) (h : 
     census = t.census;
   }
 
-  reported : All (IsToldLine partitions threads (length (ls ++ Do thread op ∷ []) + 2) q.phase (h.ps ++ x ∷ []) q.told.pools (journals q)) q.told.report
+  reported : All (IsToldLine partitions threads (length (ls ++ Do thread op ∷ []) + 2) q.phase (h.ps ++ x ∷ []) q.told.pools (journals q))
+      q.told.report
   reported =
       let P : ReportLine → Type 0 = IsToldLine partitions threads (length ls + 2) p.phase h.ps p.told.pools (journals p) in
-      let Q : ReportLine → Type 0 = IsToldLine partitions threads (length (ls ++ Do thread op ∷ []) + 2) q.phase (h.ps ++ x ∷ []) q.told.pools (journals q) in
+      let Q : ReportLine → Type 0 =
+      IsToldLine partitions threads (length (ls ++ Do thread op ∷ []) + 2) q.phase (h.ps ++ x ∷ []) q.told.pools (journals q) in
       subst (λ lines. All Q lines) (sym m.told.report) (All-weaker P Q told_line p.told.report h.reported)
 
   printable : (k : ℕ) (e : RootEntry) → Contains (journals q k) e → NamesSlots e.act
@@ -215,7 +235,9 @@ module _ (region partitions threads : ℕ) (ls : List Line) (p q : Player) (h : 
     phase = m.told.phase ∙ h.phase ∙ sym (phases_push ls thread op);
     placed = placed;
     pooled = pooled;
-    roots = λ k. m.heap.roots k ∙ told_then (λ pools roots. root_at (p.told.pools ++ m.more) (grown (journals p) (length ls + 2) m.acts) k ≡ root_at pools roots k) refl;
+    roots = λ k. m.heap.roots k ∙
+        told_then (λ pools roots. root_at (p.told.pools ++ m.more) (grown (journals p) (length ls + 2) m.acts) k ≡ root_at pools roots k)
+        refl;
     plan = m.heap.plan ∙ ap (pool_at region) (sym m.told.pools);
     slots = slots;
     marked = marked;
@@ -225,11 +247,15 @@ module _ (region partitions threads : ℕ) (ls : List Line) (p q : Player) (h : 
     reported = reported;
     places =
         subst (λ z. map (λ (l : ReportLine). (l.phase, l.partition)) z ≡ phases_of partitions 1 (q.phase - 1)) (sym m.told.report)
-        (subst (λ z. map (λ (l : ReportLine). (l.phase, l.partition)) p.told.report ≡ phases_of partitions 1 (z - 1)) (sym m.told.phase) h.places);
+        (subst (λ z. map (λ (l : ReportLine). (l.phase, l.partition)) p.told.report ≡ phases_of partitions 1 (z - 1))
+        (sym m.told.phase) h.places);
     printable = printable;
   }
 
-pub playing_more : (region partitions threads : ℕ) (ls : List Line) (p q : Player) (h : IsPlaying region partitions threads ls p) (thread : ℕ) (op : Op) (answer : Answer) → length ls < 65535
+pub playing_more : (region partitions threads : ℕ) (ls : List Line) (p q : Player) (h : IsPlaying region partitions threads ls p)
+    (thread : ℕ) (op : Op) (answer : Answer) → length ls < 65535
     → IsPlayed region partitions threads ls p q h thread op answer → PlaysAfter region partitions threads ls p thread op q answer
-playing_more region partitions threads ls p q h thread op answer short m =
-    (playing region partitions threads ls p q h thread op answer short m, tells_on region partitions threads ls p q h thread op answer short m)
+playing_more region partitions threads ls p q h thread op answer short m = (
+  playing region partitions threads ls p q h thread op answer short m,
+  tells_on region partitions threads ls p q h thread op answer short m,
+)

@@ -14,7 +14,8 @@ use Rattle.pa_player.specs.declared.table.Slot.{Slot}
 use Rattle.pa_player.specs.Asks.{CanGive, CanPurgeOne, places_from, places_all}
 use Rattle.pa_player.specs.Changes.{given, given_from, given_all, purged_with, list_in, bytes_at}
 use Rattle.pa_player.specs.Playing.{list_place, numbered_at, root_of}
-use Rattle.pa_player.specs.Tallies.{tally_at, no_tally}
+use Rattle.pa_rules.specs.Lists.{no_tally}
+use Rattle.pa_player.specs.Tallies.{tally_at}
 use Rattle.pa_player.specs.Told.{journal_in}
 use Rattle.pa_player.proofs.OneList.{same_place}
 
@@ -67,7 +68,8 @@ keeps_after q a b c h g = record {
 }
 
 -- a list goes back
-keeps_given : (thread q class : ℕ) (p : Player) → q < p.partitions → HasClass p.version class → KeepsOthers q p (given q (list_place p.version p.partitions thread q class) 0 p)
+keeps_given : (thread q class : ℕ) (p : Player) → q < p.partitions → HasClass p.version class →
+    KeepsOthers q p (given q (list_place p.version p.partitions thread q class) 0 p)
 keeps_given thread q class p among few =
     let at = list_place p.version p.partitions thread q class in record {
       version = refl;
@@ -84,13 +86,15 @@ keeps_given thread q class p among few =
           (λ e. ne (same_place p.version p.partitions t k c thread q class in_range among short few e).1);
     }
 
-keeps_given_from : (thread q class n : ℕ) (p : Player) → q < p.partitions → first_class p.version ≤ class → class + n ≤ past_class p.version → KeepsOthers q p (given_from thread q class n p)
+keeps_given_from : (thread q class n : ℕ) (p : Player) → q < p.partitions → first_class p.version ≤ class →
+    class + n ≤ past_class p.version → KeepsOthers q p (given_from thread q class n p)
 unfolding given_from
 keeps_given_from thread q class zero p among from fits = keeps_itself q p
 keeps_given_from thread q class (suc n) p among from fits =
     let r = given q (list_place p.version p.partitions thread q class) 0 p in
     let one = keeps_given thread q class p among (from, omega arith) in
-    keeps_after q p r (given_from thread q (class + 1) n r) one (keeps_given_from thread q (class + 1) n r among (omega arith) (omega arith))
+    keeps_after q p r (given_from thread q (class + 1) n r) one
+    (keeps_given_from thread q (class + 1) n r among (omega arith) (omega arith))
 
 -- a partition is purged
 keeps_root : (q : ℕ) (p : Player) → KeepsOthers q p (purged_with q p)
@@ -115,12 +119,14 @@ keeps_all_given thread q p among =
 
 pub keeps_purged : (thread q : ℕ) (p : Player) → q < p.partitions → KeepsOthers q p (purged_with q (given_all thread q p))
 keeps_purged thread q p among =
-    keeps_after q p (given_all thread q p) (purged_with q (given_all thread q p)) (keeps_all_given thread q p among) (keeps_root q (given_all thread q p))
+    keeps_after q p (given_all thread q p) (purged_with q (given_all thread q p)) (keeps_all_given thread q p among)
+    (keeps_root q (given_all thread q p))
 
 -- ---- what goes back in the others
 
 pub places_same : (thread k class n : ℕ) (p r : Player) → r.version ≡ p.version → r.partitions ≡ p.partitions
-    → ((c : ℕ) → HasClass p.version c → list_in r (list_place p.version p.partitions thread k c) ≡ list_in p (list_place p.version p.partitions thread k c))
+    → ((c : ℕ) → HasClass p.version c →
+    list_in r (list_place p.version p.partitions thread k c) ≡ list_in p (list_place p.version p.partitions thread k c))
     → first_class p.version ≤ class → class + n ≤ past_class p.version → places_from thread k class n r ≡ places_from thread k class n p
 unfolding places_from
 places_same thread k class zero p r version many lists from fits = refl
@@ -128,17 +134,20 @@ places_same thread k class (suc n) p r version many lists from fits =
     let here : list_in r (list_place r.version r.partitions thread k class) ≡ list_in p (list_place p.version p.partitions thread k class) =
     ap₂ (λ v m. list_in r (list_place v m thread k class)) version many ∙ lists class (from, omega arith) in
     ap (λ z. z ++ places_from thread k (class + 1) n r) here
-    ∙ ap (λ z. list_in p (list_place p.version p.partitions thread k class) ++ z) (places_same thread k (class + 1) n p r version many lists (omega arith) (omega arith))
+    ∙ ap (λ z. list_in p (list_place p.version p.partitions thread k class) ++ z)
+    (places_same thread k (class + 1) n p r version many lists (omega arith) (omega arith))
 
 pub places_all_same : (thread k : ℕ) (p r : Player) → r.version ≡ p.version → r.partitions ≡ p.partitions
-    → ((c : ℕ) → HasClass p.version c → list_in r (list_place p.version p.partitions thread k c) ≡ list_in p (list_place p.version p.partitions thread k c))
+    → ((c : ℕ) → HasClass p.version c →
+    list_in r (list_place p.version p.partitions thread k c) ≡ list_in p (list_place p.version p.partitions thread k c))
     → places_all thread k r ≡ places_all thread k p
 places_all_same thread k p r version many lists =
     let end = class_end p.version in
     ap (λ v. places_from thread k (first_class v) (class_total v) r) version
     ∙ places_same thread k (first_class p.version) (class_total p.version) p r version many lists (omega arith) (omega arith)
 
-places_kept : (thread q k : ℕ) (p r : Player) → KeepsOthers q p r → (k ≡ q → ⊥) → k < p.partitions → places_all thread k r ≡ places_all thread k p
+places_kept : (thread q k : ℕ) (p r : Player) → KeepsOthers q p r → (k ≡ q → ⊥) → k < p.partitions →
+    places_all thread k r ≡ places_all thread k p
 places_kept thread q k p r h ne among = places_all_same thread k p r h.version h.many (λ c few. h.lists thread k c ne among few)
 
 give_kept : (q k : ℕ) (xs : List ℕ) (p r : Player) → KeepsOthers q p r → (k ≡ q → ⊥) → CanGive k xs p → CanGive k xs r
@@ -155,7 +164,8 @@ give_kept q k xs p r h ne can =
       four = can.four;
       among = subst (λ (z : List Slot). All (λ i. i < length z) xs) (sym h.table) can.among;
       sound = subst IsSound root can.sound;
-      out = subst (λ (z : List Slot). AreOut (root_of r k) (map (numbered_at z) xs)) (sym h.table) (subst (λ z. AreOut z (map (numbered_at p.table) xs)) root can.out);
+      out = subst (λ (z : List Slot). AreOut (root_of r k) (map (numbered_at z) xs)) (sym h.table)
+          (subst (λ z. AreOut z (map (numbered_at p.table) xs)) root can.out);
       turn = omega (arith, can.turn, turn);
       few = omega (arith, can.few, journal);
       slots = omega (arith, can.slots, slots);
@@ -171,5 +181,6 @@ purge_kept thread q k p r h ne can = record {
       let here = can.lists class (subst (λ v. HasClass v class) h.version few) in
       let same = ap₂ (λ v m. list_place v m thread k class) h.version h.many in
       subst (λ n. n < length r.caches) (sym same) (subst (λ n. list_place p.version p.partitions thread k class < n) (sym h.caches) here);
-  gives = subst (λ z. CanGive k z r) (sym (places_kept thread q k p r h ne can.among)) (give_kept q k (places_all thread k p) p r h ne can.gives);
+  gives = subst (λ z. CanGive k z r) (sym (places_kept thread q k p r h ne can.among))
+      (give_kept q k (places_all thread k p) p r h ne can.gives);
 }

@@ -27,14 +27,16 @@ owns_no_place p thread reg place answer refused i own first =
     absurd (let no : ⊥ = cc in no)
 
 -- a read of an owner's first word finds it held, and inside the slot
-reads_place : (p : Player) (thread reg place i : ℕ) (answer : Answer) → IsReady (Do thread (ops.Read reg place)) p → register_at p thread reg ≡ Own i → Reads i place p answer
+reads_place : (p : Player) (thread reg place i : ℕ) (answer : Answer) → IsReady (Do thread (ops.Read reg place)) p →
+    register_at p thread reg ≡ Own i → Reads i place p answer
     → place ≡ 0 → (seen : Seen) × (value : ℕ) × (answer ≡ Value seen value)
 reads_place p thread reg place i answer ready is (inl (past, says)) first =
     let can = ready.can in
     let low = place_ready p (Do thread (ops.Read reg place)) thread reg i ready (handle_points (register_at p thread reg) i (inl is)) in
     let long = length_of ready.region ready.partitions ready.threads ready.ls p can.playing i low in
     absurd (omega (arith, past, first, long.whole, long.least))
-reads_place p thread reg place i answer ready is (inr (inl (low, held, says))) first = (seen_at p.table i, (slot_at p.table i).content, says)
+reads_place p thread reg place i answer ready is (inr (inl (low, held, says))) first =
+    (seen_at p.table i, (slot_at p.table i).content, says)
 reads_place p thread reg place i answer ready is (inr (inr (low, free, says))) first =
     let can = ready.can in
     absurd (free ((frees ready.region ready.partitions ready.threads ready.ls p thread (ops.Read reg place) can reg i can.within.1.0 is).0))

@@ -11,7 +11,8 @@ use Rattle.pa_player.proofs.Purging.{all_places}
 use Rattle.pa_player.proofs.Sparse.{all_slots}
 use Rattle.pa_player.proofs.Others.{keeps_purged, places_all_same, purge_kept}
 
-purged_suc : (thread q n : ℕ) (p : Player) → purged_from thread q (suc n) p ≡ purged_from thread (q + 1) n (purged_with q (given_all thread q p))
+purged_suc : (thread q n : ℕ) (p : Player) →
+    purged_from thread q (suc n) p ≡ purged_from thread (q + 1) n (purged_with q (given_all thread q p))
 unfolding purged_from
 purged_suc thread q n p = refl
 
@@ -43,7 +44,8 @@ all_start thread p can = let whole : p.partitions ≡ p.partitions - 0 = omega a
 
 -- the lists of the next partition are those that it had
 lists_here : (thread n : ℕ) (p s : Player) (slots : ℕ) → IsPurgedTo thread n p s slots → n < p.partitions
-    → (listed_slots (caches s thread n) (first_class s.version) (class_total s.version) ≡ listed_slots (caches p thread n) (first_class p.version) (class_total p.version))
+    → (listed_slots (caches s thread n) (first_class s.version) (class_total s.version) ≡ listed_slots (caches p thread n)
+    (first_class p.version) (class_total p.version))
     × (listed_slots (caches p thread n) (first_class p.version) (class_total p.version) < 2 ^ 28)
 lists_here thread n p s slots h among =
     let can = h.each n (omega arith) among in
@@ -67,7 +69,8 @@ all_more thread n p s r slots more h among e is =
     let left : p.partitions - n ≡ suc (p.partitions - (n + 1)) = omega arith in
     let here = lists_here thread n p s slots h among in
     let whole = all_slots p thread n in
-    let count : slots + (listed_slots (caches p thread n) 0 170 + all_listed (caches p thread) (n + 1) (p.partitions - (n + 1))) ≡ all_listed (caches p thread) 0 p.partitions =
+    let count : slots + (listed_slots (caches p thread n) 0 170 + all_listed (caches p thread) (n + 1)
+    (p.partitions - (n + 1))) ≡ all_listed (caches p thread) 0 p.partitions =
     sym (ap (λ k. slots + all_listed (caches p thread) n k) left) ∙ h.count in
     let next : IsPurgedTo thread (n + 1) p t (slots + more) = record {
       version = kept.version ∙ h.version;
@@ -76,7 +79,8 @@ all_more thread n p s r slots more h among e is =
       each = λ q least inside. purge_kept thread n q s t kept (λ same. absurd (omega (arith, same, least))) (h.each q (omega arith) inside);
       lists = λ k class least inside short.
           ap₂ (λ v m. list_in t (list_place v m thread k class)) (sym h.version) (sym h.many)
-          ∙ kept.lists thread k class (λ same. absurd (omega (arith, same, least))) (omega (arith, inside, h.many)) (subst (λ v. HasClass v class) (sym h.version) short)
+          ∙ kept.lists thread k class (λ same. absurd (omega (arith, same, least))) (omega (arith, inside, h.many))
+          (subst (λ v. HasClass v class) (sym h.version) short)
           ∙ ap₂ (λ v m. list_in s (list_place v m thread k class)) h.version h.many ∙ h.lists k class (omega arith) inside short;
       count = omega (arith, count, whole, here.0, e);
       few = omega (arith, h.few, here.0, here.1, e);

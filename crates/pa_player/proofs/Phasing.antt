@@ -15,7 +15,8 @@ pub record IsToldFor (n : ℕ) (p s : Player) : Type 0 where
   pub rest : s.told.report ++ report_lines p n (p.partitions - n) ≡ p.told.report ++ report_lines p 0 p.partitions
 
 pub report_start : (p : Player) → IsToldFor 0 p p
-report_start p = let whole : p.partitions - 0 ≡ p.partitions = omega arith in record { same = refl; rest = ap (λ n. p.told.report ++ report_lines p 0 n) whole }
+report_start p = let whole : p.partitions - 0 ≡ p.partitions = omega arith in
+    record { same = refl; rest = ap (λ n. p.told.report ++ report_lines p 0 n) whole }
 
 pub report_more : (n : ℕ) (p s r : Player) (line : ReportLine) → IsToldFor n p s → n < p.partitions → line ≡ report_line s n
     → r ≡ with_report s (s.told.report ++ line ∷ []) → IsToldFor (n + 1) p r
@@ -31,7 +32,8 @@ report_more n p s r line h lt is after =
     let it : IsToldFor (n + 1) p (with_report s next) = record { same = ap (λ z. with_report z next) h.same; rest = whole } in
     subst (IsToldFor (n + 1) p) (sym after) it
 
-pub report_end : (n : ℕ) (p s : Player) → IsToldFor n p s → n ≡ p.partitions → s ≡ with_report p (p.told.report ++ report_lines p 0 p.partitions)
+pub report_end : (n : ℕ) (p s : Player) → IsToldFor n p s → n ≡ p.partitions →
+    s ≡ with_report p (p.told.report ++ report_lines p 0 p.partitions)
 report_end n p s h e =
     let none : p.partitions - n ≡ 0 = omega arith in
     h.same ∙ ap (with_report p) (sym (append-nil s.told.report) ∙ sym (ap (λ k. s.told.report ++ report_lines p n k) none) ∙ h.rest)

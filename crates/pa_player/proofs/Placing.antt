@@ -20,12 +20,14 @@ use Rattle.pa_player.specs.Tables.{IsHome, new_slot}
 use Rattle.pa_player.specs.Told.{Lists, journal_in, with_act}
 
 -- a direct map has one slot or none
-maps_one : (len : ℕ) (before next : PoolState) (r : Root) (filled : Filled) (o : Option ℕ) → Maps len before next r filled o → (filled.titles ≡ []) ⊎ ((t : Title) × (filled.titles ≡ t ∷ []))
+maps_one : (len : ℕ) (before next : PoolState) (r : Root) (filled : Filled) (o : Option ℕ) → Maps len before next r filled o →
+    (filled.titles ≡ []) ⊎ ((t : Title) × (filled.titles ≡ t ∷ []))
 maps_one len before next r filled None h = absurd h
 maps_one len before next r filled (Some entry) (None, asked, e) = inl (ap (λ (z : Filled). z.titles) e)
 maps_one len before next r filled (Some entry) (Some first, asked, e) = inr (_, ap (λ (z : Filled). z.titles) e)
 
-only_title : (len : ℕ) (before next : PoolState) (r after : Root) (placed : Placed) (t : Title) (ts : List Title) → MapDid len before next r after placed
+only_title : (len : ℕ) (before next : PoolState) (r after : Root) (placed : Placed) (t : Title) (ts : List Title) →
+    MapDid len before next r after placed
     → placed.titles.items ≡ t ∷ ts → placed.titles.items ≡ t ∷ []
 only_title len before next r after placed t ts did first = elim (maps_one len before next r (with_slots after placed) placed.pool did) [
   | inl none ↦ absurd (let e : t ∷ ts ≡ [] = sym first ∙ none in cc)
@@ -33,13 +35,15 @@ only_title len before next r after placed t ts did first = elim (maps_one len be
 ]
 
 -- a direct map has its place
-pub map_placed : (q len supers asked place : ℕ) (p taken r : Player) (placed : Placed) (title : Title) (ts : List Title) (table : List Slot) → IsMapTaken q len supers p taken placed
+pub map_placed : (q len supers asked place : ℕ) (p taken r : Player) (placed : Placed) (title : Title) (ts : List Title)
+    (table : List Slot) → IsMapTaken q len supers p taken placed
     → placed.titles.items ≡ title ∷ ts → placed.pool ≡ Some asked → IsHome taken.table table (new_slot title q None) place
     → r ≡ record (acted q (Map asked (name_of title) title.len ∷ []) taken) { table = table } → IsMapPlaced q len supers p r place
 map_placed q len supers asked place p taken r placed title ts table h first asks home is =
     let one = only_title len p.heap.pool h.plan (root_of p q) h.after placed title ts h.did first in
     let e : taken ≡ pooled q (pool.Take supers (found_by (title ∷ []))) (placed_in q h.after h.plan p) =
-    h.taken ∙ ap (λ z. asked_in q supers z placed.pool (placed_in q h.after h.plan p)) one ∙ ap (λ z. asked_in q supers (title ∷ []) z (placed_in q h.after h.plan p)) asks in record {
+    h.taken ∙ ap (λ z. asked_in q supers z placed.pool (placed_in q h.after h.plan p)) one ∙
+    ap (λ z. asked_in q supers (title ∷ []) z (placed_in q h.after h.plan p)) asks in record {
       plan = h.plan;
       after = h.after;
       placed = placed;
@@ -55,13 +59,15 @@ map_placed q len supers asked place p taken r placed title ts table h first asks
 
 -- A list was filled if the slots that the root gave were put into it and that was reported.
 pub filled_told : (q at class want : ℕ) (p told r : Player) (plan : PoolState) (roots : List Root) (placed : Placed) → want ≡ fill_of class
-    → FillDid class want p.heap.pool plan (root_of p q) (slice_index_or roots q new_root) placed → roots ≡ slice_set p.heap.roots q (slice_index_or roots q new_root)
+    → FillDid class want p.heap.pool plan (root_of p q) (slice_index_or roots q new_root) placed →
+    roots ≡ slice_set p.heap.roots q (slice_index_or roots q new_root)
     → told ≡ asked_in q 1 placed.titles.items placed.pool (record p { heap = record { pool = plan; roots = roots } })
     → (placed.titles.items ≡ [] → ⊥) → IsFillTold q at class placed.pool placed.titles.items told r → IsFilled q at class p r
 filled_told q at class want p told r plan roots placed many did others asked some h =
     let after = slice_index_or roots q new_root in
     let e : told ≡ asked_in q 1 placed.titles.items placed.pool (placed_in q after plan p) =
-    asked ∙ ap (λ (z : List Root). asked_in q 1 placed.titles.items placed.pool (record p { heap = record { pool = plan; roots = z } })) others in record {
+    asked ∙ ap (λ (z : List Root). asked_in q 1 placed.titles.items placed.pool (record p { heap = record { pool = plan; roots = z } }))
+    others in record {
       plan = plan;
       after = after;
       placed = placed;
@@ -74,16 +80,21 @@ filled_told q at class want p told r plan roots placed many did others asked som
     }
 
 -- There was no room for a slot if the root gave none and that was reported.
-pub unfilled_told : (q class want asked entry : ℕ) (p told : Player) (after : Lists) (plan : PoolState) (roots : List Root) (placed : Placed) → want ≡ fill_of class
-    → FillDid class want p.heap.pool plan (root_of p q) (slice_index_or roots q new_root) placed → roots ≡ slice_set p.heap.roots q (slice_index_or roots q new_root)
+pub unfilled_told : (q class want asked entry : ℕ) (p told : Player) (after : Lists) (plan : PoolState) (roots : List Root)
+    (placed : Placed) → want ≡ fill_of class
+    → FillDid class want p.heap.pool plan (root_of p q) (slice_index_or roots q new_root) placed →
+    roots ≡ slice_set p.heap.roots q (slice_index_or roots q new_root)
     → told ≡ asked_in q 1 placed.titles.items placed.pool (record p { heap = record { pool = plan; roots = roots } })
     → placed.titles.items ≡ [] → placed.pool ≡ Some asked → entry ≡ length (journal_in told.told q)
-    → after ≡ with_act q (record { line = told.told.line; act = Full (Some class) asked }) told.told → IsUnfilled q class p (record told { told = after }) entry
+    → after ≡ with_act q (record { line = told.told.line; act = Full (Some class) asked }) told.told →
+    IsUnfilled q class p (record told { told = after }) entry
 unfilled_told q class want asked entry p told after plan roots placed many did others tells none asks place is =
     let root = slice_index_or roots q new_root in
     let e : told ≡ pooled q (pool.Take 1 None) (placed_in q root plan p) =
-    tells ∙ ap (λ (z : List Root). asked_in q 1 placed.titles.items placed.pool (record p { heap = record { pool = plan; roots = z } })) others
-    ∙ ap (λ (z : List Title). asked_in q 1 z placed.pool (placed_in q root plan p)) none ∙ ap (λ (z : Option ℕ). asked_in q 1 [] z (placed_in q root plan p)) asks in record {
+    tells ∙ ap (λ (z : List Root). asked_in q 1 placed.titles.items placed.pool (record p { heap = record { pool = plan; roots = z } }))
+    others
+    ∙ ap (λ (z : List Title). asked_in q 1 z placed.pool (placed_in q root plan p)) none ∙
+    ap (λ (z : Option ℕ). asked_in q 1 [] z (placed_in q root plan p)) asks in record {
       plan = plan;
       after = root;
       placed = placed;

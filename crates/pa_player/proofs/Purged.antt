@@ -39,7 +39,8 @@ listed_of_all all q (suc n) t below = elim (cases_eq n t) [
   | inr other ↦ let ih = listed_of_all all q n t (omega arith) in omega arith
 ]
 
-bytes_of_all : (all : Caches) (q threads t : ℕ) → t < threads → listed_bytes (λ class. length (all t q class)) 0 170 ≤ cached_bytes all q threads
+bytes_of_all : (all : Caches) (q threads t : ℕ) → t < threads →
+    listed_bytes (λ class. length (all t q class)) 0 170 ≤ cached_bytes all q threads
 bytes_of_all all q zero t below = absurd (omega (arith, below))
 bytes_of_all all q (suc n) t below = elim (cases_eq n t) [
   | inl e ↦
@@ -49,14 +50,16 @@ bytes_of_all all q (suc n) t below = elim (cases_eq n t) [
   | inr other ↦ let ih = bytes_of_all all q n t (omega arith) in omega arith
 ]
 
-module _ (region partitions threads : ℕ) (ls : List Line) (p : Player) (h : IsPlaying region partitions threads ls p) (t q : ℕ) (below : t < threads) (low : q < partitions) where
+module _ (region partitions threads : ℕ) (ls : List Line) (p : Player) (h : IsPlaying region partitions threads ls p) (t q : ℕ)
+    (below : t < threads) (low : q < partitions) where
   here : (class : ℕ) → HasClass p.version class → caches p t q class ≡ map (numbered_at p.table) (list_at p t q class)
   here class real = caches_here p t q class (omega (arith, low, h.shaped.many)) real
 
   same_size : (class : ℕ) → HasClass p.version class → length (caches p t q class) ≡ length (list_at p t q class)
   same_size class real = ap length (here class real) ∙ length-map (list_at p t q class) (numbered_at p.table)
 
-  places_are : (class n : ℕ) → first_class p.version ≤ class → class + n ≤ past_class p.version → map (numbered_at p.table) (places_from t q class n p) ≡ all_of (caches p t q) class n
+  places_are : (class n : ℕ) → first_class p.version ≤ class → class + n ≤ past_class p.version →
+      map (numbered_at p.table) (places_from t q class n p) ≡ all_of (caches p t q) class n
   unfolding places_from
   places_are class zero from within = refl
   places_are class (suc n) from within =
@@ -66,23 +69,28 @@ module _ (region partitions threads : ℕ) (ls : List Line) (p : Player) (h : Is
       ∙ ap (λ zs. zs ++ map (numbered_at p.table) (places_from t q (class + 1) n p)) (sym (here class real))
       ∙ ap (λ zs. caches p t q class ++ zs) rest
 
-  places_bytes : (class n : ℕ) → first_class p.version ≤ class → class + n ≤ past_class p.version → bytes_at p.table (places_from t q class n p) ≡ listed_bytes (λ c. length (caches p t q c)) class n
+  places_bytes : (class n : ℕ) → first_class p.version ≤ class → class + n ≤ past_class p.version →
+      bytes_at p.table (places_from t q class n p) ≡ listed_bytes (λ c. length (caches p t q c)) class n
   unfolding places_from listed_bytes
   places_bytes class zero from within = refl
   places_bytes class (suc n) from within =
       let real : HasClass p.version class = (from, omega (arith, within)) in
-      let one = bytes_of_one p.table (slot_of class) (list_at p t q class) (λ i among. listed_len region partitions threads ls p h t q class i below low real among) in
-      let same : slot_of class * length (caches p t q class) ≡ slot_of class * length (list_at p t q class) = ap (λ n. slot_of class * n) (same_size class real) in
+      let one = bytes_of_one p.table (slot_of class) (list_at p t q class)
+      (λ i among. listed_len region partitions threads ls p h t q class i below low real among) in
+      let same : slot_of class * length (caches p t q class) ≡ slot_of class * length (list_at p t q class) =
+      ap (λ n. slot_of class * n) (same_size class real) in
       let rest = places_bytes (class + 1) n (omega (arith, from)) (omega (arith, within)) in
       omega (arith, bytes_append p.table (list_at p t q class) (places_from t q (class + 1) n p), one, same, rest)
 
-  places_among : (class n i : ℕ) → first_class p.version ≤ class → class + n ≤ past_class p.version → Contains (places_from t q class n p) i → i < length p.table
+  places_among : (class n i : ℕ) → first_class p.version ≤ class → class + n ≤ past_class p.version →
+      Contains (places_from t q class n p) i → i < length p.table
   unfolding places_from
   places_among class zero i from within among = absurd (not_in_none i among)
-  places_among class (suc n) i from within among = elim (Contains-append_cases (list_at p t q class) (places_from t q (class + 1) n p) i among) [
-    | inl first ↦ (h.shaped.listed t q class i below low (from, omega (arith, within)) first).0
-    | inr rest ↦ places_among (class + 1) n i (omega (arith, from)) (omega (arith, within)) rest
-  ]
+  places_among class (suc n) i from within among =
+      elim (Contains-append_cases (list_at p t q class) (places_from t q (class + 1) n p) i among) [
+        | inl first ↦ (h.shaped.listed t q class i below low (from, omega (arith, within)) first).0
+        | inr rest ↦ places_among (class + 1) n i (omega (arith, from)) (omega (arith, within)) rest
+      ]
 
   gives : length ls ≤ 65535 → CanGive q (places_all t q p) p
   gives short =
@@ -93,7 +101,8 @@ module _ (region partitions threads : ℕ) (ls : List Line) (p : Player) (h : Is
       let many = all_places p t q (omega (arith, low, h.shaped.many)) in
       let few = listed_few (caches p t q) first total (λ c. list_short region partitions threads ls p h t q c below low) in
       let bytes = places_bytes first total (omega arith) (omega arith) in
-      let whole = lists_are_out region partitions (length ls + 2) q t ls h.ps p.told.pools (journals p) (caches p) (so_far region partitions threads ls p h) in
+      let whole = lists_are_out region partitions (length ls + 2) q t ls h.ps p.told.pools (journals p) (caches p)
+      (so_far region partitions threads ls p h) in
       let out = subst (λ zs. AreOut (root_at p.told.pools (journals p) q) zs) (all_in_lists p t q) whole in
       let tallied = h.tallied q low in
       let all = all_slots p t q in
@@ -102,9 +111,11 @@ module _ (region partitions threads : ℕ) (ls : List Line) (p : Player) (h : Is
         root = omega (arith, low, h.shaped.roots);
         journal = omega (arith, low, h.shaped.journals);
         four = omega (arith, low, h.shaped.four);
-        among = all_from_members (λ i. i < length p.table) (places_all t q p) (λ i there. places_among first total i (omega arith) (omega arith) there);
+        among = all_from_members (λ i. i < length p.table) (places_all t q p)
+            (λ i there. places_among first total i (omega arith) (omega arith) there);
         sound = root_sound region partitions threads ls p h q;
-        out = subst (AreOut (root_of p q)) (sym (places_are first total (omega arith) (omega arith))) (subst (λ r. AreOut r (all_of (caches p t q) first total)) (sym (h.roots q)) out);
+        out = subst (AreOut (root_of p q)) (sym (places_are first total (omega arith) (omega arith)))
+            (subst (λ r. AreOut r (all_of (caches p t q) first total)) (sym (h.roots q)) out);
         turn = omega (arith, h.bounded.turns q, short, many, few, at_most);
         few = omega (arith, h.bounded.journals q, short, many, few, at_most);
         slots = omega (arith, many, all, listed_of_all (caches p) q threads t below, tallied.many);

@@ -45,7 +45,8 @@ pub record IsGiving (partitions threads : ℕ) (p m : Player) : Type 0 where
 
 -- each slot of a list has the length of its class
 abbrev pub AreLong : ℕ → ℕ → Player → Type 0
-AreLong partitions threads p = (t q class i : ℕ) → t < threads → q < partitions → HasClass p.version class → Contains (list_at p t q class) i → (slot_at p.table i).title.len ≡ slot_of class
+AreLong partitions threads p = (t q class i : ℕ) → t < threads → q < partitions → HasClass p.version class →
+    Contains (list_at p t q class) i → (slot_at p.table i).title.len ≡ slot_of class
 
 -- One list of a thread went back: the player was m, and is r.
 pub record IsListGiven (partitions threads thread q class : ℕ) (m r : Player) : Type 0 where
@@ -54,7 +55,8 @@ pub record IsListGiven (partitions threads thread q class : ℕ) (m r : Player) 
   pub lists : (t k c : ℕ) → caches r t k c ≡ with_cache (caches m) thread (with_list (caches m thread) q class []) t k c
   pub long : AreLong partitions threads r
 
-module _ (partitions threads thread q class : ℕ) (m : Player) (below : thread < threads) (low : q < partitions) (real : HasClass m.version class) (shaped : AreShaped partitions threads m)
+module _ (partitions threads thread q class : ℕ) (m : Player) (below : thread < threads) (low : q < partitions)
+    (real : HasClass m.version class) (shaped : AreShaped partitions threads m)
     (counted : AreCounted partitions threads m) (long : AreLong partitions threads m) where
   abbrev at : ℕ
   at = list_place m.version m.partitions thread q class
@@ -108,21 +110,24 @@ module _ (partitions threads thread q class : ℕ) (m : Player) (below : thread 
 
   given_counted : AreCounted partitions threads after
   given_counted =
-      let bytes : bytes_at m.table list ≡ slot_of class * length list = bytes_alike m.table list (slot_of class) (λ j among. long thread q class j below low real among) in
+      let bytes : bytes_at m.table list ≡ slot_of class * length list =
+      bytes_alike m.table list (slot_of class) (λ j among. long thread q class j below low real among) in
       let e : length (caches m thread q class) ≡ length list = ap length cached_is ∙ length-map list (numbered_at m.table) in
       let f : slot_of class * length (caches m thread q class) ≡ slot_of class * length list = ap (λ k. slot_of class * k) e in
       let g = mul-zero (slot_of class) in
       let a = tallies.0 in
       let b = tallies.1 in
       counted_changed partitions threads thread q class m after [] below (real_in m.version class real) counted given_lists
-      (retallied_set q (length (caches m thread q class)) 0 (slot_of class * length (caches m thread q class)) (slot_of class * 0) m.cached.of
+      (retallied_set q (length (caches m thread q class)) 0 (slot_of class * length (caches m thread q class))
+      (slot_of class * 0) m.cached.of
       (record { slots = (tally_at m.cached.of q).slots - length list; bytes = (tally_at m.cached.of q).bytes - bytes_at m.table list })
       (let c = shaped.cached in let d = shaped.four in omega arith) (omega arith) (omega arith))
 
   given_shaped : AreShaped partitions threads after
   given_shaped =
       let p1 : Player = record m { caches = set m.caches at [] } in
-      let s1 = shaped_listed partitions threads m shaped thread q class [] below low real (λ j among. absurd (not_in_none j among)) (omega arith) in
+      let s1 = shaped_listed partitions threads m shaped thread q class [] below low real (λ j among. absurd (not_in_none j among))
+      (omega arith) in
       let s2 = shaped_cached partitions threads p1 s1 after.cached.of (length-set m.cached.of q _ ∙ shaped.cached) in
       let p2 : Player = record p1 { cached = after.cached } in
       let s3 = shaped_told partitions threads p2 s2 after.told (length-set m.told.journals q _) refl in
@@ -133,7 +138,8 @@ module _ (partitions threads thread q class : ℕ) (m : Player) (below : thread 
     | inl e ↦
         let gone : list_at after t k c ≡ [] = ap (λ z. list_in after z) e ∙ get_or-set_same m.caches at [] [] room in
         absurd (not_in_none i (subst (λ z. Contains z i) gone among))
-    | inr ne ↦ long t k c i below' low' real' (subst (λ z. Contains z i) (get_or-set_other m.caches at (list_place m.version m.partitions t k c) [] [] ne) among)
+    | inr ne ↦ long t k c i below' low' real'
+        (subst (λ z. Contains z i) (get_or-set_other m.caches at (list_place m.version m.partitions t k c) [] [] ne) among)
   ]
 
   pub list_given : IsListGiven partitions threads thread q class m (given q (list_place m.version m.partitions thread q class) 0 m)
@@ -168,21 +174,27 @@ abbrev pub all_gives : (ℕ → List Numbered) → ℕ → ℕ → List RootAct
 all_gives lists class zero = []
 all_gives lists class (suc k) = gives (lists class) ++ all_gives lists (class + 1) k
 
-pub gives_same : (lists others : ℕ → List Numbered) (class k : ℕ) → ((c : ℕ) → class ≤ c → others c ≡ lists c) → all_gives others class k ≡ all_gives lists class k
+pub gives_same : (lists others : ℕ → List Numbered) (class k : ℕ) → ((c : ℕ) → class ≤ c → others c ≡ lists c) →
+    all_gives others class k ≡ all_gives lists class k
 gives_same lists others class zero same = refl
 gives_same lists others class (suc k) same =
-    ap (λ z. gives z ++ all_gives others (class + 1) k) (same class (omega arith)) ∙ ap (λ z. gives (lists class) ++ z) (gives_same lists others (class + 1) k (λ c past. same c (omega arith)))
+    ap (λ z. gives z ++ all_gives others (class + 1) k) (same class (omega arith)) ∙
+    ap (λ z. gives (lists class) ++ z) (gives_same lists others (class + 1) k (λ c past. same c (omega arith)))
 
-pub all_same : (lists others : ℕ → List Numbered) (class k : ℕ) → ((c : ℕ) → class ≤ c → others c ≡ lists c) → all_of others class k ≡ all_of lists class k
+pub all_same : (lists others : ℕ → List Numbered) (class k : ℕ) → ((c : ℕ) → class ≤ c → others c ≡ lists c) →
+    all_of others class k ≡ all_of lists class k
 all_same lists others class zero same = refl
 all_same lists others class (suc k) same =
-    ap (λ z. z ++ all_of others (class + 1) k) (same class (omega arith)) ∙ ap (λ z. lists class ++ z) (all_same lists others (class + 1) k (λ c past. same c (omega arith)))
+    ap (λ z. z ++ all_of others (class + 1) k) (same class (omega arith)) ∙
+    ap (λ z. lists class ++ z) (all_same lists others (class + 1) k (λ c past. same c (omega arith)))
 
 pub gives_purge : (lists : ℕ → List Numbered) (class k : ℕ) → all_gives lists class k ++ Purge ∷ [] ≡ purge_acts lists class k
 gives_purge lists class zero = refl
-gives_purge lists class (suc k) = append_assoc (gives (lists class)) (all_gives lists (class + 1) k) (Purge ∷ []) ∙ ap (λ z. gives (lists class) ++ z) (gives_purge lists (class + 1) k)
+gives_purge lists class (suc k) = append_assoc (gives (lists class)) (all_gives lists (class + 1) k) (Purge ∷ []) ∙
+    ap (λ z. gives (lists class) ++ z) (gives_purge lists (class + 1) k)
 
-pub giving_then : (partitions threads : ℕ) (a b c : Player) → IsGiving partitions threads a b → IsGiving partitions threads b c → IsGiving partitions threads a c
+pub giving_then : (partitions threads : ℕ) (a b c : Player) → IsGiving partitions threads a b → IsGiving partitions threads b c →
+    IsGiving partitions threads a c
 giving_then partitions threads a b c h g = record {
   table = g.table ∙ h.table;
   registers = g.registers ∙ h.registers;

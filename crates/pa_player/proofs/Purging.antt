@@ -19,7 +19,8 @@ same_in_row row total first n class from lt e = omega (arith, from, lt, e)
 
 -- a list that is changed leaves those of later classes
 other_list : (p : Player) (thread q n class : ℕ) (xs : List ℕ) → first_class p.version ≤ n → n < class
-    → list_in (listed (list_place p.version p.partitions thread q n) xs p) (list_place p.version p.partitions thread q class) ≡ list_in p (list_place p.version p.partitions thread q class)
+    → list_in (listed (list_place p.version p.partitions thread q n) xs p) (list_place p.version p.partitions thread q class) ≡ list_in p
+    (list_place p.version p.partitions thread q class)
 other_list p thread q n class xs from lt =
     get_or-set_other p.caches (list_place p.version p.partitions thread q n) (list_place p.version p.partitions thread q class) xs [] (λ e.
     same_in_row (thread * p.partitions + q) (class_total p.version) (first_class p.version) n class from lt (sym e))
@@ -29,8 +30,10 @@ places_listed : (p : Player) (thread q n class m : ℕ) (xs : List ℕ) → firs
 unfolding places_from
 places_listed p thread q n class zero xs from lt = refl
 places_listed p thread q n class (suc m) xs from lt =
-    ap (λ z. z ++ places_from thread q (class + 1) m (listed (list_place p.version p.partitions thread q n) xs p)) (other_list p thread q n class xs from lt)
-    ∙ ap (λ z. list_in p (list_place p.version p.partitions thread q class) ++ z) (places_listed p thread q n (class + 1) m xs from (omega arith))
+    ap (λ z. z ++ places_from thread q (class + 1) m (listed (list_place p.version p.partitions thread q n) xs p))
+    (other_list p thread q n class xs from lt)
+    ∙ ap (λ z. list_in p (list_place p.version p.partitions thread q class) ++ z)
+    (places_listed p thread q n (class + 1) m xs from (omega arith))
 
 -- what goes back has nothing to do with lists
 can_listed : (q at : ℕ) (xs ys : List ℕ) (p : Player) → CanGive q ys p → CanGive q ys (listed at xs p)
@@ -51,7 +54,8 @@ can_listed q at xs ys p h = record {
 pub given_version : (thread q class n : ℕ) (p : Player) → (given_from thread q class n p).version ≡ p.version
 unfolding given_from
 given_version thread q class zero p = refl
-given_version thread q class (suc n) p = given_version thread q (class + 1) n (given q (list_place p.version p.partitions thread q class) 0 p)
+given_version thread q class (suc n) p =
+    given_version thread q (class + 1) n (given q (list_place p.version p.partitions thread q class) 0 p)
 
 -- as many slots as the lists have
 pub listed_places : (p : Player) (thread q class n : ℕ) → q < p.partitions → first_class p.version ≤ class
@@ -60,7 +64,8 @@ unfolding places_from listed_slots
 listed_places p thread q class zero among from fits = refl
 listed_places p thread q class (suc n) among from fits =
     let xs = list_in p (list_place p.version p.partitions thread q class) in
-    let here : length (caches p thread q class) ≡ length xs = ap length (list_by_place p thread q class among (from, omega arith)) ∙ length-map xs (numbered_at p.table) in
+    let here : length (caches p thread q class) ≡ length xs = ap length (list_by_place p thread q class among (from, omega arith)) ∙
+    length-map xs (numbered_at p.table) in
     let ih = listed_places p thread q (class + 1) n among (omega arith) (omega arith) in
     let e = length-append xs (places_from thread q (class + 1) n p) in
     omega arith
@@ -72,11 +77,14 @@ all_places p thread q among =
     listed_places p thread q (first_class p.version) (class_total p.version) among (omega arith) (omega arith)
 
 -- one class and the rest
-places_suc : (thread q class n : ℕ) (p : Player) → places_from thread q class (suc n) p ≡ list_in p (list_place p.version p.partitions thread q class) ++ places_from thread q (class + 1) n p
+places_suc : (thread q class n : ℕ) (p : Player) →
+    places_from thread q class (suc n) p ≡ list_in p (list_place p.version p.partitions thread q class) ++
+    places_from thread q (class + 1) n p
 unfolding places_from
 places_suc thread q class n p = refl
 
-given_suc : (thread q class n : ℕ) (p : Player) → given_from thread q class (suc n) p ≡ given_from thread q (class + 1) n (given q (list_place p.version p.partitions thread q class) 0 p)
+given_suc : (thread q class n : ℕ) (p : Player) →
+    given_from thread q class (suc n) p ≡ given_from thread q (class + 1) n (given q (list_place p.version p.partitions thread q class) 0 p)
 unfolding given_from
 given_suc thread q class n p = refl
 
@@ -89,15 +97,18 @@ pub record IsGivenTo (thread q n : ℕ) (p s : Player) (slots : ℕ) : Type 0 wh
   pub version : s.version ≡ p.version
   pub many : s.partitions ≡ p.partitions
   pub from : first_class p.version ≤ n
-  pub lists : (class : ℕ) → n ≤ class → list_in s (list_place p.version p.partitions thread q class) ≡ list_in p (list_place p.version p.partitions thread q class)
+  pub lists : (class : ℕ) → n ≤ class →
+      list_in s (list_place p.version p.partitions thread q class) ≡ list_in p (list_place p.version p.partitions thread q class)
   pub rest : given_from thread q n (past_class p.version - n) s ≡ given_all thread q p
   pub can : CanGive q (places_from thread q n (past_class p.version - n) s) s
-  pub count : slots + listed_slots (caches p thread q) n (past_class p.version - n) ≡ listed_slots (caches p thread q) (first_class p.version) (class_total p.version)
+  pub count : slots + listed_slots (caches p thread q) n (past_class p.version - n) ≡ listed_slots (caches p thread q)
+      (first_class p.version) (class_total p.version)
   pub listed : length s.caches ≡ length p.caches
   pub tally : q < length s.cached.of
   pub few : listed_slots (caches p thread q) (first_class p.version) (class_total p.version) < 2 ^ 28
 
-pub purge_start : (thread q : ℕ) (p : Player) → q < p.partitions → CanGive q (places_all thread q p) p → q < length p.cached.of → IsGivenTo thread q (first_class p.version) p p 0
+pub purge_start : (thread q : ℕ) (p : Player) → q < p.partitions → CanGive q (places_all thread q p) p → q < length p.cached.of →
+    IsGivenTo thread q (first_class p.version) p p 0
 purge_start thread q p among can tally = record {
   version = refl;
   many = refl;
@@ -115,13 +126,18 @@ classes_left : (past n : ℕ) → n < past → past - n ≡ suc (past - (n + 1))
 classes_left past n lt = omega arith
 
 -- the next list may go back
-pub class_ready : (thread q n : ℕ) (p s : Player) (slots : ℕ) → IsGivenTo thread q n p s slots → n < past_class p.version → CanGive q (list_in s (list_place s.version s.partitions thread q n)) s
+pub class_ready : (thread q n : ℕ) (p s : Player) (slots : ℕ) → IsGivenTo thread q n p s slots → n < past_class p.version →
+    CanGive q (list_in s (list_place s.version s.partitions thread q n)) s
 class_ready thread q n p s slots h lt =
-    can_front q (list_in s (list_place s.version s.partitions thread q n)) (places_from thread q (n + 1) (past_class p.version - (n + 1)) s) s
-    (subst (λ z. CanGive q z s) (ap (λ m. places_from thread q n m s) (classes_left (past_class p.version) n lt) ∙ places_suc thread q n (past_class p.version - (n + 1)) s) h.can)
+    can_front q (list_in s (list_place s.version s.partitions thread q n))
+    (places_from thread q (n + 1) (past_class p.version - (n + 1)) s) s
+    (subst (λ z. CanGive q z s) (ap (λ m. places_from thread q n m s) (classes_left (past_class p.version) n lt) ∙
+    places_suc thread q n (past_class p.version - (n + 1)) s) h.can)
 
-pub purge_more : (thread q n : ℕ) (p s r : Player) (slots : ℕ) → IsGivenTo thread q n p s slots → n < past_class p.version → q < p.partitions
-    → r ≡ given q (list_place s.version s.partitions thread q n) 0 s → IsGivenTo thread q (n + 1) p r (slots + length (list_in s (list_place s.version s.partitions thread q n)))
+pub purge_more : (thread q n : ℕ) (p s r : Player) (slots : ℕ) → IsGivenTo thread q n p s slots → n < past_class p.version →
+    q < p.partitions
+    → r ≡ given q (list_place s.version s.partitions thread q n) 0 s →
+    IsGivenTo thread q (n + 1) p r (slots + length (list_in s (list_place s.version s.partitions thread q n)))
 unfolding listed_slots
 purge_more thread q n p s r slots h lt among is =
     let at = list_place s.version s.partitions thread q n in
@@ -131,24 +147,31 @@ purge_more thread q n p s r slots h lt among is =
     let t = gave_back q xs s in
     let u = listed at [] t in
     let left = classes_left (past_class p.version) n lt in
-    let can : CanGive q (xs ++ ys) s = subst (λ z. CanGive q z s) (ap (λ k. places_from thread q n k s) left ∙ places_suc thread q n m s) h.can in
-    let rest : given_from thread q (n + 1) m u ≡ given_all thread q p = sym (ap (λ k. given_from thread q n k s) left ∙ given_suc thread q n m s) ∙ h.rest in
+    let can : CanGive q (xs ++ ys) s =
+    subst (λ z. CanGive q z s) (ap (λ k. places_from thread q n k s) left ∙ places_suc thread q n m s) h.can in
+    let rest : given_from thread q (n + 1) m u ≡ given_all thread q p =
+    sym (ap (λ k. given_from thread q n k s) left ∙ given_suc thread q n m s) ∙ h.rest in
     let first : first_class s.version ≤ n = subst (λ v. first_class v ≤ n) (sym h.version) h.from in
     let past : n + 1 + m ≤ past_class s.version = subst (λ v. n + 1 + m ≤ past_class v) (sym h.version) (omega arith) in
     let same : places_from thread q (n + 1) m u ≡ ys =
-    places_listed t thread q n (n + 1) m [] first (omega arith) ∙ places_same thread q (n + 1) m s t refl refl (λ c few. refl) (omega arith) past in
-    let here : caches p thread q n ≡ map (numbered_at p.table) (list_in p (list_place p.version p.partitions thread q n)) = list_by_place p thread q n among (h.from, lt) in
+    places_listed t thread q n (n + 1) m [] first (omega arith) ∙
+    places_same thread q (n + 1) m s t refl refl (λ c few. refl) (omega arith) past in
+    let here : caches p thread q n ≡ map (numbered_at p.table) (list_in p (list_place p.version p.partitions thread q n)) =
+    list_by_place p thread q n among (h.from, lt) in
     let size : length (caches p thread q n) ≡ length xs =
-    ap length here ∙ length-map (list_in p (list_place p.version p.partitions thread q n)) (numbered_at p.table) ∙ ap length (sym (h.lists n (omega arith)))
+    ap length here ∙ length-map (list_in p (list_place p.version p.partitions thread q n)) (numbered_at p.table) ∙
+    ap length (sym (h.lists n (omega arith)))
     ∙ ap₂ (λ v k. length (list_in s (list_place v k thread q n))) (sym h.version) (sym h.many) in
-    let count : slots + (length (caches p thread q n) + listed_slots (caches p thread q) (n + 1) m) ≡ listed_slots (caches p thread q) (first_class p.version) (class_total p.version) =
+    let count : slots + (length (caches p thread q n) + listed_slots (caches p thread q) (n + 1) m) ≡ listed_slots (caches p thread q)
+    (first_class p.version) (class_total p.version) =
     sym (ap (λ k. slots + listed_slots (caches p thread q) n k) left) ∙ h.count in
     let next : IsGivenTo thread q (n + 1) p u (slots + length xs) = record {
       version = h.version;
       many = h.many;
       from = let low = h.from in omega arith;
       lists = λ class le.
-          ap₂ (λ v k. list_in u (list_place v k thread q class)) (sym h.version) (sym h.many) ∙ other_list s thread q n class [] first (omega arith)
+          ap₂ (λ v k. list_in u (list_place v k thread q class)) (sym h.version) (sym h.many) ∙
+          other_list s thread q n class [] first (omega arith)
           ∙ ap₂ (λ v k. list_in s (list_place v k thread q class)) h.version h.many ∙ h.lists class (omega arith);
       rest = rest;
       can = subst (λ z. CanGive q z u) (sym same) (can_listed q at [] ys t (can_rest q xs ys s h.tally can));
@@ -164,9 +187,11 @@ pub class_few : (thread q n : ℕ) (p s : Player) (slots : ℕ) → IsGivenTo th
     → slots + length (list_in s (list_place s.version s.partitions thread q n)) < 2 ^ 28
 unfolding listed_slots
 class_few thread q n p s slots h lt among =
-    let here : caches p thread q n ≡ map (numbered_at p.table) (list_in p (list_place p.version p.partitions thread q n)) = list_by_place p thread q n among (h.from, lt) in
+    let here : caches p thread q n ≡ map (numbered_at p.table) (list_in p (list_place p.version p.partitions thread q n)) =
+    list_by_place p thread q n among (h.from, lt) in
     let size : length (caches p thread q n) ≡ length (list_in s (list_place s.version s.partitions thread q n)) =
-    ap length here ∙ length-map (list_in p (list_place p.version p.partitions thread q n)) (numbered_at p.table) ∙ ap length (sym (h.lists n (omega arith)))
+    ap length here ∙ length-map (list_in p (list_place p.version p.partitions thread q n)) (numbered_at p.table) ∙
+    ap length (sym (h.lists n (omega arith)))
     ∙ ap₂ (λ v k. length (list_in s (list_place v k thread q n))) (sym h.version) (sym h.many) in
     let count : slots + (length (caches p thread q n) + listed_slots (caches p thread q) (n + 1) (past_class p.version - (n + 1))) ≡
     listed_slots (caches p thread q) (first_class p.version) (class_total p.version) =
@@ -189,21 +214,27 @@ purge_end thread q n p s slots h e =
 given_empty : (q at : ℕ) (s : Player) → list_in s at ≡ [] → s ≡ given q at 0 s
 given_empty q at s empty =
     let none : set s.caches at [] ≡ s.caches = ap (set s.caches at) (sym empty) ∙ set-get_or s.caches at [] in
-    sym (ap (λ xs. listed at [] (gave_back q xs s)) empty ∙ ap (listed at []) (gave_none q s) ∙ ap (λ (z : List (List ℕ)). record s { caches = z }) none)
+    sym (ap (λ xs. listed at [] (gave_back q xs s)) empty ∙ ap (listed at []) (gave_none q s) ∙
+    ap (λ (z : List (List ℕ)). record s { caches = z }) none)
 
 -- the lists of the next d classes are empty
-past_empty : (thread q n d : ℕ) (p s : Player) (slots : ℕ) → IsGivenTo thread q n p s slots → n + d ≤ past_class p.version → q < p.partitions
-    → ((class : ℕ) → n ≤ class → class < n + d → list_in s (list_place s.version s.partitions thread q class) ≡ []) → IsGivenTo thread q (n + d) p s slots
-past_empty thread q n zero p s slots h within among empty = let e : n ≡ n + 0 = omega arith in subst (λ k. IsGivenTo thread q k p s slots) e h
+past_empty : (thread q n d : ℕ) (p s : Player) (slots : ℕ) → IsGivenTo thread q n p s slots → n + d ≤ past_class p.version →
+    q < p.partitions
+    → ((class : ℕ) → n ≤ class → class < n + d → list_in s (list_place s.version s.partitions thread q class) ≡ []) →
+    IsGivenTo thread q (n + d) p s slots
+past_empty thread q n zero p s slots h within among empty = let e : n ≡ n + 0 = omega arith in
+    subst (λ k. IsGivenTo thread q k p s slots) e h
 past_empty thread q n (suc d) p s slots h within among empty =
     let at = list_place s.version s.partitions thread q n in
     let none = empty n (omega arith) (omega arith) in
     let count : slots + length (list_in s at) ≡ slots = omega (arith, ap length none) in
     let next : IsGivenTo thread q (n + 1) p s slots =
-    subst (IsGivenTo thread q (n + 1) p s) count (purge_more thread q n p s s slots h (omega (arith, within)) among (given_empty q at s none)) in
+    subst (IsGivenTo thread q (n + 1) p s) count
+    (purge_more thread q n p s s slots h (omega (arith, within)) among (given_empty q at s none)) in
     let e : n + 1 + d ≡ n + suc d = omega arith in
     subst (λ k. IsGivenTo thread q k p s slots) e
-    (past_empty thread q (n + 1) d p s slots next (omega (arith, within)) among (λ class from to. empty class (omega (arith, from)) (omega (arith, to))))
+    (past_empty thread q (n + 1) d p s slots next (omega (arith, within)) among
+    (λ class from to. empty class (omega (arith, from)) (omega (arith, to))))
 
 -- The lists from the thread's first to before the one at an index went back, which had that many slots.
 pub record AreGivenTo (thread q start at : ℕ) (p s : Player) (slots : ℕ) : Type 0 where
@@ -213,7 +244,8 @@ pub record AreGivenTo (thread q start at : ℕ) (p s : Player) (slots : ℕ) : T
   pub classes : IsGivenTo thread q (first_class p.version + (at - start)) p s slots
 
 -- a list of a row is at the place of its class
-place_of : (row total first start at : ℕ) → start ≡ row * total + (first - first) → start ≤ at → at ≡ row * total + (first + (at - start) - first)
+place_of : (row total first start at : ℕ) → start ≡ row * total + (first - first) → start ≤ at →
+    at ≡ row * total + (first + (at - start) - first)
 place_of row total first start at is from = omega (arith, is, from)
 
 place_given : {thread q start at : ℕ} {p s : Player} {slots : ℕ} (k : ℕ) → AreGivenTo thread q start at p s slots → start ≤ k
@@ -222,7 +254,8 @@ place_given {thread} {q} {start} {at} {p} k h from =
     place_of (thread * p.partitions + q) (class_total p.version) (first_class p.version) start k h.first from
     ∙ ap₂ (λ v m. list_place v m thread q (first_class p.version + (k - start))) (sym h.classes.version) (sym h.classes.many)
 
-class_before : {thread q start at : ℕ} {p s : Player} {slots : ℕ} → AreGivenTo thread q start at p s slots → at < start + class_total p.version
+class_before : {thread q start at : ℕ} {p s : Player} {slots : ℕ} → AreGivenTo thread q start at p s slots →
+    at < start + class_total p.version
     → first_class p.version + (at - start) < past_class p.version
 class_before {p = p} h more = omega (arith, h.from, more, class_end p.version)
 
@@ -231,11 +264,14 @@ pub lists_among : {thread q start at : ℕ} {p s : Player} {slots : ℕ} → Are
     → at < start + class_total p.version → start + class_total p.version ≤ length p.caches
 lists_among {thread} {q} {start} {at} {p} h can more =
     let last : ℕ = start + class_total p.version - 1 in
-    let real : HasClass p.version (first_class p.version + (last - start)) = (omega arith, omega (arith, h.from, more, class_end p.version)) in
-    let place = place_of (thread * p.partitions + q) (class_total p.version) (first_class p.version) start last h.first (omega (arith, h.from, more)) in
+    let real : HasClass p.version (first_class p.version + (last - start)) =
+    (omega arith, omega (arith, h.from, more, class_end p.version)) in
+    let place = place_of (thread * p.partitions + q) (class_total p.version) (first_class p.version) start last h.first
+    (omega (arith, h.from, more)) in
     omega (arith, h.from, more, place, can.lists (first_class p.version + (last - start)) real)
 
-pub lists_start : (thread q start : ℕ) (p : Player) → start ≡ list_place p.version p.partitions thread q (first_class p.version) → CanPurgeOne thread q p
+pub lists_start : (thread q start : ℕ) (p : Player) → start ≡ list_place p.version p.partitions thread q (first_class p.version) →
+    CanPurgeOne thread q p
     → q < length p.cached.of → AreGivenTo thread q start start p p 0
 lists_start thread q start p is can tally = record {
   first = is;
@@ -245,14 +281,17 @@ lists_start thread q start p is can tally = record {
 }
 
 -- the lists up to another are empty
-pub lists_past : {thread q start at : ℕ} {p s : Player} {slots : ℕ} (next : ℕ) → AreGivenTo thread q start at p s slots → CanPurgeOne thread q p
-    → at ≤ next → next ≤ start + class_total p.version → ((k : ℕ) → at ≤ k → k < next → list_in s k ≡ []) → AreGivenTo thread q start next p s slots
+pub lists_past : {thread q start at : ℕ} {p s : Player} {slots : ℕ} (next : ℕ) → AreGivenTo thread q start at p s slots →
+    CanPurgeOne thread q p
+    → at ≤ next → next ≤ start + class_total p.version → ((k : ℕ) → at ≤ k → k < next → list_in s k ≡ []) →
+    AreGivenTo thread q start next p s slots
 lists_past {thread} {q} {start} {at} {p} {s} {slots} next h can from to empty = record {
   first = h.first;
   from = omega (arith, h.from, from);
   to = to;
   classes = subst (λ n. IsGivenTo thread q n p s slots) (omega (arith, h.from, from))
-      (past_empty thread q (first_class p.version + (at - start)) (next - at) p s slots h.classes (omega (arith, h.from, from, to, class_end p.version)) can.among none);
+      (past_empty thread q (first_class p.version + (at - start)) (next - at) p s slots h.classes
+      (omega (arith, h.from, from, to, class_end p.version)) can.among none);
 }
   where
     none : (class : ℕ) → first_class p.version + (at - start) ≤ class → class < first_class p.version + (at - start) + (next - at)
@@ -264,20 +303,23 @@ lists_past {thread} {q} {start} {at} {p} {s} {slots} next h can from to empty = 
         ∙ empty k (omega (arith, h.from, low)) (omega (arith, h.from, low, high))
 
 -- the list at an index may go back
-pub list_ready : {thread q start at : ℕ} {p s : Player} {slots : ℕ} → AreGivenTo thread q start at p s slots → at < start + class_total p.version → CanGive q (list_in s at) s
+pub list_ready : {thread q start at : ℕ} {p s : Player} {slots : ℕ} → AreGivenTo thread q start at p s slots →
+    at < start + class_total p.version → CanGive q (list_in s at) s
 list_ready {thread} {q} {start} {at} {p} {s} {slots} h more =
     subst (λ k. CanGive q (list_in s k) s) (sym (place_given at h h.from))
     (class_ready thread q (first_class p.version + (at - start)) p s slots h.classes (class_before h more))
 
 -- few slots go back
-pub list_few : {thread q start at : ℕ} {p s : Player} {slots : ℕ} → AreGivenTo thread q start at p s slots → CanPurgeOne thread q p → at < start + class_total p.version
+pub list_few : {thread q start at : ℕ} {p s : Player} {slots : ℕ} → AreGivenTo thread q start at p s slots → CanPurgeOne thread q p →
+    at < start + class_total p.version
     → slots + length (list_in s at) < 2 ^ 28
 list_few {thread} {q} {start} {at} {p} {s} {slots} h can more =
     subst (λ k. slots + length (list_in s k) < 2 ^ 28) (sym (place_given at h h.from))
     (class_few thread q (first_class p.version + (at - start)) p s slots h.classes (class_before h more) can.among)
 
 -- it went back
-pub lists_more : {thread q start at : ℕ} {p s : Player} {slots : ℕ} (r : Player) → AreGivenTo thread q start at p s slots → CanPurgeOne thread q p
+pub lists_more : {thread q start at : ℕ} {p s : Player} {slots : ℕ} (r : Player) → AreGivenTo thread q start at p s slots →
+    CanPurgeOne thread q p
     → at < start + class_total p.version → r ≡ given q at 0 s → AreGivenTo thread q start (at + 1) p r (slots + length (list_in s at))
 lists_more {thread} {q} {start} {at} {p} {s} {slots} r h can more is =
     let n = first_class p.version + (at - start) in
@@ -293,7 +335,8 @@ lists_more {thread} {q} {start} {at} {p} {s} {slots} r h can more is =
     }
 
 -- all lists went back
-pub lists_end : {thread q start at : ℕ} {p s : Player} {slots : ℕ} → AreGivenTo thread q start at p s slots → start + class_total p.version ≤ at
+pub lists_end : {thread q start at : ℕ} {p s : Player} {slots : ℕ} → AreGivenTo thread q start at p s slots →
+    start + class_total p.version ≤ at
     → (s ≡ given_all thread q p) × (slots ≡ listed_slots (caches p thread q) (first_class p.version) (class_total p.version))
 lists_end {thread} {q} {start} {at} {p} {s} {slots} h end =
     purge_end thread q (first_class p.version + (at - start)) p s slots h.classes (omega (arith, h.from, h.to, end, class_end p.version))
@@ -310,11 +353,14 @@ given_can thread q class (suc n) p tally from fits can =
     let t = gave_back q xs p in
     let u = listed at [] t in
     let same : places_from thread q (class + 1) n u ≡ ys =
-    places_listed t thread q class (class + 1) n [] from (omega arith) ∙ places_same thread q (class + 1) n p t refl refl (λ c few. refl) (omega arith) (omega arith) in
-    let next : CanGive q (places_from thread q (class + 1) n u) u = subst (λ z. CanGive q z u) (sym same) (can_listed q at [] ys t (can_rest q xs ys p tally can)) in
+    places_listed t thread q class (class + 1) n [] from (omega arith) ∙
+    places_same thread q (class + 1) n p t refl refl (λ c few. refl) (omega arith) (omega arith) in
+    let next : CanGive q (places_from thread q (class + 1) n u) u =
+    subst (λ z. CanGive q z u) (sym same) (can_listed q at [] ys t (can_rest q xs ys p tally can)) in
     given_can thread q (class + 1) n u (gave_tally q xs p tally) (omega arith) (omega arith) next
 
-pub given_all_can : (thread q : ℕ) (p : Player) → q < length p.cached.of → CanGive q (places_all thread q p) p → CanGive q [] (given_all thread q p)
+pub given_all_can : (thread q : ℕ) (p : Player) → q < length p.cached.of → CanGive q (places_all thread q p) p →
+    CanGive q [] (given_all thread q p)
 given_all_can thread q p tally can =
     let end = class_end p.version in
     given_can thread q (first_class p.version) (class_total p.version) p tally (omega arith) (omega arith) can

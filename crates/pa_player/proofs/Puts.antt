@@ -13,7 +13,8 @@ use Rattle.pa_lists.proofs.Members.{not_in_none, first_in, later_in, in_cases}
 use Rattle.pa_player.specs.declared.table.Slot.{Slot}
 use Rattle.pa_player.specs.Player.{Player}
 use Rattle.pa_player.specs.Tables.{no_slot, named_at, new_slot, AreNamed, IsHome}
-use Rattle.pa_player.specs.Tallies.{no_tally, tally_at}
+use Rattle.pa_rules.specs.Lists.{no_tally}
+use Rattle.pa_player.specs.Tallies.{tally_at}
 use Rattle.pa_player.specs.Playing.{numbered_at}
 use Rattle.pa_player.specs.Changes.{cached_more, listed, list_in, ArePut}
 use Rattle.pa_player.proofs.Slots.{named_home, home_place}
@@ -47,9 +48,11 @@ numbered_more slots news i low = ap (λ (z : Slot). numbered_at (z ∷ []) 0) (g
 home_news : (before after : List Slot) (new : Slot) (place : ℕ) → IsHome before after new place → (news : List Slot)
     × (after ≡ before ++ news) × (length news ≤ 1) × ((x : Slot) → Contains news x → x ≡ new)
 home_news before after new place (inl h) = ([], h.0 ∙ sym (append-nil before), omega arith, λ x among. absurd (not_in_none x among))
-home_news before after new place (inr h) = (new ∷ [], h.0, omega arith, λ x among. elim (in_cases new x [] among) [ inl e ↦ sym e | inr none ↦ absurd (not_in_none x none) ])
+home_news before after new place (inr h) =
+    (new ∷ [], h.0, omega arith, λ x among. elim (in_cases new x [] among) [ inl e ↦ sym e | inr none ↦ absurd (not_in_none x none) ])
 
-pub put_in : (q at class len : ℕ) (ts : List Title) (m r : Player) (xs : List Numbered) → at < length m.caches → q < length m.cached.of → AreNamed m.table
+pub put_in : (q at class len : ℕ) (ts : List Title) (m r : Player) (xs : List Numbered) → at < length m.caches → q < length m.cached.of →
+    AreNamed m.table
     → ((t : Title) → Contains ts t → t.len ≡ len) → ArePut q at class ts m r xs → IsPutIn q at class len ts m r xs
 put_in q at class len [] m r xs room low named long (is, none) = record {
   news = [];
@@ -77,7 +80,8 @@ put_in q at class len (t ∷ ts) m r xs room low named long (after, place, rest,
     let d = length-set m.cached.of q more in
     let first = home_news m.table after new place home in
     let there = home_place m.table after new place home in
-    let p = put_in q at class len ts m1 r rest (omega arith) (omega arith) (named_home m.table after new place named home) (λ u among. long u (later_in t u ts among)) puts in
+    let p = put_in q at class len ts m1 r rest (omega arith) (omega arith) (named_home m.table after new place named home)
+    (λ u among. long u (later_in t u ts among)) puts in
     let all : after ++ p.news ≡ m.table ++ (first.0 ++ p.news) = ap (λ z. z ++ p.news) first.1 ∙ append_assoc m.table first.0 p.news in
     let inner : list_in m1 at ≡ list = get_or-set_same m.caches at list [] room in
     let lists_are : p.lists ≡ set m.caches at (list_in m at ++ place ∷ p.places) =
@@ -97,7 +101,8 @@ put_in q at class len (t ∷ ts) m r xs room low named long (after, place, rest,
       few = let a = p.few in let b = first.2 in let e = length-append first.0 p.news in omega arith;
       apart = subst AreNamed all p.apart;
       numbers =
-          is ∙ ap (λ ys. numbered_at after place ∷ ys) p.numbers ∙ ap (λ y. y ∷ map (numbered_at (after ++ p.news)) p.places) (sym (numbered_more after p.news place there.0))
+          is ∙ ap (λ ys. numbered_at after place ∷ ys) p.numbers ∙
+          ap (λ y. y ∷ map (numbered_at (after ++ p.news)) p.places) (sym (numbered_more after p.news place there.0))
           ∙ ap (λ zs. map (numbered_at zs) (place ∷ p.places)) all;
       named = ap (λ y. y ∷ map name_of ts) (sym there.1) ∙ ap (λ ys. named_at after place ∷ ys) p.named ∙ sym (ap names is);
       low = λ i among. elim (in_cases place i p.places among) [
@@ -112,11 +117,13 @@ put_in q at class len (t ∷ ts) m r xs room low named long (after, place, rest,
       retallied = record {
         slots =
             let a = p.retallied.slots in
-            let b : (tally_at (set m.cached.of q more) q).slots ≡ (tally_at m.cached.of q).slots + 1 = ap (λ (z : Tally). z.slots) tally_one in
+            let b : (tally_at (set m.cached.of q more) q).slots ≡ (tally_at m.cached.of q).slots + 1 =
+            ap (λ (z : Tally). z.slots) tally_one in
             omega arith;
         bytes =
             let a = p.retallied.bytes in
-            let b : (tally_at (set m.cached.of q more) q).bytes ≡ (tally_at m.cached.of q).bytes + t.len = ap (λ (z : Tally). z.bytes) tally_one in
+            let b : (tally_at (set m.cached.of q more) q).bytes ≡ (tally_at m.cached.of q).bytes + t.len =
+            ap (λ (z : Tally). z.bytes) tally_one in
             let e = long t (first_in t ts) in
             let f = mul-suc len (length ts) in
             omega arith;

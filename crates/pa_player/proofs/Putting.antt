@@ -12,7 +12,8 @@ use Rattle.pa_player.specs.declared.tallies.Tallies.{Tallies}
 use Rattle.pa_player.specs.Changes.{ArePut, cached_more, listed, list_in, tallied_more}
 use Rattle.pa_player.specs.Playing.{numbered_at}
 use Rattle.pa_player.specs.Tables.{new_slot, IsHome}
-use Rattle.pa_player.specs.Tallies.{tally_at, no_tally}
+use Rattle.pa_rules.specs.Lists.{no_tally}
+use Rattle.pa_player.specs.Tallies.{tally_at}
 
 -- The first i titles were put, which gave these numbers: with the rest put, all are.
 pub record IsPutSo (q at class : ℕ) (all : List Title) (i : ℕ) (p s : Player) (batch : List Numbered) : Type 0 where
@@ -34,8 +35,10 @@ home_few : (before after : List Slot) (x : Slot) (place : ℕ) → IsHome before
 home_few before after x place (inl (same, low, named)) = omega (arith, ap length same)
 home_few before after x place (inr (more, at_end, none)) = omega (arith, ap length more, length_push before x)
 
-pub put_more : (q at class : ℕ) (all : List Title) (i : ℕ) (p s : Player) (batch : List Numbered) (t : Title) (after : List Slot) (place : ℕ) →
-    IsPutSo q at class all i p s batch → drop i all ≡ t ∷ drop (i + 1) all → t.len < 4294967296 → IsHome s.table after (new_slot t q (Some class)) place →
+pub put_more : (q at class : ℕ) (all : List Title) (i : ℕ) (p s : Player) (batch : List Numbered) (t : Title) (after : List Slot)
+    (place : ℕ) →
+    IsPutSo q at class all i p s batch → drop i all ≡ t ∷ drop (i + 1) all → t.len < 4294967296 →
+    IsHome s.table after (new_slot t q (Some class)) place →
     IsPutSo q at class all (i + 1) p (put_one q at t after place s) (batch ++ numbered_at after place ∷ [])
 put_more q at class all i p s batch t after place h e len home =
     let u = tally_at s.cached.of q in
@@ -53,7 +56,8 @@ put_more q at class all i p s batch t after place h e len home =
       goes_on = λ r xs rest.
           let whole : ArePut q at class (drop i all) s r (numbered_at after place ∷ xs) =
           subst (λ z. ArePut q at class z s r (numbered_at after place ∷ xs)) (sym e) (after, place, xs, home, refl, rest) in
-          subst (ArePut q at class all p r) (sym (append_assoc batch (numbered_at after place ∷ []) xs)) (h.goes_on r (numbered_at after place ∷ xs) whole);
+          subst (ArePut q at class all p r) (sym (append_assoc batch (numbered_at after place ∷ []) xs))
+          (h.goes_on r (numbered_at after place ∷ xs) whole);
       count = let k = h.count in omega arith;
       at_list = let k = h.at_list in omega arith;
       list = let k = h.list in omega arith;
@@ -64,20 +68,25 @@ put_more q at class all i p s batch t after place h e len home =
       bytes = let k = h.bytes in omega arith;
     }
 
-pub put_end : (q at class : ℕ) (all : List Title) (n : ℕ) (p s : Player) (batch : List Numbered) → n ≡ length all → IsPutSo q at class all n p s batch →
+pub put_end : (q at class : ℕ) (all : List Title) (n : ℕ) (p s : Player) (batch : List Numbered) → n ≡ length all →
+    IsPutSo q at class all n p s batch →
     ArePut q at class all p s batch
 put_end q at class all n p s batch e h =
     let none : drop n all ≡ [] = ap (λ z. drop z all) e ∙ drop-length all in
     subst (ArePut q at class all p s) (append-nil batch) (h.goes_on s [] (subst (λ z. ArePut q at class z s s []) (sym none) (refl, refl)))
 
 -- the player after one slot more
-pub put_is : (q at place : ℕ) (t : Title) (after : List Slot) (s : Player) (lists : List (List ℕ)) (cached : Tallies) → lists ≡ set s.caches at (list_in s at ++ place ∷ [])
-    → cached.of ≡ tallied_more q 1 t.len s.cached.of → record s { table = after; caches = lists; cached = cached } ≡ put_one q at t after place s
+pub put_is : (q at place : ℕ) (t : Title) (after : List Slot) (s : Player) (lists : List (List ℕ)) (cached : Tallies) →
+    lists ≡ set s.caches at (list_in s at ++ place ∷ [])
+    → cached.of ≡ tallied_more q 1 t.len s.cached.of →
+    record s { table = after; caches = lists; cached = cached } ≡ put_one q at t after place s
 put_is q at place t after s lists cached a b =
     ap (λ (z : List (List ℕ)). record s { table = after; caches = z; cached = cached }) a
-    ∙ ap (λ (z : List Tally). record s { table = after; caches = set s.caches at (list_in s at ++ place ∷ []); cached = record { of = z } }) b
+    ∙ ap (λ (z : List Tally). record s { table = after; caches = set s.caches at (list_in s at ++ place ∷ []); cached = record { of = z } })
+    b
 
-pub numbered_is : (slots : List Slot) (i : ℕ) (n : Numbered) → n.slot ≡ (numbered_at slots i).slot → n.number ≡ (numbered_at slots i).number → n ≡ numbered_at slots i
+pub numbered_is : (slots : List Slot) (i : ℕ) (n : Numbered) → n.slot ≡ (numbered_at slots i).slot →
+    n.number ≡ (numbered_at slots i).number → n ≡ numbered_at slots i
 numbered_is slots i n a b =
     let f : SlotName → ℕ → Numbered = λ s k. record { slot = s; number = k } in
     ap (λ s. f s n.number) a ∙ ap (f (numbered_at slots i).slot) b

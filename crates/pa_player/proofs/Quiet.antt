@@ -61,10 +61,12 @@ pub record IsStill (p q : Player) : Type 0 where
   pub histories : (k : ℕ) → IsOneMore (history_in p.told k) (history_in q.told k)
 
 -- What an op without an act has to show.
-pub record IsQuiet (region partitions threads : ℕ) (ls : List Line) (p q : Player) (h : IsPlaying region partitions threads ls p) (thread : ℕ) (op : Op) (answer : Answer) : Type 0 where
+pub record IsQuiet (region partitions threads : ℕ) (ls : List Line) (p q : Player) (h : IsPlaying region partitions threads ls p)
+    (thread : ℕ) (op : Op) (answer : Answer) : Type 0 where
   pub next : Cache
   pub after : Shown
-  pub done : IsDone region partitions (length ls + 2) (played_at after.rules ls thread op answer) p.told.pools [] (journals p) no_acts (caches p thread) next
+  pub done : IsDone region partitions (length ls + 2) (played_at after.rules ls thread op answer) p.told.pools [] (journals p) no_acts
+      (caches p thread) next
   pub turn : LeadsTo threads ls h.ps thread op answer after
   pub like : IsLike after (shown q)
   pub lists : (t k class : ℕ) → caches q t k class ≡ with_cache (caches p) thread next t k class
@@ -76,13 +78,16 @@ pub record IsQuiet (region partitions threads : ℕ) (ls : List Line) (p q : Pla
   pub marked : (m : Mark) → mark_of (played_at after.rules ls thread op answer) ≡ Some m → (i : ℕ) × IsPlaceOf q.table m.slot i
   pub counts : CountsMore partitions threads p q (mark_of (played_at after.rules ls thread op answer))
 
-module _ (region partitions threads : ℕ) (ls : List Line) (p q : Player) (h : IsPlaying region partitions threads ls p) (thread : ℕ) (op : Op) (answer : Answer)
+module _ (region partitions threads : ℕ) (ls : List Line) (p q : Player) (h : IsPlaying region partitions threads ls p) (thread : ℕ)
+    (op : Op) (answer : Answer)
     (m : IsQuiet region partitions threads ls p q h thread op answer) where
   -- without entries and acts all is as it was
-  no_more : (P : List PoolEntry → Journals → Type 0) → P p.told.pools (journals p) → P (p.told.pools ++ []) (grown (journals p) (length ls + 2) no_acts)
+  no_more : (P : List PoolEntry → Journals → Type 0) → P p.told.pools (journals p) →
+      P (p.told.pools ++ []) (grown (journals p) (length ls + 2) no_acts)
   no_more P d =
       let J : grown (journals p) (length ls + 2) no_acts ≡ journals p = fun_ext (λ k. append-nil (journals p k)) in
-      subst (λ z. P z (grown (journals p) (length ls + 2) no_acts)) (sym (append-nil p.told.pools)) (subst (λ z. P p.told.pools z) (sym J) d)
+      subst (λ z. P z (grown (journals p) (length ls + 2) no_acts)) (sym (append-nil p.told.pools))
+      (subst (λ z. P p.told.pools z) (sym J) d)
 
   quiet_told : TellsMore p q (length ls + 2) [] no_acts
   quiet_told = record {
@@ -104,13 +109,15 @@ module _ (region partitions threads : ℕ) (ls : List Line) (p q : Player) (h : 
     plan = m.still.pool ∙ no_more (λ pools roots. p.heap.pool ≡ pool_at region pools) h.plan;
     turns = λ k. let same : (root_of q k).turn ≡ (root_of p k).turn = ap (λ (r : Root). r.turn) (m.still.roots k) in omega (arith, same);
     born = λ k.
-        subst (λ plan. IsBornBelow plan.entries (root_of q k)) (sym m.still.pool) (subst (λ r. IsBornBelow p.heap.pool.entries r) (sym (m.still.roots k)) (h.bounded.born k));
+        subst (λ plan. IsBornBelow plan.entries (root_of q k)) (sym m.still.pool)
+        (subst (λ r. IsBornBelow p.heap.pool.entries r) (sym (m.still.roots k)) (h.bounded.born k));
   }
 
   quiet_slots : AreAllSlots q.version partitions q.table (p.told.pools ++ []) (grown (journals p) (length ls + 2) no_acts) (root_of q)
   quiet_slots =
       let R : root_of q ≡ root_of p = fun_ext m.still.roots in
-      no_more (λ pools roots. AreAllSlots q.version partitions q.table pools roots (root_of q)) (subst (λ z. AreAllSlots q.version partitions q.table p.told.pools (journals p) z) (sym R) m.slots)
+      no_more (λ pools roots. AreAllSlots q.version partitions q.table pools roots (root_of q))
+      (subst (λ z. AreAllSlots q.version partitions q.table p.told.pools (journals p) z) (sym R) m.slots)
 
   pub quiet_played : IsPlayed region partitions threads ls p q h thread op answer
   quiet_played = record {
@@ -129,7 +136,8 @@ module _ (region partitions threads : ℕ) (ls : List Line) (p q : Player) (h : 
   }
 
 pub quiet_plays : (p : Player) (thread : ℕ) (op : Op) (q : Player) (answer : Answer)
-    → ((region partitions threads : ℕ) (ls : List Line) (can : CanGoOn region partitions threads ls (Do thread op) p) → IsQuiet region partitions threads ls p q can.playing thread op answer)
+    → ((region partitions threads : ℕ) (ls : List Line) (can : CanGoOn region partitions threads ls (Do thread op) p) →
+    IsQuiet region partitions threads ls p q can.playing thread op answer)
     → Plays p thread op q answer
 quiet_plays p thread op q answer m region partitions threads ls can =
     playing_more region partitions threads ls p q can.playing thread op answer can.short
@@ -146,23 +154,28 @@ pub record AddsNone (o : Option Mark) : Type 0 where
 pub none_adds : AddsNone None
 none_adds = record { issued = λ w. refl; freed = λ w. refl; entered = λ w. refl; left = λ w. refl }
 
-pub tally_still : (into out : Step → ℕ → Bool) (slots : List Slot) (k : ℕ) (o : Option Mark) (t : Tally) → ((w : SlotName → ℕ) → gain into w o ≡ 0) → ((w : SlotName → ℕ) → gain out w o ≡ 0)
+pub tally_still : (into out : Step → ℕ → Bool) (slots : List Slot) (k : ℕ) (o : Option Mark) (t : Tally) →
+    ((w : SlotName → ℕ) → gain into w o ≡ 0) → ((w : SlotName → ℕ) → gain out w o ≡ 0)
     → IsTallyMore into out slots k o t t
 tally_still into out slots k o t a b = record {
   slots = omega (arith, a (one_of (home_in slots) k), b (one_of (home_in slots) k));
   bytes = omega (arith, a (bytes_of (home_in slots) (len_in slots) k), b (bytes_of (home_in slots) (len_in slots) k));
 }
 
-pub counts_still : (region partitions threads : ℕ) (ls : List Line) (p q : Player) (o : Option Mark) → IsPlaying region partitions threads ls p → AddsNone o
-    → q.live ≡ p.live → q.quarantined ≡ p.quarantined → q.cached ≡ p.cached → ((t k class : ℕ) → caches q t k class ≡ caches p t k class) → CountsMore partitions threads p q o
+pub counts_still : (region partitions threads : ℕ) (ls : List Line) (p q : Player) (o : Option Mark) →
+    IsPlaying region partitions threads ls p → AddsNone o
+    → q.live ≡ p.live → q.quarantined ≡ p.quarantined → q.cached ≡ p.cached → ((t k class : ℕ) → caches q t k class ≡ caches p t k class) →
+    CountsMore partitions threads p q o
 counts_still region partitions threads ls p q o h adds live quarantined cached same = record {
   live = λ k low. subst (λ ts. IsTallyMore issues frees q.table k o (tally_at p.live.of k) (tally_at ts.of k)) (sym live)
       (tally_still issues frees q.table k o (tally_at p.live.of k) adds.issued adds.freed);
   quarantined = λ k low.
       subst (λ ts. IsTallyMore enters leaves q.table k o (tally_at p.quarantined.of k) (tally_at ts.of k)) (sym quarantined)
       (tally_still enters leaves q.table k o (tally_at p.quarantined.of k) adds.entered adds.left);
-  many = λ k low. ap (λ ts. (tally_at ts.of k).slots) cached ∙ (h.tallied k low).many ∙ sym (cached_slots_same (caches p) (caches q) threads k same);
-  bytes = λ k low. ap (λ ts. (tally_at ts.of k).bytes) cached ∙ (h.tallied k low).bytes ∙ sym (cached_bytes_same (caches p) (caches q) threads k same);
+  many = λ k low. ap (λ ts. (tally_at ts.of k).slots) cached ∙ (h.tallied k low).many ∙
+      sym (cached_slots_same (caches p) (caches q) threads k same);
+  bytes = λ k low. ap (λ ts. (tally_at ts.of k).bytes) cached ∙ (h.tallied k low).bytes ∙
+      sym (cached_bytes_same (caches p) (caches q) threads k same);
 }
 
 -- ---- the same player
@@ -174,7 +187,15 @@ cache_same all thread t k class = elim (cases_eq t thread) [
 ]
 
 pub like_same : (a : Shown) → IsLike a a
-like_same a = record { rules = refl; regs = λ t r. refl; held = λ k. refl; cells = λ k. refl; word = λ s. refl; content = λ s h. refl; usable = λ s h. refl }
+like_same a = record {
+  rules = refl;
+  regs = λ t r. refl;
+  held = λ k. refl;
+  cells = λ k. refl;
+  word = λ s. refl;
+  content = λ s h. refl;
+  usable = λ s h. refl;
+}
 
 pub still_same : (p : Player) → IsStill p p
 still_same p = record {
@@ -190,7 +211,8 @@ still_same p = record {
   histories = λ k. inl refl;
 }
 
-pub can_play : (region partitions threads : ℕ) (ls : List Line) (thread : ℕ) (op : Op) (p : Player) (can : CanGoOn region partitions threads ls (Do thread op) p)
+pub can_play : (region partitions threads : ℕ) (ls : List Line) (thread : ℕ) (op : Op) (p : Player)
+    (can : CanGoOn region partitions threads ls (Do thread op) p)
     → CanPlay threads ls can.playing.ps (shown p) thread
 can_play region partitions threads ls thread op p can = record {
   told = can.playing.told;
@@ -200,14 +222,16 @@ can_play region partitions threads ls thread op p can = record {
 }
 
 -- the player stays, if the mark is a look at a slot of the table, or none
-same_quiet : (region partitions threads : ℕ) (ls : List Line) (p : Player) (h : IsPlaying region partitions threads ls p) (thread : ℕ) (op : Op) (answer : Answer) → KeepsLists op answer
+same_quiet : (region partitions threads : ℕ) (ls : List Line) (p : Player) (h : IsPlaying region partitions threads ls p) (thread : ℕ)
+    (op : Op) (answer : Answer) → KeepsLists op answer
     → LeadsTo threads ls h.ps thread op answer (shown p) → AddsNone (mark_of (played_at (rules_at p) ls thread op answer))
     → ((m : Mark) → mark_of (played_at (rules_at p) ls thread op answer) ≡ Some m → (i : ℕ) × IsPlaceOf p.table m.slot i)
     → IsQuiet region partitions threads ls p p h thread op answer
 same_quiet region partitions threads ls p h thread op answer keeps turn adds marked = record {
   next = caches p thread;
   after = shown p;
-  done = nothing_moves region partitions (length ls + 2) h.ps (played_at (rules_at p) ls thread op answer) p.told.pools (journals p) (caches p) h.placed refl keeps;
+  done = nothing_moves region partitions (length ls + 2) h.ps (played_at (rules_at p) ls thread op answer) p.told.pools (journals p)
+      (caches p) h.placed refl keeps;
   turn = turn;
   like = like_same (shown p);
   lists = λ t k class. cache_same (caches p) thread t k class;
@@ -217,49 +241,63 @@ same_quiet region partitions threads ls p h thread op answer keeps turn adds mar
   slots = h.slots;
   shaped = h.shaped;
   marked = marked;
-  counts = counts_still region partitions threads ls p p (mark_of (played_at (rules_at p) ls thread op answer)) h adds refl refl refl (λ t k class. refl);
+  counts = counts_still region partitions threads ls p p (mark_of (played_at (rules_at p) ls thread op answer)) h adds refl refl refl
+      (λ t k class. refl);
 }
 
 pub none_not_some : (m : Mark) → None ≡ Some m → ⊥
 none_not_some m e = cc
 
 -- an answer that reports no slot, without an act
-pub none_plays_by : (p : Player) (thread : ℕ) (op : Op) (answer : Answer) → TellsNone answer → KeepsLists op answer → ((cell reg : ℕ) → op ≡ ops.Swap cell reg → ⊥)
+pub none_plays_by : (p : Player) (thread : ℕ) (op : Op) (answer : Answer) → TellsNone answer → KeepsLists op answer →
+    ((cell reg : ℕ) → op ≡ ops.Swap cell reg → ⊥)
     → ((region partitions threads : ℕ) (ls : List Line) → IsPlaying region partitions threads ls p
     → Row (facts_of (rules_at p).version (shown p).usable (shown p).cells) op ((shown p).regs thread) answer ((shown p).regs thread))
     → Plays p thread op p answer
 none_plays_by p thread op answer none keeps other row = quiet_plays p thread op p answer (λ region partitions threads ls can.
     let silent = none_mark (length ls + 2) op answer none in
     same_quiet region partitions threads ls p can.playing thread op answer keeps
-    (none_goes_on threads ls can.playing.ps (shown p) thread op answer (can_play region partitions threads ls thread op p can) none other (row region partitions threads ls can.playing))
+    (none_goes_on threads ls can.playing.ps (shown p) thread op answer (can_play region partitions threads ls thread op p can) none other
+    (row region partitions threads ls can.playing))
     (subst AddsNone (sym silent) none_adds)
     (λ m e. absurd (none_not_some m (sym silent ∙ e))))
 
-pub none_plays : (p : Player) (thread : ℕ) (op : Op) (answer : Answer) → TellsNone answer → KeepsLists op answer → ((cell reg : ℕ) → op ≡ ops.Swap cell reg → ⊥)
-    → Row (facts_of (rules_at p).version (shown p).usable (shown p).cells) op ((shown p).regs thread) answer ((shown p).regs thread) → Plays p thread op p answer
-none_plays p thread op answer none keeps other row = none_plays_by p thread op answer none keeps other (λ region partitions threads ls h. row)
+pub none_plays : (p : Player) (thread : ℕ) (op : Op) (answer : Answer) → TellsNone answer → KeepsLists op answer →
+    ((cell reg : ℕ) → op ≡ ops.Swap cell reg → ⊥)
+    → Row (facts_of (rules_at p).version (shown p).usable (shown p).cells) op ((shown p).regs thread) answer ((shown p).regs thread) →
+    Plays p thread op p answer
+none_plays p thread op answer none keeps other row =
+    none_plays_by p thread op answer none keeps other (λ region partitions threads ls h. row)
 
 -- a look at the slot in a place, to which a register of the op has a handle
 look_adds : (line : ℕ) (seen : Seen) → AddsNone (Some (mark_at line seen None))
 look_adds line seen = record { issued = λ w. refl; freed = λ w. refl; entered = λ w. refl; left = λ w. refl }
 
-pub look_plays_by : (p : Player) (thread reg i : ℕ) (op : Op) (answer : Answer) → ((partitions : ℕ) → IsOpWithin partitions op → reg < 64) → Points (register_at p thread reg) i
+pub look_plays_by : (p : Player) (thread reg i : ℕ) (op : Op) (answer : Answer) → ((partitions : ℕ) → IsOpWithin partitions op → reg < 64) →
+    Points (register_at p thread reg) i
     → KeepsLists op answer → ((cell r : ℕ) → op ≡ ops.Swap cell r → ⊥)
     → ((region partitions threads : ℕ) (ls : List Line) → IsPlaying region partitions threads ls p
-    → Looks (shown p) (seen_at p.table i) answer × Row (facts_of (rules_at p).version (shown p).usable (shown p).cells) op ((shown p).regs thread) answer ((shown p).regs thread))
+    → Looks (shown p) (seen_at p.table i) answer ×
+    Row (facts_of (rules_at p).version (shown p).usable (shown p).cells) op ((shown p).regs thread) answer ((shown p).regs thread))
     → Plays p thread op p answer
-look_plays_by p thread reg i op answer small points keeps other told_by = quiet_plays p thread op p answer (λ region partitions threads ls can.
+look_plays_by p thread reg i op answer small points keeps other told_by =
+    quiet_plays p thread op p answer (λ region partitions threads ls can.
     let seen = seen_at p.table i in
     let low = points_in (length p.table) (register_at p thread reg) i points (can.playing.shaped.held thread reg) in
     let (looks, row) = told_by region partitions threads ls can.playing in
     let told = look_mark (length ls + 2) op (shown p) seen answer looks in
     same_quiet region partitions threads ls p can.playing thread op answer keeps
-    (look_goes_on threads ls can.playing.ps (shown p) thread reg op answer seen (can_play region partitions threads ls thread op p can) (small partitions can.within.1)
-    (points_names p.table (register_at p thread reg) i points) (sym (at_name (λ z. z.word.0) p.table i can.playing.slots.apart low)) looks other row)
+    (look_goes_on threads ls can.playing.ps (shown p) thread reg op answer seen (can_play region partitions threads ls thread op p can)
+    (small partitions can.within.1)
+    (points_names p.table (register_at p thread reg) i points)
+    (sym (at_name (λ z. z.word.0) p.table i can.playing.slots.apart low)) looks other row)
     (subst AddsNone (sym told) (look_adds (length ls + 2) seen))
     (λ m e. (i, (low, ap (λ (z : Mark). z.slot) (some_mark (mark_at (length ls + 2) seen None) m (sym told ∙ e))))))
 
-pub look_plays : (p : Player) (thread reg i : ℕ) (op : Op) (answer : Answer) → ((partitions : ℕ) → IsOpWithin partitions op → reg < 64) → Points (register_at p thread reg) i
+pub look_plays : (p : Player) (thread reg i : ℕ) (op : Op) (answer : Answer) → ((partitions : ℕ) → IsOpWithin partitions op → reg < 64) →
+    Points (register_at p thread reg) i
     → Looks (shown p) (seen_at p.table i) answer → KeepsLists op answer → ((cell r : ℕ) → op ≡ ops.Swap cell r → ⊥)
-    → Row (facts_of (rules_at p).version (shown p).usable (shown p).cells) op ((shown p).regs thread) answer ((shown p).regs thread) → Plays p thread op p answer
-look_plays p thread reg i op answer small points looks keeps other row = look_plays_by p thread reg i op answer small points keeps other (λ region partitions threads ls h. (looks, row))
+    → Row (facts_of (rules_at p).version (shown p).usable (shown p).cells) op ((shown p).regs thread) answer ((shown p).regs thread) →
+    Plays p thread op p answer
+look_plays p thread reg i op answer small points looks keeps other row =
+    look_plays_by p thread reg i op answer small points keeps other (λ region partitions threads ls h. (looks, row))

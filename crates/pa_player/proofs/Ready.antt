@@ -30,8 +30,10 @@ use Rattle.pa_player.proofs.Purged.{can_purge}
 use Rattle.pa_player.proofs.Reporting.{end_ready}
 
 -- a slot with another word stays
-keeps_word : (slots : List Slot) (i w : ℕ) → i < length slots → KeepsSlots slots (set slots i (record (slot_at slots i) { word = record { 0 = w } }))
-keeps_word slots i w low = keeps_set slots i (record (slot_at slots i) { word = record { 0 = w } }) low (record { title = refl; partition = refl; class = refl })
+keeps_word : (slots : List Slot) (i w : ℕ) → i < length slots →
+    KeepsSlots slots (set slots i (record (slot_at slots i) { word = record { 0 = w } }))
+keeps_word slots i w low =
+    keeps_set slots i (record (slot_at slots i) { word = record { 0 = w } }) low (record { title = refl; partition = refl; class = refl })
 
 -- the thread has registers
 pub thread_ready : (p : Player) (thread : ℕ) (op : Op) → IsReady (Do thread op) p → thread < length p.registers
@@ -39,17 +41,21 @@ thread_ready p thread op ready = omega (arith, ready.can.within.0, ready.can.pla
 
 -- the slot of a register is in the table
 pub place_ready : (p : Player) (l : Line) (thread reg i : ℕ) → IsReady l p → Points (register_at p thread reg) i → i < length p.table
-place_ready p l thread reg i ready points = points_in (length p.table) (register_at p thread reg) i points (ready.can.playing.shaped.held thread reg)
+place_ready p l thread reg i ready points =
+    points_in (length p.table) (register_at p thread reg) i points (ready.can.playing.shaped.held thread reg)
 
-pub copy_ready : (p : Player) (thread from to i : ℕ) → IsReady (Do thread (ops.Copy from to)) p → Points (register_at p thread from) i → CanCopy thread to i p
+pub copy_ready : (p : Player) (thread from to i : ℕ) → IsReady (Do thread (ops.Copy from to)) p → Points (register_at p thread from) i →
+    CanCopy thread to i p
 copy_ready p thread from to i ready points = record {
   threads = thread_ready p thread (ops.Copy from to) ready;
   regs = ready.can.within.1.1;
   place = place_ready p (Do thread (ops.Copy from to)) thread from i ready points;
-  step = λ none. copies ready.region ready.partitions ready.threads ready.ls p thread (ops.Copy from to) ready.can from i ready.can.within.1.0 points;
+  step = λ none. copies ready.region ready.partitions ready.threads ready.ls p thread
+      (ops.Copy from to) ready.can from i ready.can.within.1.0 points;
 }
 
-pub reset_ready : (p : Player) (thread reg i : ℕ) → IsReady (Do thread (ops.Reset reg)) p → register_at p thread reg ≡ Ref i → CanReset thread reg i p
+pub reset_ready : (p : Player) (thread reg i : ℕ) → IsReady (Do thread (ops.Reset reg)) p → register_at p thread reg ≡ Ref i →
+    CanReset thread reg i p
 reset_ready p thread reg i ready points =
     let op = ops.Reset reg in
     let can = ready.can in
@@ -57,7 +63,8 @@ reset_ready p thread reg i ready points =
     let here : Points (register_at p thread reg) i = subst (λ x. Points x i) (sym points) refl in
     let place = place_ready p (Do thread op) thread reg i ready here in
     let used = used_by ready.region ready.partitions ready.threads ready.ls p thread op can reg i can.within.1 here in
-    let counted : IsReturning steps.Reset (slot_at p.table i).word.0 → IsCounted (slot_at p.table i).title.len (tally_at p.quarantined.of (slot_at p.table i).partition) =
+    let counted : IsReturning steps.Reset (slot_at p.table i).word.0 →
+    IsCounted (slot_at p.table i).title.len (tally_at p.quarantined.of (slot_at p.table i).partition) =
     λ r. quarantined_counts ready.region ready.partitions ready.threads ready.ls p h i place (r.0, omega (arith, r.1)) in
     let after = reset_last thread reg i p in
     record {
@@ -68,11 +75,14 @@ reset_ready p thread reg i ready points =
       four = omega (arith, h.slots.among i place, h.shaped.four);
       slots = λ r. (counted r).slots;
       bytes = λ r. (counted r).bytes;
-      back = λ r. take_back ready.region ready.partitions ready.threads ready.ls p h thread op (omega (arith, can.short)) can.head.2.1 can.within.0 i place steps.Reset refl r
-          after.table (keeps_word p.table i (stepped steps.Reset (slot_at p.table i).word.0) place) after.registers after.live after.quarantined used;
+      back = λ r. take_back ready.region ready.partitions ready.threads ready.ls p h thread op
+          (omega (arith, can.short)) can.head.2.1 can.within.0 i place steps.Reset refl r
+          after.table (keeps_word p.table i (stepped steps.Reset (slot_at p.table i).word.0) place) after.registers after.live
+          after.quarantined used;
     }
 
-pub free_ready : (p : Player) (thread reg i : ℕ) → IsReady (Do thread (ops.Free reg)) p → register_at p thread reg ≡ Own i → CanFree thread reg i p
+pub free_ready : (p : Player) (thread reg i : ℕ) → IsReady (Do thread (ops.Free reg)) p → register_at p thread reg ≡ Own i →
+    CanFree thread reg i p
 free_ready p thread reg i ready points =
     let op = ops.Free reg in
     let can = ready.can in
@@ -82,7 +92,8 @@ free_ready p thread reg i ready points =
     let used = used_by ready.region ready.partitions ready.threads ready.ls p thread op can reg i can.within.1 here in
     let step = frees ready.region ready.partitions ready.threads ready.ls p thread op can reg i can.within.1 points in
     let counted = live_counts ready.region ready.partitions ready.threads ready.ls p h i place step.0 in
-    let waiting = quarantined_few ready.region ready.partitions ready.threads ready.ls p h (slot_at p.table i).partition (omega (arith, can.short)) (h.slots.among i place) in
+    let waiting = quarantined_few ready.region ready.partitions ready.threads ready.ls p h (slot_at p.table i).partition
+    (omega (arith, can.short)) (h.slots.among i place) in
     let after = freed_at thread reg i p in
     record {
       threads = thread_ready p thread op ready;
@@ -94,28 +105,37 @@ free_ready p thread reg i ready points =
       bytes = counted.bytes;
       few = waiting.0;
       short = waiting.1;
-      back = λ none. take_back ready.region ready.partitions ready.threads ready.ls p h thread op (omega (arith, can.short)) can.head.2.1 can.within.0 i place steps.Free refl (step.0, none)
-          after.table (keeps_word p.table i (stepped steps.Free (slot_at p.table i).word.0) place) after.registers after.live after.quarantined used;
+      back = λ none. take_back ready.region ready.partitions ready.threads ready.ls p h thread op
+          (omega (arith, can.short)) can.head.2.1 can.within.0 i place steps.Free refl (step.0, none)
+          after.table (keeps_word p.table i (stepped steps.Free (slot_at p.table i).word.0) place) after.registers after.live
+          after.quarantined used;
     }
 
-pub write_ready : (p : Player) (thread reg value i : ℕ) → IsReady (Do thread (ops.Write reg value)) p → register_at p thread reg ≡ Own i → CanWrite i p
+pub write_ready : (p : Player) (thread reg value i : ℕ) → IsReady (Do thread (ops.Write reg value)) p → register_at p thread reg ≡ Own i →
+    CanWrite i p
 write_ready p thread reg value i ready points = record {
   place = place_ready p (Do thread (ops.Write reg value)) thread reg i ready (subst (λ x. Points x i) (sym points) refl);
-  step = λ none. writes ready.region ready.partitions ready.threads ready.ls p thread (ops.Write reg value) ready.can reg i ready.can.within.1 points none;
+  step = λ none. writes ready.region ready.partitions ready.threads ready.ls p thread
+      (ops.Write reg value) ready.can reg i ready.can.within.1 points none;
 }
 
-pub read_ready : (p : Player) (thread reg word i : ℕ) → IsReady (Do thread (ops.Read reg word)) p → Points (register_at p thread reg) i → CanRead i p
+pub read_ready : (p : Player) (thread reg word i : ℕ) → IsReady (Do thread (ops.Read reg word)) p → Points (register_at p thread reg) i →
+    CanRead i p
 read_ready p thread reg word i ready points = record {
   place = place_ready p (Do thread (ops.Read reg word)) thread reg i ready points;
-  long = (length_of ready.region ready.partitions ready.threads ready.ls p ready.can.playing i (place_ready p (Do thread (ops.Read reg word)) thread reg i ready points)).least;
+  long = (length_of ready.region ready.partitions ready.threads ready.ls p ready.can.playing i
+      (place_ready p (Do thread (ops.Read reg word)) thread reg i ready points)).least;
 }
 
-pub slot_ready : (p : Player) (thread reg q size class : ℕ) → IsReady (Do thread (ops.Alloc reg q size)) p → IsClassIn p.version (max size 1 + 8) class → CanAllocateSlot thread reg q class p
-slot_ready p thread reg q size class ready of = can_slot ready.region ready.partitions ready.threads ready.ls p thread reg q size ready.can class of
+pub slot_ready : (p : Player) (thread reg q size class : ℕ) → IsReady (Do thread (ops.Alloc reg q size)) p →
+    IsClassIn p.version (max size 1 + 8) class → CanAllocateSlot thread reg q class p
+slot_ready p thread reg q size class ready of =
+    can_slot ready.region ready.partitions ready.threads ready.ls p thread reg q size ready.can class of
 
 pub map_ready : (p : Player) (thread reg q size : ℕ) → IsReady (Do thread (ops.Alloc reg q size)) p → IsMapSize p.version size
     → CanAllocateMap thread reg q (shape_of size).slot (shape_of size).supers p
-map_ready p thread reg q size ready direct = can_map ready.region ready.partitions ready.threads ready.ls p thread reg q size ready.can direct
+map_ready p thread reg q size ready direct =
+    can_map ready.region ready.partitions ready.threads ready.ls p thread reg q size ready.can direct
 
 pub purge_ready : (p : Player) (thread : ℕ) → IsReady (Do thread ops.Purge) p → CanPurge thread p
 purge_ready p thread ready =
@@ -123,7 +143,8 @@ purge_ready p thread ready =
     let h = can.playing in
     record {
       four = omega (arith, h.shaped.many, h.shaped.four);
-      each = λ q low. can_purge ready.region ready.partitions ready.threads ready.ls p h thread q can.within.0 (omega (arith, low, h.shaped.many)) (omega (arith, can.short)) can.head.2.1;
+      each = λ q low. can_purge ready.region ready.partitions ready.threads ready.ls p h thread q can.within.0
+          (omega (arith, low, h.shaped.many)) (omega (arith, can.short)) can.head.2.1;
     }
 
 pub phase_ready : (p : Player) → IsReady Phase p → CanEnd p

@@ -49,8 +49,10 @@ pub first_of : (ts : List Title) → (ts ≡ [] → ⊥) → (t : Title) × (oth
 first_of [] some = absurd (some refl)
 first_of (t ∷ ts) some = (t, ts, refl)
 
-module _ (p : Player) (thread reg q size class : ℕ) (none : HasNone (register_at p thread reg)) (of : IsClassIn p.version (max size 1 + 8) class) (filled : Player)
-    (empty : list_in p (list_place p.version p.partitions thread q class) ≡ []) (f : IsFilled q (list_place p.version p.partitions thread q class) class p filled) (i : ℕ) (rest : List ℕ)
+module _ (p : Player) (thread reg q size class : ℕ) (none : HasNone (register_at p thread reg))
+    (of : IsClassIn p.version (max size 1 + 8) class) (filled : Player)
+    (empty : list_in p (list_place p.version p.partitions thread q class) ≡ [])
+    (f : IsFilled q (list_place p.version p.partitions thread q class) class p filled) (i : ℕ) (rest : List ℕ)
     (front : list_in filled (list_place p.version p.partitions thread q class) ≡ i ∷ rest) (region partitions threads : ℕ) (ls : List Line)
     (can : CanGoOn region partitions threads ls (Do thread (ops.Alloc reg q size)) p) where
   abbrev pub h : IsPlaying region partitions threads ls p
@@ -87,12 +89,14 @@ module _ (p : Player) (thread reg q size class : ℕ) (none : HasNone (register_
   pub room : at < length p.caches
   room =
       subst (λ z. list_place p.version z thread q class < length p.caches) (sym h.shaped.many)
-      (let b = place_below p.version partitions threads thread q class can.within.0 inside (of.from, of.real) in let c = h.shaped.lists in omega arith)
+      (let b = place_below p.version partitions threads thread q class can.within.0 inside (of.from, of.real) in let c = h.shaped.lists in
+      omega arith)
 
   pub taken : IsFillOf class (fill_of class) (root_of p q) f.after titles
   taken =
       fill_of_root class (fill_of class) p.heap.pool f.plan (root_of p q) f.after titles asked
-      (subst IsSound (sym (h.roots q)) (journal_leaves p.told.pools (journals p q) (h.placed.journals q)).sound) (h.bounded.born q) (real_in p.version class (of.from, of.real)) f.did
+      (subst IsSound (sym (h.roots q)) (journal_leaves p.told.pools (journals p q) (h.placed.journals q)).sound) (h.bounded.born q)
+      (real_in p.version class (of.from, of.real)) f.did
 
   puts : ArePut q at class titles base f.put f.slots
   puts = subst (λ z. ArePut q at class titles z f.put f.slots) (asked_told q 1 titles asked (placed_in q f.after f.plan p)) f.puts
@@ -118,7 +122,8 @@ module _ (p : Player) (thread reg q size class : ℕ) (none : HasNone (register_
     pub list_is : u.places ≡ i ∷ rest
     list_is =
         let there : list_in filled at ≡ get_or u.lists at [] = ap (λ z. list_in z at) (f.acted ∙ ap (acted q (act ∷ [])) u.same) in
-        let set_there : get_or u.lists at [] ≡ list_in p at ++ u.places = ap (λ zs. get_or zs at []) u.set_lists ∙ get_or-set_same p.caches at (list_in p at ++ u.places) [] room in
+        let set_there : get_or u.lists at [] ≡ list_in p at ++ u.places = ap (λ zs. get_or zs at []) u.set_lists ∙
+        get_or-set_same p.caches at (list_in p at ++ u.places) [] room in
         let all : list_in p at ++ u.places ≡ u.places = ap (λ zs. zs ++ u.places) empty in
         sym all ∙ sym set_there ∙ sym there ∙ front
 
@@ -130,7 +135,8 @@ module _ (p : Player) (thread reg q size class : ℕ) (none : HasNone (register_
 
     pub name_among : (j : ℕ) → Contains (i ∷ rest) j → Contains (names f.slots) (named_at table j)
     name_among j among =
-        map_in (λ (z : Numbered). z.slot) f.slots (numbered_at table j) (subst (λ z. Contains z (numbered_at table j)) (sym numbers) (map_in (numbered_at table) (i ∷ rest) j among))
+        map_in (λ (z : Numbered). z.slot) f.slots (numbered_at table j)
+        (subst (λ z. Contains z (numbered_at table j)) (sym numbers) (map_in (numbered_at table) (i ∷ rest) j among))
 
     pub no_cached : caches p thread q class ≡ []
     no_cached = caches_here p thread q class inner (of.from, of.real) ∙ ap (map (numbered_at p.table)) empty
@@ -147,9 +153,11 @@ module _ (p : Player) (thread reg q size class : ℕ) (none : HasNone (register_
           let first = first_of titles f.some in
           let is = old_at p.table table u.news grown_by j old in
           let name : Contains (map name_of titles) (named_at p.table j) =
-          subst (λ ss. Contains ss (named_at p.table j)) (sym u.named) (subst (λ (z : Slot). Contains (names f.slots) (name_of z.title)) is (name_among j among)) in
+          subst (λ ss. Contains ss (named_at p.table j)) (sym u.named)
+          (subst (λ (z : Slot). Contains (names f.slots) (name_of z.title)) is (name_among j among)) in
           let (t, member, e) = map_cases name_of titles (named_at p.table j) name in
-          let kind = taken_free region partitions threads ls p thread reg q size class can of empty f.plan f.after f.placed f.did first.0 first.1 first.2 t member j old (sym e) in
+          let kind = taken_free region partitions threads ls p thread reg q size class can of empty f.plan f.after f.placed f.did first.0
+          first.1 first.2 t member j old (sym e) in
           (ap (λ (z : Slot). z.partition) is ∙ kind.home, ap (λ (z : Slot). z.class) is ∙ kind.of)
       | inr past ↦
           let (t, member, e) = u.new_is (slot_at table j) (new_at p.table table u.news grown_by j past (low_of j among)) in
@@ -161,7 +169,8 @@ module _ (p : Player) (thread reg q size class : ℕ) (none : HasNone (register_
       | inl old ↦
           let is = old_at p.table table u.news grown_by j old in
           let class_is : (slot_at p.table j).class ≡ Some class = ap (λ (z : Slot). z.class) (sym is) ∙ (kind_of j among).1 in
-          ap (λ (z : Slot). z.title.len) is ∙ (subst (λ c. IsLetOut p.version (journals p) (slot_at p.table j) c) class_is (h.slots.let_out j old)).2
+          ap (λ (z : Slot). z.title.len) is ∙
+          (subst (λ c. IsLetOut p.version (journals p) (slot_at p.table j) c) class_is (h.slots.let_out j old)).2
       | inr past ↦
           let (t, member, e) = u.new_is (slot_at table j) (new_at p.table table u.news grown_by j past (low_of j among)) in
           ap (λ (z : Slot). z.title.len) e ∙ taken.len t member
@@ -177,18 +186,21 @@ module _ (p : Player) (thread reg q size class : ℕ) (none : HasNone (register_
     has_numbers : HasNumbers (journals p) q f.slots
     has_numbers m k among is =
         let (j, member, e) = map_cases (numbered_at table) (i ∷ rest) m (subst (λ z. Contains z m) numbers among) in
-        let is_j : at_end (Some 0) (moves_of (journals p q) (named_at table j)) ≡ Some k = ap (λ (z : Numbered). at_end (Some 0) (moves_of (journals p q) z.slot)) e ∙ is in
+        let is_j : at_end (Some 0) (moves_of (journals p q) (named_at table j)) ≡ Some k =
+        ap (λ (z : Numbered). at_end (Some 0) (moves_of (journals p q) z.slot)) e ∙ is in
         sym (ap (λ (z : Numbered). z.number) e) ∙ elim (cases_lt j (length p.table)) [
           | inl old ↦
               let at_j = old_at p.table table u.news grown_by j old in
               let home : (slot_at p.table j).partition ≡ q = ap (λ (z : Slot). z.partition) (sym at_j) ∙ (kind_of j member).0 in
-              let there : at_end (Some 0) (moves_of (journals p q) (named_at p.table j)) ≡ Some k = ap (λ (z : Slot). at_end (Some 0) (moves_of (journals p q) (name_of z.title))) (sym at_j) ∙ is_j in
+              let there : at_end (Some 0) (moves_of (journals p q) (named_at p.table j)) ≡ Some k =
+              ap (λ (z : Slot). at_end (Some 0) (moves_of (journals p q) (name_of z.title))) (sym at_j) ∙ is_j in
               let was : at_end (Some 0) (moves_of (journals p (slot_at p.table j).partition) (named_at p.table j)) ≡ Some k =
               subst (λ z. at_end (Some 0) (moves_of (journals p z) (named_at p.table j)) ≡ Some k) (sym home) there in
               ap (λ (z : Slot). number_of z.word.0) at_j ∙ sym (h.slots.at j k old was)
           | inr past ↦
               let low = low_of j member in
-              let nothing : moves_of (journals p q) (named_at table j) ≡ [] = h.slots.others q (named_at table j) (none_before j past low) in
+              let nothing : moves_of (journals p q) (named_at table j) ≡ [] =
+              h.slots.others q (named_at table j) (none_before j past low) in
               let zero_is : Some 0 ≡ Some k = sym (ap (at_end (Some 0)) nothing) ∙ is_j in
               ap number_of (grown_by.unissued (slot_at table j) (new_at p.table table u.news grown_by j past low)) ∙ some_same 0 k zero_is
         ]
@@ -204,4 +216,5 @@ module _ (p : Player) (thread reg q size class : ℕ) (none : HasNone (register_
         fill_is_done region partitions n q class (usable_of (rules_at p).version size) h.ps
         (played_at (rules_at p) ls thread (ops.Alloc reg q size)
         (answers.Made (seen_at table i) (usable_of (rules_at p).version size))) p.told.pools (journals p) (caches p) (seen_at table i)
-        f.slots (map (numbered_at table) rest) f.plan f.after f.placed h.placed refl refl (reg, size, refl, of) inside no_cached did u.named has_numbers numbers
+        f.slots (map (numbered_at table) rest) f.plan f.after f.placed h.placed refl refl
+        (reg, size, refl, of) inside no_cached did u.named has_numbers numbers

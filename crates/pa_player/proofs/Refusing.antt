@@ -55,8 +55,10 @@ use Rattle.pa_rules.specs.Sizes.{IsMapSize}
 none_some : (m : Mark) → None ≡ Some m → ⊥
 none_some m e = cc
 
-module _ (region partitions threads : ℕ) (ls : List Line) (p : Player) (thread reg q size : ℕ) (can : CanGoOn region partitions threads ls (Do thread (ops.Alloc reg q size)) p)
-    (none : HasNone (register_at p thread reg)) (fits : size ≤ 33521656) (count asked entry : ℕ) (class : Option ℕ) (after : Root) (plan : PoolState) where
+module _ (region partitions threads : ℕ) (ls : List Line) (p : Player) (thread reg q size : ℕ)
+    (can : CanGoOn region partitions threads ls (Do thread (ops.Alloc reg q size)) p)
+    (none : HasNone (register_at p thread reg)) (fits : size ≤ 33521656) (count asked entry : ℕ) (class : Option ℕ) (after : Root)
+    (plan : PoolState) where
   abbrev h : IsPlaying region partitions threads ls p
   h = can.playing
 
@@ -89,7 +91,8 @@ module _ (region partitions threads : ℕ) (ls : List Line) (p : Player) (thread
 
     entries_then : plan.entries ≡ length p.told.pools + 1
     entries_then =
-        ap (λ (z : PoolState). z.entries) (sym called.pool) ∙ pool_is_sound.counted region (p.told.pools ++ made) ∙ length-append p.told.pools made
+        ap (λ (z : PoolState). z.entries) (sym called.pool) ∙ pool_is_sound.counted region (p.told.pools ++ made) ∙
+        length-append p.told.pools made
 
     entries_here : p.heap.pool.entries ≡ length p.told.pools
     entries_here = ap (λ (z : PoolState). z.entries) h.plan ∙ pool_is_sound.counted region p.told.pools
@@ -119,7 +122,8 @@ module _ (region partitions threads : ℕ) (ls : List Line) (p : Player) (thread
           ∙ ap (λ line. grown (journals p) line (only_in q (act ∷ [])) k) h.line;
       histories = λ k. inl refl;
       few = of_only (λ bs. length bs ≤ 512) q (act ∷ []) (omega arith) (omega arith);
-      printable = of_only (λ bs. (a : RootAct) → Contains bs a → NamesSlots a) q (act ∷ []) (λ a among. subst NamesSlots (in_one act a among) tt) (λ a among. absurd (not_in_none a among));
+      printable = of_only (λ bs. (a : RootAct) → Contains bs a → NamesSlots a) q (act ∷ [])
+          (λ a among. subst NamesSlots (in_one act a among) tt) (λ a among. absurd (not_in_none a among));
     }
 
     heap_then : HasHeap region p final n made (only_in q (act ∷ []))
@@ -129,7 +133,8 @@ module _ (region partitions threads : ℕ) (ls : List Line) (p : Player) (thread
         (let e : after.turn ≡ (root_of p q).turn = ap (λ (r : Root). r.turn) same_root in omega arith)
         (let a = entries_then in let b = entries_here in omega arith)
         (subst (λ r. IsBornBelow plan.entries r) (sym same_root)
-        (born_more p.heap.pool.entries plan.entries (root_of p q) (let a = entries_then in let b = entries_here in omega arith) (h.bounded.born q)))
+        (born_more p.heap.pool.entries plan.entries (root_of p q) (let a = entries_then in let b = entries_here in omega arith)
+        (h.bounded.born q)))
         h.bounded.born
 
     no_moves : AllComeBack p.table (act ∷ [])
@@ -145,8 +150,10 @@ module _ (region partitions threads : ℕ) (ls : List Line) (p : Player) (thread
       next = caches p thread;
       after = shown p;
       done = called.done;
-      turn = none_goes_on threads ls h.ps (shown p) thread (ops.Alloc reg q size) (answers.Full entry) (can_play region partitions threads ls thread (ops.Alloc reg q size) p can) tt (λ cell k e. cc)
-          (request_row p.table (register_at p thread reg) (facts_of (rules_at p).version (shown p).usable (shown p).cells) ((shown p).regs thread) reg size
+      turn = none_goes_on threads ls h.ps (shown p) thread (ops.Alloc reg q size) (answers.Full entry)
+          (can_play region partitions threads ls thread (ops.Alloc reg q size) p can) tt (λ cell k e. cc)
+          (request_row p.table (register_at p thread reg) (facts_of (rules_at p).version (shown p).usable (shown p).cells)
+          ((shown p).regs thread) reg size
           (answers.Full entry) none (inr (inr (fits, entry, refl, λ k. refl))));
       like = like_same (shown p);
       lists = λ t k c. cache_same (caches p) thread t k c;
@@ -158,9 +165,11 @@ module _ (region partitions threads : ℕ) (ls : List Line) (p : Player) (thread
         slots =
             slots_back partitions p.table p.told.pools made (journals p) (root_of p) (root_of final) n (only_in q (act ∷ [])) h.slots
             (of_only (AllComeBack p.table) q (act ∷ []) no_moves (λ a among. absurd (not_in_none a among)))
-            (λ j there. subst (λ r. IsMappedAs r (slot_at p.table j) (slot_at p.table j).class) (sym (roots_same (slot_at p.table j).partition)) (h.slots.mapped j there));
+            (λ j there. subst (λ r. IsMappedAs r (slot_at p.table j) (slot_at p.table j).class)
+            (sym (roots_same (slot_at p.table j).partition)) (h.slots.mapped j there));
         shaped =
-            shaped_told partitions threads (record p { heap = final.heap }) (shaped_heap partitions threads p h.shaped final.heap.pool final.heap.roots (length-set p.heap.roots q _)) final.told
+            shaped_told partitions threads (record p { heap = final.heap })
+            (shaped_heap partitions threads p h.shaped final.heap.pool final.heap.roots (length-set p.heap.roots q _)) final.told
             (length-set p.told.journals q _) refl;
         marked = λ m e. absurd (none_some m (sym silent ∙ e));
       };
@@ -170,8 +179,10 @@ module _ (region partitions threads : ℕ) (ls : List Line) (p : Player) (thread
     }
 
 -- no room for a slot of a class, whose list is empty
-pub full_plays : (p r : Player) (thread reg q size class entry : ℕ) → HasNone (register_at p thread reg) → size ≤ 33521656 → IsClassIn p.version (max size 1 + 8) class → HasClass p.version class
-    → list_in p (list_place p.version p.partitions thread q class) ≡ [] → IsUnfilled q class p r entry → Plays p thread (ops.Alloc reg q size) r (answers.Full entry)
+pub full_plays : (p r : Player) (thread reg q size class entry : ℕ) → HasNone (register_at p thread reg) → size ≤ 33521656 →
+    IsClassIn p.version (max size 1 + 8) class → HasClass p.version class
+    → list_in p (list_place p.version p.partitions thread q class) ≡ [] → IsUnfilled q class p r entry →
+    Plays p thread (ops.Alloc reg q size) r (answers.Full entry)
 full_plays p r thread reg q size class entry none fits of real empty u region partitions threads ls can =
     let h = can.playing in
     let x = played_at (rules_at p) ls thread (ops.Alloc reg q size) (answers.Full entry) in
@@ -183,9 +194,11 @@ full_plays p r thread reg q size class entry none fits of real empty u region pa
     let called = full_is_done region partitions (length ls + 2) q class u.asked entry h.ps x p.told.pools (journals p) (caches p) u.plan
     u.after u.placed h.placed refl refl u.told (reg, size, refl, of) can.within.1.1 no_list
     did u.asks u.none in
-    let played = refused_played region partitions threads ls p thread reg q size can none fits 1 u.asked entry (Some class) u.after u.plan called in
+    let played = refused_played region partitions threads ls p thread reg q size can none fits 1 u.asked entry
+    (Some class) u.after u.plan called in
     playing_more region partitions threads ls p r can.playing thread (ops.Alloc reg q size) (answers.Full entry) can.short
-    (subst (λ z. IsPlayed region partitions threads ls p z can.playing thread (ops.Alloc reg q size) (answers.Full entry)) (sym u.acted) played)
+    (subst (λ z. IsPlayed region partitions threads ls p z can.playing thread (ops.Alloc reg q size) (answers.Full entry))
+    (sym u.acted) played)
 
 -- no room for a direct map
 pub full_map_plays : (p r : Player) (thread reg q size entry : ℕ) → HasNone (register_at p thread reg) → IsMapSize p.version size
@@ -199,6 +212,8 @@ full_map_plays p r thread reg q size entry none direct u region partitions threa
     let called = full_map_is_done region partitions (length ls + 2) q size u.asked entry h.ps x p.told.pools (journals p) (caches p)
     u.plan u.after u.placed h.placed refl refl u.told (reg, refl, direct) can.within.1.1
     did u.asks u.none in
-    let played = refused_played region partitions threads ls p thread reg q size can none direct.1 (shape_of size).supers u.asked entry None u.after u.plan called in
+    let played = refused_played region partitions threads ls p thread reg q size can none direct.1
+    (shape_of size).supers u.asked entry None u.after u.plan called in
     playing_more region partitions threads ls p r can.playing thread (ops.Alloc reg q size) (answers.Full entry) can.short
-    (subst (λ z. IsPlayed region partitions threads ls p z can.playing thread (ops.Alloc reg q size) (answers.Full entry)) (sym u.acted) played)
+    (subst (λ z. IsPlayed region partitions threads ls p z can.playing thread (ops.Alloc reg q size) (answers.Full entry))
+    (sym u.acted) played)

@@ -32,16 +32,19 @@ use Rattle.pa_rules.proofs.ReportLines.{phases_push}
 
 -- ---- the phases of the records
 
-lines_until : (rules : Rules) (n phase : ℕ) (ls : List Line) (a : OpLine) → Contains (op_lines rules n phase ls) a → a.phase ≤ phase_after phase ls
+lines_until : (rules : Rules) (n phase : ℕ) (ls : List Line) (a : OpLine) → Contains (op_lines rules n phase ls) a →
+    a.phase ≤ phase_after phase ls
 lines_until rules n phase [] a c = absurd (omega (arith, c.1))
 lines_until rules n phase (Phase ∷ ls) a c = lines_until rules (n + 1) (phase + 1) ls a c
 lines_until rules n phase (Do t o ∷ ls) a (zero, c, e) = omega (arith, phase_on phase ls, ap (λ (x : OpLine). x.phase) e)
 lines_until rules n phase (Do t o ∷ ls) a (suc i, c, e) = lines_until rules (n + 1) phase ls a (i, omega (arith, c), e)
 
 -- the records so far are in the phases so far
-played_until : (rules : Rules) (ls : List Line) (ps : List Played) → AreLines rules ls ps → (x : Played) → Contains ps x → x.phase ≤ phases_in ls
+played_until : (rules : Rules) (ls : List Line) (ps : List Played) → AreLines rules ls ps → (x : Played) → Contains ps x →
+    x.phase ≤ phases_in ls
 played_until rules ls ps lines x (i, lt, e) =
-    let among : Contains (map op_line_of ps) (op_line_of x) = (i, omega (arith, lt, length-map ps op_line_of), get_or-map op_line_of ps i x (op_line_of x) lt ∙ ap op_line_of e) in
+    let among : Contains (map op_line_of ps) (op_line_of x) =
+    (i, omega (arith, lt, length-map ps op_line_of), get_or-map op_line_of ps i x (op_line_of x) lt ∙ ap op_line_of e) in
     omega (arith, lines_until rules 2 1 ls (op_line_of x) (subst (λ zs. Contains zs (op_line_of x)) lines among), phases_are ls)
 
 pub phases_begin : (ls : List Line) → phases_in (ls ++ Phase ∷ []) ≡ phases_in ls + 1
@@ -74,10 +77,12 @@ phases_next partitions n some =
 
 told_all : (P : ReportLine → Type 0) (p : Player) (q n : ℕ) → ((k : ℕ) → k < q + n → P (report_line p k)) → All P (report_lines p q n)
 told_all P p q zero h = All-nil P
-told_all P p q (suc n) h = All-cons P (report_line p q) (report_lines p (q + 1) n) (h q (omega arith)) (told_all P p (q + 1) n (λ k lt. h k (omega (arith, lt))))
+told_all P p q (suc n) h =
+    All-cons P (report_line p q) (report_lines p (q + 1) n) (h q (omega arith)) (told_all P p (q + 1) n (λ k lt. h k (omega (arith, lt))))
 
 -- what was reported stays so on later lines and in later phases
-pub told_stays : (partitions threads n m phase next : ℕ) (ps : List Played) (pools : List PoolEntry) (roots : Journals) (l : ReportLine) → n ≤ m → phase ≤ next
+pub told_stays : (partitions threads n m phase next : ℕ) (ps : List Played) (pools : List PoolEntry) (roots : Journals) (l : ReportLine) →
+    n ≤ m → phase ≤ next
     → IsToldLine partitions threads n phase ps pools roots l → IsToldLine partitions threads m next ps pools roots l
 told_stays partitions threads n m phase next ps pools roots l le on t = record {
   line = t.line;
@@ -104,7 +109,8 @@ told_stays partitions threads n m phase next ps pools roots l le on t = record {
 
 module _ (region partitions threads : ℕ) (ls : List Line) (p : Player) (h : IsPlaying region partitions threads ls p) where
   -- the line of a partition that is reported now
-  told_now : (q : ℕ) → q < partitions → IsToldLine partitions threads (length ls + 2) (p.phase + 1) h.ps p.told.pools (journals p) (report_line p q)
+  told_now : (q : ℕ) → q < partitions →
+      IsToldLine partitions threads (length ls + 2) (p.phase + 1) h.ps p.told.pools (journals p) (report_line p q)
   told_now q low =
       let t = h.tallied q low in
       record {
@@ -131,12 +137,14 @@ module _ (region partitions threads : ℕ) (ls : List Line) (p : Player) (h : Is
       }
 
   -- the report at the end of the phase
-  pub told_then : All (IsToldLine partitions threads (length ls + 2) (p.phase + 1) h.ps p.told.pools (journals p)) (phase_ended p).told.report
+  pub told_then : All (IsToldLine partitions threads (length ls + 2) (p.phase + 1) h.ps p.told.pools (journals p))
+      (phase_ended p).told.report
   told_then =
       let P : ReportLine → Type 0 = IsToldLine partitions threads (length ls + 2) p.phase h.ps p.told.pools (journals p) in
       let Q : ReportLine → Type 0 = IsToldLine partitions threads (length ls + 2) (p.phase + 1) h.ps p.told.pools (journals p) in
       let on : (l : ReportLine) → P l → Q l = λ l t.
-      told_stays partitions threads (length ls + 2) (length ls + 2) p.phase (p.phase + 1) h.ps p.told.pools (journals p) l (omega arith) (omega arith) t in
+      told_stays partitions threads (length ls + 2) (length ls + 2) p.phase (p.phase + 1) h.ps p.told.pools (journals p) l (omega arith)
+      (omega arith) t in
       All-append Q p.told.report (report_lines p 0 p.partitions) (All-weaker P Q on p.told.report h.reported)
       (told_all Q p 0 p.partitions (λ k lt. told_now k (omega (arith, lt, h.shaped.many))))
 
@@ -190,12 +198,15 @@ module _ (region partitions threads : ℕ) (ls : List Line) (p : Player) (h : Is
       born = h.bounded.born;
     }
 
-    begun_told : All (IsToldLine partitions threads (length (ls ++ Phase ∷ []) + 2) (p.phase + 1) h.ps p.told.pools (journals p)) (phase_ended p).told.report
+    begun_told : All (IsToldLine partitions threads (length (ls ++ Phase ∷ []) + 2) (p.phase + 1) h.ps p.told.pools (journals p))
+        (phase_ended p).told.report
     begun_told =
         let P : ReportLine → Type 0 = IsToldLine partitions threads (length ls + 2) (p.phase + 1) h.ps p.told.pools (journals p) in
-        let Q : ReportLine → Type 0 = IsToldLine partitions threads (length (ls ++ Phase ∷ []) + 2) (p.phase + 1) h.ps p.told.pools (journals p) in
+        let Q : ReportLine → Type 0 =
+        IsToldLine partitions threads (length (ls ++ Phase ∷ []) + 2) (p.phase + 1) h.ps p.told.pools (journals p) in
         let on : (l : ReportLine) → P l → Q l = λ l t.
-        told_stays partitions threads (length ls + 2) (length (ls ++ Phase ∷ []) + 2) (p.phase + 1) (p.phase + 1) h.ps p.told.pools (journals p) l (omega (arith, next)) (omega arith) t in
+        told_stays partitions threads (length ls + 2) (length (ls ++ Phase ∷ []) + 2) (p.phase + 1) (p.phase + 1) h.ps p.told.pools
+        (journals p) l (omega (arith, next)) (omega arith) t in
         All-weaker P Q on (phase_ended p).told.report told_then
 
     begun : IsPlaying region partitions threads (ls ++ Phase ∷ []) (phase_begun p)
@@ -207,7 +218,8 @@ module _ (region partitions threads : ℕ) (ls : List Line) (p : Player) (h : Is
       phase = omega (arith, h.phase, phases_begin ls);
       placed = subst (λ n. IsPlacedTo partitions n h.ps p.told.pools (journals p) (caches p)) next_line
           (line_passes.placed partitions (length ls + 2) h.ps p.told.pools (journals p) (caches p) h.placed);
-      pooled = subst (λ n. IsPooledTo region n p.told.pools (journals p)) next_line (line_passes.pooled region (length ls + 2) p.told.pools (journals p) h.pooled);
+      pooled = subst (λ n. IsPooledTo region n p.told.pools (journals p)) next_line
+          (line_passes.pooled region (length ls + 2) p.told.pools (journals p) h.pooled);
       roots = h.roots;
       plan = h.plan;
       slots = h.slots;
@@ -236,7 +248,8 @@ phase_plays p region partitions threads ls can = (
 )
 
 -- what the end of a phase asks
-pub end_ready : (region partitions threads : ℕ) (ls : List Line) (p : Player) → length ls ≤ 65535 → IsPlaying region partitions threads ls p → CanEnd p
+pub end_ready : (region partitions threads : ℕ) (ls : List Line) (p : Player) → length ls ≤ 65535 →
+    IsPlaying region partitions threads ls p → CanEnd p
 end_ready region partitions threads ls p few h = record {
   four = omega (arith, h.shaped.many, h.shaped.four);
   roots = omega (arith, h.shaped.many, h.shaped.roots);

@@ -76,7 +76,8 @@ pub record IsBackIn (p m : Player) (n q : ℕ) (xs : List Numbered) : Type 0 whe
   pub there : (k : ℕ) → (k ≡ q → ⊥) → root_of m k ≡ root_of p k
   pub journals : (k : ℕ) → journals m k ≡ grown (journals p) n (only_in q (gives xs)) k
 
-pub gave_back_in : (p : Player) (q : ℕ) (ys : List ℕ) → q < length p.told.journals → q < length p.heap.roots → IsBackIn p (gave_back q ys p) p.told.line q (map (numbered_at p.table) ys)
+pub gave_back_in : (p : Player) (q : ℕ) (ys : List ℕ) → q < length p.told.journals → q < length p.heap.roots →
+    IsBackIn p (gave_back q ys p) p.told.line q (map (numbered_at p.table) ys)
 gave_back_in p q ys low inside =
     let xs = map (numbered_at p.table) ys in
     let r = all_returned (names xs) (root_of p q) in
@@ -109,7 +110,8 @@ none_back p n q = record {
   journals = λ k. sym (append-nil (journals p k)) ∙ of_only (λ bs. journals p k ++ [] ≡ grown (journals p) n (λ _. bs) k) q [] refl refl k;
 }
 
-pub back_told : (p m : Player) (n q : ℕ) (xs : List Numbered) → length xs ≤ 4096 → IsBackIn p m n q xs → TellsMore p m n [] (only_in q (gives xs))
+pub back_told : (p m : Player) (n q : ℕ) (xs : List Numbered) → length xs ≤ 4096 → IsBackIn p m n q xs →
+    TellsMore p m n [] (only_in q (gives xs))
 back_told p m n q xs few back = record {
   entries = back.entries;
   report = back.report;
@@ -120,7 +122,8 @@ back_told p m n q xs few back = record {
   journals = back.journals;
   histories = λ k. inl (ap (λ (hs : List (List CellEntry)). slice_index_or hs k []) back.histories);
   few = of_only (λ bs. length bs ≤ 512) q (gives xs) (let f = gives_few xs in omega arith) (omega arith);
-  printable = of_only (λ bs. (a : RootAct) → Contains bs a → NamesSlots a) q (gives xs) (gives_names xs) (λ a among. absurd (not_in_none a among));
+  printable = of_only (λ bs. (a : RootAct) → Contains bs a → NamesSlots a) q (gives xs) (gives_names xs)
+      (λ a among. absurd (not_in_none a among));
 }
 
 -- the root after slots that were out went back
@@ -143,7 +146,8 @@ mapped_maps r after x None e h = λ used. subst (λ (ts : List Title). Contains 
 -- ---- the step
 
 -- A step of the thread on the slot in a place returned it: the slot is y then, and a register and the tallies are these.
-pub record IsReturn (region partitions threads : ℕ) (ls : List Line) (p : Player) (h : IsPlaying region partitions threads ls p) (thread : ℕ) (op : Op) (i : ℕ) (y : Slot)
+pub record IsReturn (region partitions threads : ℕ) (ls : List Line) (p : Player) (h : IsPlaying region partitions threads ls p)
+    (thread : ℕ) (op : Op) (i : ℕ) (y : Slot)
     (registers : List (List (Register ℕ))) (lives waits : Tallies) : Type 0 where
   pub step : Step
   pub after : Shown
@@ -152,7 +156,8 @@ pub record IsReturn (region partitions threads : ℕ) (ls : List Line) (p : Play
   pub idle : held_of y.word.0 + refs_of y.word.0 ≡ 0
   pub makes : step_of op ≡ Some step
   pub returning : IsReturning step (slot_at p.table i).word.0
-  pub told : mark_of (played_at after.rules ls thread op (Done (seen_at p.table i))) ≡ Some (mark_at (length ls + 2) (seen_at p.table i) (Some step))
+  pub told : mark_of (played_at after.rules ls thread op (Done (seen_at p.table i))) ≡ Some
+      (mark_at (length ls + 2) (seen_at p.table i) (Some step))
   pub turn : LeadsTo threads ls h.ps thread op (Done (seen_at p.table i)) after
   pub like : IsLike after (shown (changed_at p i y registers lives waits))
   pub shaped : AreShaped partitions threads (changed_at p i y registers lives waits)
@@ -161,8 +166,10 @@ pub record IsReturn (region partitions threads : ℕ) (ls : List Line) (p : Play
   pub quarantined : (k : ℕ) → k < partitions → IsTallyMore enters leaves (set p.table i y) k
       (mark_of (played_at after.rules ls thread op (Done (seen_at p.table i)))) (tally_at p.quarantined.of k) (tally_at waits.of k)
 
-module _ (region partitions threads : ℕ) (ls : List Line) (p : Player) (thread : ℕ) (op : Op) (can : CanGoOn region partitions threads ls (Do thread op) p)
-    (reg i : ℕ) (small : reg < 64) (points : Points (register_at p thread reg) i) (y : Slot) (registers : List (List (Register ℕ))) (lives waits : Tallies)
+module _ (region partitions threads : ℕ) (ls : List Line) (p : Player) (thread : ℕ) (op : Op)
+    (can : CanGoOn region partitions threads ls (Do thread op) p)
+    (reg i : ℕ) (small : reg < 64) (points : Points (register_at p thread reg) i) (y : Slot) (registers : List (List (Register ℕ)))
+    (lives waits : Tallies)
     (r : IsReturn region partitions threads ls p can.playing thread op i y registers lives waits) where
   abbrev pub h : IsPlaying region partitions threads ls p
   h = can.playing
@@ -198,7 +205,13 @@ module _ (region partitions threads : ℕ) (ls : List Line) (p : Player) (thread
   x = played_at r.after.rules ls thread op (Done seen)
 
   pub returns : Returns h.ps x seen
-  returns = record { step = r.step; answer = refl; makes = r.makes; returning = r.returning; word = has_word region partitions threads ls p h i inside }
+  returns = record {
+    step = r.step;
+    answer = refl;
+    makes = r.makes;
+    returning = r.returning;
+    word = has_word region partitions threads ls p h i inside;
+  }
 
   -- the slot at the number that its step left
   pub numbered_then : numbered_at table i ≡ returned_by seen
@@ -211,7 +224,8 @@ module _ (region partitions threads : ℕ) (ls : List Line) (p : Player) (thread
   -- the slots with the step made, before any goes back
   pub stepped_slots : AreAllSlots p.version partitions table p.told.pools (journals p) (root_of p)
   stepped_slots =
-      all_slots_set partitions p.table p.told.pools (journals p) (root_of p) i y h.slots inside r.same (used_away region partitions threads ls p h i inside used).none
+      all_slots_set partitions p.table p.told.pools (journals p) (root_of p) i y h.slots inside r.same
+      (used_away region partitions threads ls p h i inside used).none
       (idle_mapped (root_of p home) y y.class r.idle)
     where
       idle_mapped : (root : Root) (z : Slot) (class : Option ℕ) → held_of z.word.0 + refs_of z.word.0 ≡ 0 → IsMappedAs root z class
@@ -237,23 +251,29 @@ module _ (region partitions threads : ℕ) (ls : List Line) (p : Player) (thread
     front =
         let inner : home < p.partitions = subst (λ z. home < z) (sym h.shaped.many) low in
         let same : map (numbered_at table) old ≡ caches p thread home class =
-        sym (caches_here (record p { table = table }) thread home class inner of_class.0) ∙ lists_kept region partitions threads ls p thread op can reg i small points y thread home class in
+        sym (caches_here (record p { table = table }) thread home class inner of_class.0) ∙
+        lists_kept region partitions threads ls p thread op can reg i small points y thread home class in
         ap (λ m. m ∷ map (numbered_at table) old) numbered_then ∙ ap (λ ms. returned_by seen ∷ ms) same
 
     pub out_and_called : AreOut (root_at p.told.pools (journals p) home) (returned_by seen ∷ caches p thread home class)
-        × IsCalled region partitions n x p.told.pools [] (journals p) home (gives (spilled class (returned_by seen ∷ caches p thread home class))) (caches p thread)
+        × IsCalled region partitions n x p.told.pools [] (journals p) home
+        (gives (spilled class (returned_by seen ∷ caches p thread home class))) (caches p thread)
         (with_list (caches p thread) home class (kept class (returned_by seen ∷ caches p thread home class)))
-        (all_returned (names (spilled class (returned_by seen ∷ caches p thread home class))) (root_at p.told.pools (journals p) home)) (pool_at region p.told.pools)
+        (all_returned (names (spilled class (returned_by seen ∷ caches p thread home class))) (root_at p.told.pools (journals p) home))
+        (pool_at region p.told.pools)
     out_and_called =
-        return_is_done region partitions n home class ls h.ps x p.told.pools (journals p) (caches p) seen (so_far region partitions threads ls p h) refl returns of_class.1
+        return_is_done region partitions n home class ls h.ps x p.told.pools (journals p) (caches p) seen
+        (so_far region partitions threads ls p h) refl returns of_class.1
 
     -- each slot of the list is of its partition and class
-    pub among_old : (j : ℕ) → Contains (i ∷ old) j → (j < length table) × ((slot_at table j).partition ≡ home) × ((slot_at table j).class ≡ Some class)
+    pub among_old : (j : ℕ) → Contains (i ∷ old) j → (j < length table) × ((slot_at table j).partition ≡ home) ×
+        ((slot_at table j).class ≡ Some class)
     among_old j among =
         let keeps : KeepsSlots p.table table = keeps_set p.table i y inside r.same in
         let there : (j < length p.table) × ((slot_at p.table j).partition ≡ home) × ((slot_at p.table j).class ≡ Some class) =
         elim (in_cases i j old among) [
-          | inl e ↦ subst (λ z. (z < length p.table) × ((slot_at p.table z).partition ≡ home) × ((slot_at p.table z).class ≡ Some class)) e (inside, refl, is_class)
+          | inl e ↦ subst (λ z. (z < length p.table) × ((slot_at p.table z).partition ≡ home) × ((slot_at p.table z).class ≡ Some class)) e
+              (inside, refl, is_class)
           | inr rest ↦ h.shaped.listed thread home class j below low of_class.0 rest
         ] in
         (omega (arith, there.0, keeps.longer), keeps.partition j there.0 ∙ there.1, keeps.class j there.0 ∙ there.2)
@@ -265,15 +285,18 @@ module _ (region partitions threads : ℕ) (ls : List Line) (p : Player) (thread
 
     -- What stays of the list and what goes back, and the player final.
     module _ (stays back : List ℕ) (heap : Heap) (told : Lists) (lists : List (List ℕ)) (cached : Tallies)
-        (was_back : IsBackIn p (record stepped { heap = heap; told = told; caches = lists; cached = cached }) n home (map (numbered_at table) back))
+        (was_back : IsBackIn p (record stepped { heap = heap; told = told; caches = lists; cached = cached }) n home
+        (map (numbered_at table) back))
         (stays_is : map (numbered_at table) stays ≡ kept class (map (numbered_at table) (i ∷ old)))
         (back_is : map (numbered_at table) back ≡ spilled class (map (numbered_at table) (i ∷ old)))
         (stays_of : (j : ℕ) → Contains stays j → Contains (i ∷ old) j) (back_of : (j : ℕ) → Contains back j → Contains (i ∷ old) j)
         (short : length stays ≤ limit_of class) (parts : length stays + length back ≡ length old + 1)
         (set_lists : lists ≡ set p.caches (list_place p.version p.partitions thread home class) stays)
-        (retallied : IsRetallied home (length (caches p thread home class)) (length (map (numbered_at table) stays)) (slot_of class * length (caches p thread home class))
+        (retallied : IsRetallied home (length (caches p thread home class)) (length (map (numbered_at table) stays))
+        (slot_of class * length (caches p thread home class))
         (slot_of class * length (map (numbered_at table) stays)) p.cached.of cached.of)
-        (four : length cached.of ≡ 4) (many_journals : length told.journals ≡ length p.told.journals) (many_roots : length heap.roots ≡ length p.heap.roots) where
+        (four : length cached.of ≡ 4) (many_journals : length told.journals ≡ length p.told.journals)
+        (many_roots : length heap.roots ≡ length p.heap.roots) where
       abbrev final : Player
       final = record stepped { heap = heap; told = told; caches = lists; cached = cached }
 
@@ -288,21 +311,28 @@ module _ (region partitions threads : ℕ) (ls : List Line) (p : Player) (thread
 
       out_here : AreOut (root_of p home) gone
       out_here =
-          let whole = spilled_out (root_at p.told.pools (journals p) home) class (returned_by seen ∷ caches p thread home class) out_and_called.0 in
-          subst (λ z. AreOut z gone) (sym (h.roots home)) (subst (λ z. AreOut (root_at p.told.pools (journals p) home) z) spilled_here whole)
+          let whole = spilled_out (root_at p.told.pools (journals p) home) class
+          (returned_by seen ∷ caches p thread home class) out_and_called.0 in
+          subst (λ z. AreOut z gone) (sym (h.roots home))
+          (subst (λ z. AreOut (root_at p.told.pools (journals p) home) z) spilled_here whole)
 
       called : IsCalled region partitions n x p.told.pools [] (journals p) home (gives gone) (caches p thread)
           (with_list (caches p thread) home class (map (numbered_at table) stays)) (all_returned (names gone) (root_of p home)) p.heap.pool
       called =
-          let C : List Numbered → List Numbered → Root → Type 0 = λ z k s. IsCalled region partitions n x p.told.pools [] (journals p) home (gives z) (caches p thread)
+          let C : List Numbered → List Numbered → Root → Type 0 =
+          λ z k s. IsCalled region partitions n x p.told.pools [] (journals p) home (gives z) (caches p thread)
           (with_list (caches p thread) home class k) (all_returned (names z) s) p.heap.pool in
-          let first : C (spilled class (returned_by seen ∷ caches p thread home class)) (kept class (returned_by seen ∷ caches p thread home class)) (root_at p.told.pools (journals p) home) =
-          subst (λ z. IsCalled region partitions n x p.told.pools [] (journals p) home (gives (spilled class (returned_by seen ∷ caches p thread home class))) (caches p thread)
+          let first : C (spilled class (returned_by seen ∷ caches p thread home class))
+          (kept class (returned_by seen ∷ caches p thread home class)) (root_at p.told.pools (journals p) home) =
+          subst (λ z. IsCalled region partitions n x p.told.pools [] (journals p) home
+          (gives (spilled class (returned_by seen ∷ caches p thread home class))) (caches p thread)
           (with_list (caches p thread) home class (kept class (returned_by seen ∷ caches p thread home class)))
-          (all_returned (names (spilled class (returned_by seen ∷ caches p thread home class))) (root_at p.told.pools (journals p) home)) z) (sym h.plan) out_and_called.1 in
+          (all_returned (names (spilled class (returned_by seen ∷ caches p thread home class))) (root_at p.told.pools (journals p) home)) z)
+          (sym h.plan) out_and_called.1 in
           subst (λ s. C gone (map (numbered_at table) stays) s) (sym (h.roots home))
           (subst (λ k. C gone k (root_at p.told.pools (journals p) home)) kept_here
-          (subst (λ z. C z (kept class (returned_by seen ∷ caches p thread home class)) (root_at p.told.pools (journals p) home)) spilled_here first))
+          (subst (λ z. C z (kept class (returned_by seen ∷ caches p thread home class)) (root_at p.told.pools (journals p) home))
+          spilled_here first))
 
       sound : IsSound (root_of p home)
       sound = subst IsSound (sym (h.roots home)) (journal_leaves p.told.pools (journals p home) (h.placed.journals home)).sound
@@ -319,18 +349,22 @@ module _ (region partitions threads : ℕ) (ls : List Line) (p : Player) (thread
 
       maps_then : (k : ℕ) → (root_of final k).maps ≡ (root_of p k).maps
       maps_then k = elim (cases_eq k home) [
-        | inl e ↦ subst (λ j. (root_of final j).maps ≡ (root_of p j).maps) (sym e) (ap (λ (z : Root). z.maps) was_back.here ∙ root_then.maps)
+        | inl e ↦ subst (λ j. (root_of final j).maps ≡ (root_of p j).maps) (sym e)
+            (ap (λ (z : Root). z.maps) was_back.here ∙ root_then.maps)
         | inr ne ↦ ap (λ (z : Root). z.maps) (was_back.there k ne)
       ]
 
       heap_then : HasHeap region p final n [] (only_in home (gives gone))
       heap_then =
-          heap_called region partitions n x p final [] home (gives gone) (caches p thread) (with_list (caches p thread) home class (map (numbered_at table) stays))
+          heap_called region partitions n x p final [] home (gives gone) (caches p thread)
+          (with_list (caches p thread) home class (map (numbered_at table) stays))
           (all_returned (names gone) (root_of p home)) p.heap.pool called h.roots was_back.here was_back.there was_back.pool
           (omega (arith, root_then.turn, few_gone)) (omega arith)
-          (born_same p.heap.pool.entries (root_of p home) (all_returned (names gone) (root_of p home)) root_then.supers root_then.maps (h.bounded.born home)) h.bounded.born
+          (born_same p.heap.pool.entries (root_of p home) (all_returned (names gone) (root_of p home)) root_then.supers root_then.maps
+          (h.bounded.born home)) h.bounded.born
 
-      lists_then : (t k c : ℕ) → caches final t k c ≡ with_cache (caches p) thread (with_list (caches p thread) home class (map (numbered_at table) stays)) t k c
+      lists_then : (t k c : ℕ) →
+          caches final t k c ≡ with_cache (caches p) thread (with_list (caches p thread) home class (map (numbered_at table) stays)) t k c
       lists_then =
           let at_most : home < p.partitions = subst (λ z. home < z) (sym h.shaped.many) low in
           let room : list_place p.version p.partitions thread home class < length p.caches =
@@ -339,7 +373,8 @@ module _ (region partitions threads : ℕ) (ls : List Line) (p : Player) (thread
           caches_changed p final thread home class stays refl refl at_most of_class.0
           (this_list p final thread home class stays refl refl set_lists room)
           (λ u k c within real other.
-          let stays_there : list_at final u k c ≡ list_at p u k c = other_list p final thread home class u k c stays refl refl set_lists at_most of_class.0 within real other in
+          let stays_there : list_at final u k c ≡ list_at p u k c =
+          other_list p final thread home class u k c stays refl refl set_lists at_most of_class.0 within real other in
           ap (map (numbered_at table)) stays_there
           ∙ sym (caches_here (record p { table = table }) u k c within real)
           ∙ lists_kept region partitions threads ls p thread op can reg i small points y u k c
@@ -347,26 +382,34 @@ module _ (region partitions threads : ℕ) (ls : List Line) (p : Player) (thread
 
       counted_then : AreCounted partitions threads final
       counted_then =
-          counted_changed partitions threads thread home class p final (map (numbered_at table) stays) below (real_in p.version class of_class.0)
+          counted_changed partitions threads thread home class p final (map (numbered_at table) stays) below
+          (real_in p.version class of_class.0)
           (record { many = λ k fits. (h.tallied k fits).many; bytes = λ k fits. (h.tallied k fits).bytes }) lists_then retallied
 
       shaped_then : AreShaped partitions threads final
       shaped_then =
-          let listed_then : AreShaped partitions threads (record stepped { caches = set p.caches (list_place p.version p.partitions thread home class) stays }) =
-          shaped_listed partitions threads stepped r.shaped thread home class stays below low of_class.0 (λ j among. among_old j (stays_of j among)) short in
+          let listed_then : AreShaped partitions threads
+          (record stepped { caches = set p.caches (list_place p.version p.partitions thread home class) stays }) =
+          shaped_listed partitions threads stepped r.shaped thread home class stays below low of_class.0
+          (λ j among. among_old j (stays_of j among)) short in
           let set_then : AreShaped partitions threads (record stepped { caches = lists }) =
           subst (λ z. AreShaped partitions threads (record stepped { caches = z })) (sym set_lists) listed_then in
           let cached_then : AreShaped partitions threads (record stepped { caches = lists; cached = cached }) = shaped_cached partitions
           threads (record stepped { caches = lists }) set_then cached.of four in
           let told_then : AreShaped partitions threads (record stepped { caches = lists; cached = cached; told = told }) =
-          shaped_told partitions threads (record stepped { caches = lists; cached = cached }) cached_then told many_journals (ap length was_back.histories) in
-          shaped_heap partitions threads (record stepped { caches = lists; cached = cached; told = told }) told_then heap.pool heap.roots many_roots
+          shaped_told partitions threads (record stepped { caches = lists; cached = cached }) cached_then told many_journals
+          (ap length was_back.histories) in
+          shaped_heap partitions threads
+          (record stepped { caches = lists; cached = cached; told = told }) told_then heap.pool heap.roots many_roots
 
-      slots_then : AreAllSlots p.version partitions table (p.told.pools ++ []) (grown (journals p) n (only_in home (gives gone))) (root_of final)
+      slots_then : AreAllSlots p.version partitions table (p.told.pools ++ []) (grown (journals p) n (only_in home (gives gone)))
+          (root_of final)
       slots_then =
           slots_back partitions table p.told.pools [] (journals p) (root_of p) (root_of final) n (only_in home (gives gone)) stepped_slots
-          (of_only (AllComeBack table) home (gives gone) (numbered_back table back (λ j among. (among_old j (back_of j among)).0)) (λ a among. absurd (not_in_none a among)))
-          (λ j there. mapped_maps (root_of p (slot_at table j).partition) (root_of final (slot_at table j).partition) (slot_at table j) (slot_at table j).class
+          (of_only (AllComeBack table) home (gives gone) (numbered_back table back (λ j among. (among_old j (back_of j among)).0))
+          (λ a among. absurd (not_in_none a among)))
+          (λ j there. mapped_maps (root_of p (slot_at table j).partition) (root_of final (slot_at table j).partition) (slot_at table j)
+          (slot_at table j).class
           (maps_then (slot_at table j).partition) (stepped_slots.mapped j there))
 
       like_then : IsLike r.after (shown final)

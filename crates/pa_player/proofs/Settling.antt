@@ -20,22 +20,26 @@ use Rattle.pa_rules.specs.Sizes.{class_total}
 pub given_settled : (thread q class n : ℕ) (p : Player) → told_before (given_from thread q class n p).told ≡ told_before p.told
 unfolding given_from
 given_settled thread q class zero p = refl
-given_settled thread q class (suc n) p = given_settled thread q (class + 1) n (given q (list_place p.version p.partitions thread q class) 0 p)
+given_settled thread q class (suc n) p =
+    given_settled thread q (class + 1) n (given q (list_place p.version p.partitions thread q class) 0 p)
 
 pub lists_settled : (thread q n : ℕ) (p s : Player) (slots : ℕ) → IsGivenTo thread q n p s slots → told_before s.told ≡ told_before p.told
 lists_settled thread q n p s slots h =
-    sym (given_settled thread q n (past_class p.version - n) s) ∙ ap (λ (z : Player). told_before z.told) h.rest ∙ given_settled thread q (first_class p.version) (class_total p.version) p
+    sym (given_settled thread q n (past_class p.version - n) s) ∙ ap (λ (z : Player). told_before z.told) h.rest ∙
+    given_settled thread q (first_class p.version) (class_total p.version) p
 
 -- some partitions were purged
 purged_settled : (thread q n : ℕ) (p : Player) → told_before (purged_from thread q n p).told ≡ told_before p.told
 unfolding purged_from
 purged_settled thread q zero p = refl
 purged_settled thread q (suc n) p =
-    purged_settled thread (q + 1) n (purged_with q (given_all thread q p)) ∙ given_settled thread q (first_class p.version) (class_total p.version) p
+    purged_settled thread (q + 1) n (purged_with q (given_all thread q p)) ∙
+    given_settled thread q (first_class p.version) (class_total p.version) p
 
 pub partitions_settled : (thread n : ℕ) (p s : Player) (slots : ℕ) → IsPurgedTo thread n p s slots → told_before s.told ≡ told_before p.told
 partitions_settled thread n p s slots h =
-    sym (purged_settled thread n (p.partitions - n) s) ∙ ap (λ (z : Player). told_before z.told) h.rest ∙ purged_settled thread 0 p.partitions p
+    sym (purged_settled thread n (p.partitions - n) s) ∙ ap (λ (z : Player). told_before z.told) h.rest ∙
+    purged_settled thread 0 p.partitions p
 
 -- a whole op was played, before it is recorded
 pub op_settled : (p : Player) (thread : ℕ) (op : Op) (q : Player) (answer : Answer) → IsReady (Do thread op) p → Plays p thread op q answer

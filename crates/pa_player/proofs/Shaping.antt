@@ -20,7 +20,8 @@ use Rattle.pa_player.proofs.OneList.{same_place}
 use Rattle.pa_rules.specs.Sizes.{HasClass}
 
 -- what is in a place of a list in which one was set
-pub set_cases : {X : Type 0} (xs : List X) (i j : ℕ) (y d : X) → ((j ≡ i) × (get_or (set xs i y) j d ≡ y)) ⊎ (get_or (set xs i y) j d ≡ get_or xs j d)
+pub set_cases : {X : Type 0} (xs : List X) (i j : ℕ) (y d : X) → ((j ≡ i) × (get_or (set xs i y) j d ≡ y)) ⊎
+    (get_or (set xs i y) j d ≡ get_or xs j d)
 set_cases {X} xs i j y d = elim (cases_lt i (length xs)) [
   | inl low ↦ elim (cases_eq j i) [
     | inl e ↦
@@ -32,7 +33,8 @@ set_cases {X} xs i j y d = elim (cases_lt i (length xs)) [
 ]
 
 -- the length of a row of rows, in which one was set by another of the same length
-pub rows_set : {X : Type 0} (xs : List (List X)) (i j : ℕ) (ys : List X) → length ys ≡ length (get_or xs i []) → length (get_or (set xs i ys) j []) ≡ length (get_or xs j [])
+pub rows_set : {X : Type 0} (xs : List (List X)) (i j : ℕ) (ys : List X) → length ys ≡ length (get_or xs i []) →
+    length (get_or (set xs i ys) j []) ≡ length (get_or xs j [])
 rows_set {X} xs i j ys same = elim (set_cases xs i j ys []) [
   | inl h ↦
       let P : ℕ → Type 0 = λ k. length (get_or (set xs i ys) j []) ≡ length (get_or xs k []) in
@@ -104,7 +106,8 @@ module _ (partitions threads : ℕ) (p : Player) (h : AreShaped partitions threa
         ];
       }
 
-  pub shaped_celled : (k : ℕ) (x : Register ℕ) → IsIn (length p.table) x → handle_in x ≡ x → AreShaped partitions threads (record p { cells = set p.cells k x })
+  pub shaped_celled : (k : ℕ) (x : Register ℕ) → IsIn (length p.table) x → handle_in x ≡ x →
+      AreShaped partitions threads (record p { cells = set p.cells k x })
   shaped_celled k x among handle = record {
     many = h.many;
     four = h.four;
@@ -137,8 +140,10 @@ module _ (partitions threads : ℕ) (p : Player) (h : AreShaped partitions threa
       → length xs ≤ limit_of class → AreShaped partitions threads (listed (list_place p.version p.partitions t q class) xs p)
   shaped_listed t q class xs below low real each few =
       let at = list_place p.version p.partitions t q class in
-      let where_is : (u k c : ℕ) → k < partitions → HasClass p.version c → list_place p.version p.partitions u k c ≡ at → (u ≡ t) × (k ≡ q) × (c ≡ class) =
-      λ u k c inside within e. same_place p.version p.partitions u k c t q class (omega (arith, inside, h.many)) (omega (arith, low, h.many)) within real e in
+      let where_is : (u k c : ℕ) → k < partitions → HasClass p.version c → list_place p.version p.partitions u k c ≡ at → (u ≡ t) ×
+      (k ≡ q) × (c ≡ class) =
+      λ u k c inside within e. same_place p.version p.partitions u k c t q class (omega (arith, inside, h.many))
+      (omega (arith, low, h.many)) within real e in
       record {
         many = h.many;
         four = h.four;
@@ -169,7 +174,8 @@ module _ (partitions threads : ℕ) (p : Player) (h : AreShaped partitions threa
               let limit : limit_of class ≡ limit_of c = ap limit_of (sym same) in
               omega (arith, long, limit, few)
           | inr old ↦
-              let long : length (get_or (set p.caches at xs) (list_place p.version p.partitions u k c) []) ≡ length (list_at p u k c) = ap length old in
+              let long : length (get_or (set p.caches at xs) (list_place p.version p.partitions u k c) []) ≡ length (list_at p u k c) =
+              ap length old in
               omega (arith, long, h.short u k c lower inside within)
         ];
       }

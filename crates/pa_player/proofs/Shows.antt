@@ -70,22 +70,26 @@ gain test weight (Some m) = if at_step test m.found m.step then weight m.slot el
 -- a tally before and after a mark: what goes in and out by it
 pub record IsTallyMore (into out : Step → ℕ → Bool) (table : List Slot) (k : ℕ) (o : Option Mark) (before after : Tally) : Type 0 where
   pub slots : after.slots + gain out (one_of (home_in table) k) o ≡ before.slots + gain into (one_of (home_in table) k) o
-  pub bytes : after.bytes + gain out (bytes_of (home_in table) (len_in table) k) o ≡ before.bytes + gain into (bytes_of (home_in table) (len_in table) k) o
+  pub bytes : after.bytes + gain out (bytes_of (home_in table) (len_in table) k) o ≡ before.bytes + gain into
+      (bytes_of (home_in table) (len_in table) k) o
 
 -- the tallies count the mark, and what the lists have
 pub record CountsMore (partitions threads : ℕ) (p q : Player) (o : Option Mark) : Type 0 where
   pub live : (k : ℕ) → k < partitions → IsTallyMore issues frees q.table k o (tally_at p.live.of k) (tally_at q.live.of k)
-  pub quarantined : (k : ℕ) → k < partitions → IsTallyMore enters leaves q.table k o (tally_at p.quarantined.of k) (tally_at q.quarantined.of k)
+  pub quarantined : (k : ℕ) → k < partitions →
+      IsTallyMore enters leaves q.table k o (tally_at p.quarantined.of k) (tally_at q.quarantined.of k)
   pub many : (k : ℕ) → k < partitions → (tally_at q.cached.of k).slots ≡ cached_slots (caches q) k threads
   pub bytes : (k : ℕ) → k < partitions → (tally_at q.cached.of k).bytes ≡ cached_bytes (caches q) k threads
 
 -- An op was played: its deed, its turn, and the tables after it.
-pub record IsPlayed (region partitions threads : ℕ) (ls : List Line) (p q : Player) (h : IsPlaying region partitions threads ls p) (thread : ℕ) (op : Op) (answer : Answer) : Type 0 where
+pub record IsPlayed (region partitions threads : ℕ) (ls : List Line) (p q : Player) (h : IsPlaying region partitions threads ls p)
+    (thread : ℕ) (op : Op) (answer : Answer) : Type 0 where
   pub more : List PoolEntry
   pub acts : Acts
   pub next : Cache
   pub after : Shown
-  pub done : IsDone region partitions (length ls + 2) (played_at after.rules ls thread op answer) p.told.pools more (journals p) acts (caches p thread) next
+  pub done : IsDone region partitions (length ls + 2) (played_at after.rules ls thread op answer) p.told.pools more (journals p) acts
+      (caches p thread) next
   pub turn : LeadsTo threads ls h.ps thread op answer after
   pub like : IsLike after (shown q)
   pub lists : (t k class : ℕ) → caches q t k class ≡ with_cache (caches p) thread next t k class

@@ -82,7 +82,8 @@ pub record IsSame (x y : Slot) : Type 0 where
   pub partition : y.partition ≡ x.partition
   pub class : y.class ≡ x.class
 
-keeps_at : {X : Type 0} (f : Slot → X) (slots : List Slot) (i j : ℕ) (y : Slot) → f y ≡ f (slot_at slots i) → i < length slots → f (slot_at (set slots i y) j) ≡ f (slot_at slots j)
+keeps_at : {X : Type 0} (f : Slot → X) (slots : List Slot) (i j : ℕ) (y : Slot) → f y ≡ f (slot_at slots i) → i < length slots →
+    f (slot_at (set slots i y) j) ≡ f (slot_at slots j)
 keeps_at {X} f slots i j y e l = elim (cases_eq j i) [
   | inl same ↦
       let P : ℕ → Type 0 = λ k. f (slot_at (set slots i y) k) ≡ f (slot_at slots k) in
@@ -108,7 +109,8 @@ keeps_push slots x = record {
 }
 
 -- the place of a home, and its name
-pub home_place : (before after : List Slot) (new : Slot) (place : ℕ) → IsHome before after new place → IsPlaceOf after (name_of new.title) place
+pub home_place : (before after : List Slot) (new : Slot) (place : ℕ) → IsHome before after new place →
+    IsPlaceOf after (name_of new.title) place
 home_place before after new place (inl h) =
     let P : List Slot → Type 0 = λ z. IsPlaceOf z (name_of new.title) place in
     subst P (sym h.0) (h.1, h.2)
@@ -119,7 +121,8 @@ home_place before after new place (inr h) =
 
 -- ---- each slot has a name of its own
 
-pub named_as : (slots : List Slot) (i : ℕ) (y : Slot) → AreNamed slots → i < length slots → IsSame (slot_at slots i) y → AreNamed (set slots i y)
+pub named_as : (slots : List Slot) (i : ℕ) (y : Slot) → AreNamed slots → i < length slots → IsSame (slot_at slots i) y →
+    AreNamed (set slots i y)
 named_as slots i y named l same j k lj lk e =
     let a = named_set slots i j y l (ap name_of same.title) in
     let b = named_set slots i k y l (ap name_of same.title) in
@@ -128,8 +131,10 @@ named_as slots i y named l same j k lj lk e =
 named_push : (slots : List Slot) (x : Slot) → AreNamed slots → NoneNamed slots (name_of x.title) → AreNamed (slots ++ x ∷ [])
 named_push slots x named none i j li lj e =
     let n = length_push slots x in
-    let old : (k : ℕ) → k < length slots → named_at (slots ++ x ∷ []) k ≡ named_at slots k = λ k l. keeps_named slots (slots ++ x ∷ []) k (keeps_push slots x) l in
-    let new : (k : ℕ) → length slots ≡ k → named_at (slots ++ x ∷ []) k ≡ name_of x.title = λ k is. ap (λ (z : Slot). name_of z.title) (get_or_push slots x no_slot k is) in
+    let old : (k : ℕ) → k < length slots → named_at (slots ++ x ∷ []) k ≡ named_at slots k =
+    λ k l. keeps_named slots (slots ++ x ∷ []) k (keeps_push slots x) l in
+    let new : (k : ℕ) → length slots ≡ k → named_at (slots ++ x ∷ []) k ≡ name_of x.title =
+    λ k is. ap (λ (z : Slot). name_of z.title) (get_or_push slots x no_slot k is) in
     elim (cases_lt i (length slots)) [
       | inl a ↦ elim (cases_lt j (length slots)) [
         | inl b ↦ named i j a b (sym (old i a) ∙ e ∙ old j b)
@@ -148,31 +153,37 @@ named_home before after new place named (inr h) = subst AreNamed (sym h.0) (name
 -- ---- what is said of a slot by its name
 
 -- one slot is changed
-pub by_name_set : {X : Type 0} (f : Slot → X) (slots : List Slot) (i : ℕ) (y : Slot) (s : SlotName) → AreNamed slots → i < length slots → IsSame (slot_at slots i) y
+pub by_name_set : {X : Type 0} (f : Slot → X) (slots : List Slot) (i : ℕ) (y : Slot) (s : SlotName) → AreNamed slots → i < length slots →
+    IsSame (slot_at slots i) y
     → f (slot_of_name (set slots i y) s) ≡ (if same_slot s (named_at slots i) then f y else f (slot_of_name slots s))
 by_name_set {X} f slots i y s named l same =
     let after = named_as slots i y named l same in
     let name : (j : ℕ) → named_at (set slots i y) j ≡ named_at slots j = λ j. named_set slots i j y l (ap name_of same.title) in
     let n = length-set slots i y in
     elim (same_slot_cases s (named_at slots i)) [
-      | inl e ↦ rw (same_slot_yes s (named_at slots i) e) (ap f (slot_here (set slots i y) s i after (omega arith, name i ∙ sym e) ∙ get_or-set_same slots i y no_slot l))
+      | inl e ↦ rw (same_slot_yes s (named_at slots i) e)
+          (ap f (slot_here (set slots i y) s i after (omega arith, name i ∙ sym e) ∙ get_or-set_same slots i y no_slot l))
       | inr other ↦ rw (same_slot_no s (named_at slots i) other) (elim (slot_cases slots s) [
         | inl there ↦
             let j = there.0 in
             let apart : j ≡ i → ⊥ = λ e. other (sym there.1.1 ∙ ap (named_at slots) e) in
             let low = there.1.0 in
-            ap f (slot_here (set slots i y) s j after (omega arith, name j ∙ there.1.1) ∙ get_or-set_other slots i j y no_slot apart ∙ sym (slot_here slots s j named there.1))
-        | inr none ↦ ap f (slot_nowhere (set slots i y) s (λ j m e. none j (omega arith) (sym (name j) ∙ e)) ∙ sym (slot_nowhere slots s none))
+            ap f (slot_here (set slots i y) s j after (omega arith, name j ∙ there.1.1) ∙ get_or-set_other slots i j y no_slot apart ∙
+            sym (slot_here slots s j named there.1))
+        | inr none ↦ ap f (slot_nowhere (set slots i y) s (λ j m e. none j (omega arith) (sym (name j) ∙ e)) ∙
+            sym (slot_nowhere slots s none))
       ])
     ]
 
 -- a slot that was there, and stays
-pub by_name_kept : (before after : List Slot) (s : SlotName) (i : ℕ) → AreNamed before → AreNamed after → KeepsSlots before after → IsPlaceOf before s i
+pub by_name_kept : (before after : List Slot) (s : SlotName) (i : ℕ) → AreNamed before → AreNamed after → KeepsSlots before after →
+    IsPlaceOf before s i
     → (home_in after s ≡ home_in before s) × (len_in after s ≡ len_in before s) × (usable_in after s ≡ usable_in before s)
 by_name_kept before after s i named next keeps at =
     let a = slot_here before s i named at in
     let b = slot_here after s i next (omega (arith, at.0, keeps.longer), keeps_named before after i keeps at.0 ∙ at.1) in (
       ap (λ (z : Slot). z.partition) b ∙ keeps.partition i at.0 ∙ ap (λ (z : Slot). z.partition) (sym a),
       ap (λ (z : Slot). z.title.len) b ∙ ap (λ (t : Title). t.len) (keeps.title i at.0) ∙ ap (λ (z : Slot). z.title.len) (sym a),
-      ap (λ (z : Slot). z.title.len - 8) b ∙ ap (λ (t : Title). t.len - 8) (keeps.title i at.0) ∙ ap (λ (z : Slot). z.title.len - 8) (sym a),
+      ap (λ (z : Slot). z.title.len - 8) b ∙ ap (λ (t : Title). t.len - 8) (keeps.title i at.0) ∙
+          ap (λ (z : Slot). z.title.len - 8) (sym a),
     )

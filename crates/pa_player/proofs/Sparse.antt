@@ -16,26 +16,34 @@ caches_of_version : (p : Player) (t q : ℕ) → NoneButOf p.version (caches p t
 caches_of_version p t q c (inl low) = caches_none p t q c (λ a b. let from = b.0 in omega arith)
 caches_of_version p t q c (inr past) = caches_none p t q c (λ a b. let real = b.1 in let end = class_end p.version in omega arith)
 
-pub all_slots : (p : Player) (t q : ℕ) → listed_slots (caches p t q) 0 170 ≡ listed_slots (caches p t q) (first_class p.version) (class_total p.version)
+pub all_slots : (p : Player) (t q : ℕ) →
+    listed_slots (caches p t q) 0 170 ≡ listed_slots (caches p t q) (first_class p.version) (class_total p.version)
 all_slots p t q = slots_of_version p.version (caches p t q) (caches_of_version p t q)
 
-pub all_bytes : (p : Player) (t q : ℕ) → listed_bytes (λ c. length (caches p t q c)) 0 170 ≡ listed_bytes (λ c. length (caches p t q c)) (first_class p.version) (class_total p.version)
+pub all_bytes : (p : Player) (t q : ℕ) →
+    listed_bytes (λ c. length (caches p t q c)) 0 170 ≡ listed_bytes (λ c. length (caches p t q c)) (first_class p.version)
+    (class_total p.version)
 all_bytes p t q = bytes_of_version p.version (caches p t q) (caches_of_version p t q)
 
-pub all_acts : (p : Player) (t q : ℕ) → purge_acts (caches p t q) 0 170 ≡ purge_acts (caches p t q) (first_class p.version) (class_total p.version)
+pub all_acts : (p : Player) (t q : ℕ) →
+    purge_acts (caches p t q) 0 170 ≡ purge_acts (caches p t q) (first_class p.version) (class_total p.version)
 all_acts p t q = purge_of_version p.version (caches p t q) (caches_of_version p t q)
 
 none_of : (lists : ℕ → List Numbered) (from n : ℕ) → ((c : ℕ) → from ≤ c → lists c ≡ []) → all_of lists from n ≡ []
 none_of lists from zero h = refl
-none_of lists from (suc n) h = ap (λ xs. xs ++ all_of lists (from + 1) n) (h from (omega arith)) ∙ none_of lists (from + 1) n (λ c low. h c (omega arith))
+none_of lists from (suc n) h = ap (λ xs. xs ++ all_of lists (from + 1) n) (h from (omega arith)) ∙
+    none_of lists (from + 1) n (λ c low. h c (omega arith))
 
-of_first : (lists : ℕ → List Numbered) (from m n : ℕ) → ((c : ℕ) → from + m ≤ c → lists c ≡ []) → all_of lists from (m + n) ≡ all_of lists from m
-of_first lists from zero n h = let count : 0 + n ≡ n = omega arith in ap (λ k. all_of lists from k) count ∙ none_of lists from n (λ c low. h c (omega arith))
+of_first : (lists : ℕ → List Numbered) (from m n : ℕ) → ((c : ℕ) → from + m ≤ c → lists c ≡ []) →
+    all_of lists from (m + n) ≡ all_of lists from m
+of_first lists from zero n h = let count : 0 + n ≡ n = omega arith in ap (λ k. all_of lists from k) count ∙
+    none_of lists from n (λ c low. h c (omega arith))
 of_first lists from (suc m) n h =
     let next : suc m + n ≡ suc (m + n) = omega arith in
     ap (λ k. all_of lists from k) next ∙ ap (λ xs. lists from ++ xs) (of_first lists (from + 1) m n (λ c low. h c (omega arith)))
 
-of_last : (lists : ℕ → List Numbered) (from m n : ℕ) → ((c : ℕ) → from ≤ c → c < from + m → lists c ≡ []) → all_of lists from (m + n) ≡ all_of lists (from + m) n
+of_last : (lists : ℕ → List Numbered) (from m n : ℕ) → ((c : ℕ) → from ≤ c → c < from + m → lists c ≡ []) →
+    all_of lists from (m + n) ≡ all_of lists (from + m) n
 of_last lists from zero n h =
     let count : 0 + n ≡ n = omega arith in
     let start : from ≡ from + 0 = omega arith in
@@ -46,7 +54,8 @@ of_last lists from (suc m) n h =
     ap (λ k. all_of lists from k) next ∙ ap (λ xs. xs ++ all_of lists (from + 1) (m + n)) (h from (omega arith) (omega arith))
     ∙ of_last lists (from + 1) m n (λ c low high. h c (omega arith) (omega arith)) ∙ ap (λ k. all_of lists k n) place
 
-pub all_in_lists : (p : Player) (t q : ℕ) → all_of (caches p t q) 0 170 ≡ all_of (caches p t q) (first_class p.version) (class_total p.version)
+pub all_in_lists : (p : Player) (t q : ℕ) →
+    all_of (caches p t q) 0 170 ≡ all_of (caches p t q) (first_class p.version) (class_total p.version)
 all_in_lists p t q =
     let lists = caches p t q in
     let first = first_class p.version in

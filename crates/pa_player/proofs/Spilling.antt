@@ -21,7 +21,8 @@ use Rattle.pa_player.specs.declared.table.Slot.{Slot}
 use Rattle.pa_player.specs.declared.tallies.Tallies.{Tallies}
 use Rattle.pa_player.specs.Player.{Player}
 use Rattle.pa_player.specs.Tables.{slot_at, Points}
-use Rattle.pa_player.specs.Tallies.{no_tally, tally_at}
+use Rattle.pa_rules.specs.Lists.{no_tally}
+use Rattle.pa_player.specs.Tallies.{tally_at}
 use Rattle.pa_player.specs.Playing.{journals, caches, numbered_at, list_place, list_at, register_at}
 use Rattle.pa_player.specs.Changes.{seen_at, list_in, bytes_at, put_front, given, spilled_if, tallied_more, tallied_less}
 use Rattle.pa_player.specs.Plays.{CanGoOn}
@@ -35,7 +36,8 @@ use Rattle.pa_rules.proofs.Versions.{real_in}
 use Rattle.pa_rules.specs.Sizes.{HasClass}
 
 -- the bytes of slots of one length
-pub bytes_alike : (slots : List Slot) (xs : List ℕ) (len : ℕ) → ((j : ℕ) → Contains xs j → (slot_at slots j).title.len ≡ len) → bytes_at slots xs ≡ len * length xs
+pub bytes_alike : (slots : List Slot) (xs : List ℕ) (len : ℕ) → ((j : ℕ) → Contains xs j → (slot_at slots j).title.len ≡ len) →
+    bytes_at slots xs ≡ len * length xs
 bytes_alike slots [] len same = omega arith
 bytes_alike slots (x ∷ xs) len same =
     let f : ℕ → ℕ = λ j. (slot_at slots j).title.len in
@@ -55,7 +57,10 @@ retallied_both q len was gone now was_bytes ts low some many is parts =
     let here : tally_at (set ts q more) q ≡ more = get_or-set_same ts q more no_tally low in
     let a : (tally_at (set ts q more) q).slots ≡ (tally_at ts q).slots + 1 = ap (λ (t : Tally). t.slots) here in
     let b : (tally_at (set ts q more) q).bytes ≡ (tally_at ts q).bytes + len = ap (λ (t : Tally). t.bytes) here in
-    let less : Tally = record { slots = (tally_at (set ts q more) q).slots - gone; bytes = (tally_at (set ts q more) q).bytes - len * gone } in
+    let less : Tally = record {
+      slots = (tally_at (set ts q more) q).slots - gone;
+      bytes = (tally_at (set ts q more) q).bytes - len * gone;
+    } in
     let product : len * (was + 1) ≡ len * now + len * gone = ap (λ k. len * k) parts ∙ mul-add len now gone in
     let unit : len * (was + 1) ≡ len * was + len = mul-add len was 1 ∙ ap (λ k. len * was + k) (mul-one len) in
     let small : gone ≤ was + 1 = omega arith in
@@ -63,9 +68,12 @@ retallied_both q len was gone now was_bytes ts low some many is parts =
     subst (λ zs. IsRetallied q was now was_bytes (len * now) ts zs) (sym (set-set ts q more less))
     (retallied_set q was now was_bytes (len * now) ts less low (omega arith) (omega arith))
 
-module _ (region partitions threads : ℕ) (ls : List Line) (p : Player) (thread : ℕ) (op : Op) (can : CanGoOn region partitions threads ls (Do thread op) p)
-    (reg i : ℕ) (small : reg < 64) (points : Points (register_at p thread reg) i) (y : Slot) (registers : List (List (Register ℕ))) (lives waits : Tallies)
-    (r : IsReturn region partitions threads ls p can.playing thread op i y registers lives waits) (class : ℕ) (is_class : (slot_at p.table i).class ≡ Some class) where
+module _ (region partitions threads : ℕ) (ls : List Line) (p : Player) (thread : ℕ) (op : Op)
+    (can : CanGoOn region partitions threads ls (Do thread op) p)
+    (reg i : ℕ) (small : reg < 64) (points : Points (register_at p thread reg) i) (y : Slot) (registers : List (List (Register ℕ)))
+    (lives waits : Tallies)
+    (r : IsReturn region partitions threads ls p can.playing thread op i y registers lives waits) (class : ℕ)
+    (is_class : (slot_at p.table i).class ≡ Some class) where
   abbrev home : ℕ
   home = (slot_at p.table i).partition
 
@@ -100,7 +108,8 @@ module _ (region partitions threads : ℕ) (ls : List Line) (p : Player) (thread
   room : at < length p.caches
   room =
       subst (λ z. list_place p.version z thread home class < length p.caches) (sym can.playing.shaped.many)
-      (let b = place_below p.version partitions threads thread home class its_thread its_home class_of_it.0 in let c = can.playing.shaped.lists in omega arith)
+      (let b = place_below p.version partitions threads thread home class its_thread its_home class_of_it.0 in
+      let c = can.playing.shaped.lists in omega arith)
 
   inner : home < p.partitions
   inner = subst (λ z. home < z) (sym can.playing.shaped.many) its_home
@@ -112,7 +121,8 @@ module _ (region partitions threads : ℕ) (ls : List Line) (p : Player) (thread
   tallied =
       let within = list_within (caches p) threads thread home class its_thread (real_in p.version class class_of_it.0) in
       let by = can.playing.tallied home its_home in
-      let same : slot_of class * length (caches p thread home class) ≡ slot_of class * length old = ap (λ k. slot_of class * k) length_old in
+      let same : slot_of class * length (caches p thread home class) ≡ slot_of class * length old =
+      ap (λ k. slot_of class * k) length_old in
       (let a = within.0 in let b = by.many in let c = length_old in omega arith, let a = within.1 in let b = by.bytes in omega arith)
 
   four_tallies : home < length p.cached.of
@@ -123,7 +133,8 @@ module _ (region partitions threads : ℕ) (ls : List Line) (p : Player) (thread
 
   -- ---- the list is short enough
 
-  within_played : length old + 1 ≤ limit_of class → IsPlayed region partitions threads ls p put can.playing thread op (Done (seen_at p.table i))
+  within_played : length old + 1 ≤ limit_of class →
+      IsPlayed region partitions threads ls p put can.playing thread op (Done (seen_at p.table i))
   within_played short =
       let none : nat_lt (limit_of class) (length (map (numbered_at table) (i ∷ old))) ≡ false = le-ltb (limit_of class)
       (length (map (numbered_at table) (i ∷ old))) (let a = length_whole in omega arith) in
@@ -147,13 +158,16 @@ module _ (region partitions threads : ℕ) (ls : List Line) (p : Player) (thread
       (rw none refl) (rw none refl)
       (λ j among. among) (λ j among. absurd (not_in_none j among))
       (omega arith) (omega arith) refl
-      (retallied_set home (length (caches p thread home class)) (length (map (numbered_at table) (i ∷ old))) (slot_of class * length (caches p thread home class))
+      (retallied_set home (length (caches p thread home class)) (length (map (numbered_at table) (i ∷ old)))
+      (slot_of class * length (caches p thread home class))
       (slot_of class * length (map (numbered_at table) (i ∷ old))) p.cached.of
-      (record { slots = (tally_at p.cached.of home).slots + 1; bytes = (tally_at p.cached.of home).bytes + (slot_at table i).title.len }) four_tallies
+      (record { slots = (tally_at p.cached.of home).slots + 1; bytes = (tally_at p.cached.of home).bytes + (slot_at table i).title.len })
+      four_tallies
       (let a = length_old in omega arith)
       (let a : slot_of class * length (caches p thread home class) ≡ slot_of class * length old = ap (λ k. slot_of class * k) length_old in
       let b : slot_of class * length (map (numbered_at table) (i ∷ old)) ≡ slot_of class * length old + slot_of class =
-      ap (λ k. slot_of class * k) count ∙ mul-add (slot_of class) (length old) 1 ∙ ap (λ k. slot_of class * length old + k) (mul-one (slot_of class)) in
+      ap (λ k. slot_of class * k) count ∙ mul-add (slot_of class) (length old) 1 ∙
+      ap (λ k. slot_of class * length old + k) (mul-one (slot_of class)) in
       omega arith))
       (length-set p.cached.of home _ ∙ can.playing.shaped.cached) refl refl
 
@@ -185,11 +199,13 @@ module _ (region partitions threads : ℕ) (ls : List Line) (p : Player) (thread
       let b = length-take half whole in
       (omega arith, omega arith)
 
-  over_played : limit_of class < length old + 1 → IsPlayed region partitions threads ls p gave can.playing thread op (Done (seen_at p.table i))
+  over_played : limit_of class < length old + 1 →
+      IsPlayed region partitions threads ls p gave can.playing thread op (Done (seen_at p.table i))
   over_played long =
       let over : nat_lt (limit_of class) (length (map (numbered_at table) (i ∷ old))) ≡ true = lt-ltb (limit_of class)
       (length (map (numbered_at table) (i ∷ old))) (let a = length_whole in omega arith) in
-      let b = gave_back_in put home (drop half whole) (let a = can.playing.shaped.journals in let c = its_home in omega arith) (let a = can.playing.shaped.roots in let c = its_home in omega arith) in
+      let b = gave_back_in put home (drop half whole) (let a = can.playing.shaped.journals in let c = its_home in omega arith)
+      (let a = can.playing.shaped.roots in let c = its_home in omega arith) in
       returned_played region partitions threads ls p thread op can reg i small points y registers lives waits r class is_class
       (take half whole) (drop half whole) gave.heap gave.told gave.caches gave.cached
       (record {
@@ -203,7 +219,8 @@ module _ (region partitions threads : ℕ) (ls : List Line) (p : Player) (thread
         pool = refl;
         here = b.here;
         there = b.there;
-        journals = λ k. b.journals k ∙ ap (λ n. grown (journals p) n (only_in home (gives (map (numbered_at table) (drop half whole)))) k) can.playing.line;
+        journals = λ k. b.journals k ∙
+            ap (λ n. grown (journals p) n (only_in home (gives (map (numbered_at table) (drop half whole)))) k) can.playing.line;
       })
       (rw over (sym (take-map (numbered_at table) half whole) ∙ ap (λ zs. take half (map (numbered_at table) zs)) whole_is))
       (rw over (sym (drop-map (numbered_at table) half whole) ∙ ap (λ zs. drop half (map (numbered_at table) zs)) whole_is))
@@ -211,26 +228,35 @@ module _ (region partitions threads : ℕ) (ls : List Line) (p : Player) (thread
       (λ j among. subst (λ z. Contains z j) whole_is (drop_in half whole j among))
       (most_half long).1 length_stays (set-set p.caches at (i ∷ old) (take half whole))
       over_tallies
-      (length-set _ home _ ∙ length-set p.cached.of home _ ∙ can.playing.shaped.cached) (length-set p.told.journals home _) (length-set p.heap.roots home _)
+      (length-set _ home _ ∙ length-set p.cached.of home _ ∙ can.playing.shaped.cached) (length-set p.told.journals home _)
+      (length-set p.heap.roots home _)
     where
-      over_tallies : IsRetallied home (length (caches p thread home class)) (length (map (numbered_at table) (take half whole))) (slot_of class * length (caches p thread home class))
+      over_tallies : IsRetallied home (length (caches p thread home class)) (length (map (numbered_at table) (take half whole)))
+          (slot_of class * length (caches p thread home class))
           (slot_of class * length (map (numbered_at table) (take half whole))) p.cached.of gave.cached.of
       over_tallies =
           let len : (slot_at table i).title.len ≡ slot_of class = class_of_it.1 in
           let bytes : bytes_at table (drop half whole) ≡ slot_of class * length (drop half whole) =
-          bytes_alike table (drop half whole) (slot_of class) (λ j among. len_old region partitions threads ls p thread op can reg i small points y registers lives waits r class is_class j
+          bytes_alike table (drop half whole) (slot_of class)
+          (λ j among. len_old region partitions threads ls p thread op can reg i small points y registers lives waits r class is_class j
           (subst (λ z. Contains z j) whole_is (drop_in half whole j among))) in
-          let left : length (map (numbered_at table) (take half whole)) ≡ length (take half whole) = length-map (take half whole) (numbered_at table) in
-          let T : ℕ → ℕ → ℕ → Type 0 = λ was_bytes b l. IsRetallied home (length (caches p thread home class)) (length (map (numbered_at table) (take half whole))) was_bytes
-          (slot_of class * length (map (numbered_at table) (take half whole))) p.cached.of (tallied_less home (length (drop half whole)) b (tallied_more home 1 l p.cached.of)) in
+          let left : length (map (numbered_at table) (take half whole)) ≡ length (take half whole) =
+          length-map (take half whole) (numbered_at table) in
+          let T : ℕ → ℕ → ℕ → Type 0 =
+          λ was_bytes b l. IsRetallied home (length (caches p thread home class))
+          (length (map (numbered_at table) (take half whole))) was_bytes
+          (slot_of class * length (map (numbered_at table) (take half whole))) p.cached.of
+          (tallied_less home (length (drop half whole)) b (tallied_more home 1 l p.cached.of)) in
           let a = length_old in
           let c = length_stays in
           let few = tallied.0 in
           let many = tallied.1 in
-          let same : slot_of class * length (caches p thread home class) ≡ slot_of class * length old = ap (λ k. slot_of class * k) length_old in
+          let same : slot_of class * length (caches p thread home class) ≡ slot_of class * length old =
+          ap (λ k. slot_of class * k) length_old in
           subst (λ l. T (slot_of class * length (caches p thread home class)) (bytes_at table (drop half whole)) l) (sym len)
           (subst (λ b. T (slot_of class * length (caches p thread home class)) b (slot_of class)) (sym bytes)
-          (retallied_both home (slot_of class) (length (caches p thread home class)) (length (drop half whole)) (length (map (numbered_at table) (take half whole)))
+          (retallied_both home (slot_of class) (length (caches p thread home class)) (length (drop half whole))
+          (length (map (numbered_at table) (take half whole)))
           (slot_of class * length (caches p thread home class)) p.cached.of four_tallies (omega arith) (omega arith) refl (omega arith)))
 
   -- a list with the slot at the start, of which what doesn't stay goes back

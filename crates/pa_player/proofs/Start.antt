@@ -29,7 +29,8 @@ use Rattle.pa_slot_effects.proofs.Starting.{starts_told, like_is_told}
 use Rattle.pa_player.specs.Player.{Player}
 use Rattle.pa_player.specs.Begun.{IsBegun}
 use Rattle.pa_player.specs.Tables.{held_of, IsIn, handle_in}
-use Rattle.pa_player.specs.Tallies.{tally_at, no_tally}
+use Rattle.pa_rules.specs.Lists.{no_tally}
+use Rattle.pa_player.specs.Tallies.{tally_at}
 use Rattle.pa_player.specs.Playing.{shown, journals, caches, root_of, list_place, list_at, numbered_at, reg_of, word_in, content_in, home_in, len_in, AreAllSlots, AreShaped, AreBounded, AreTallied, IsToldLine, IsPlaying, rules_at}
 
 -- a list that is one without members has none
@@ -94,7 +95,8 @@ module _ (at : Head) (p : Player) (head : IsHeadWithin at) (b : IsBegun at p) wh
   placed =
       let P : List PoolEntry → Type 0 = λ pools. IsPlacedTo partitions 2 [] pools (journals p) (caches p) in
       subst P (sym b.told.pools)
-      (same_is_placed.placed partitions 2 [] [] (λ q. []) (journals p) (λ t q class. []) (caches p) (starts_empty.placed partitions 2) no_journals no_lists)
+      (same_is_placed.placed partitions 2 [] [] (λ q. []) (journals p) (λ t q class. []) (caches p)
+      (starts_empty.placed partitions 2) no_journals no_lists)
 
   pooled : IsPooledTo region 2 p.told.pools (journals p)
   pooled =
@@ -126,7 +128,8 @@ module _ (at : Head) (p : Player) (head : IsHeadWithin at) (b : IsBegun at p) wh
     held = λ t r. subst (IsIn (length p.table)) (sym (b.registers.clear t r)) tt;
     celled = λ k. subst (IsIn (length p.table)) (sym (b.cell k)) tt;
     handles = λ k. subst (λ z. handle_in z ≡ z) (sym (b.cell k)) refl;
-    listed = λ t q class i lt below low among. absurd (none_in (list_at p t q class) i (b.caches.empty (list_place p.version p.partitions t q class)) among);
+    listed = λ t q class i lt below low among. absurd
+        (none_in (list_at p t q class) i (b.caches.empty (list_place p.version p.partitions t q class)) among);
     short = λ t q class lt below low. omega (arith, ap length (b.caches.empty (list_place p.version p.partitions t q class)));
     live = b.live.four;
     quarantined = b.quarantined.four;
@@ -147,14 +150,17 @@ module _ (at : Head) (p : Player) (head : IsHeadWithin at) (b : IsBegun at p) wh
   same_lists : caches p ≡ no_caches
   same_lists = fun_ext (λ t. fun_ext (λ q. fun_ext (λ class. no_lists t q class)))
 
-  tallied : (q : ℕ) → q < partitions → AreTallied threads p.table [] (caches p) (tally_at p.live.of q) (tally_at p.quarantined.of q) (tally_at p.cached.of q) q
+  tallied : (q : ℕ) → q < partitions →
+      AreTallied threads p.table [] (caches p) (tally_at p.live.of q) (tally_at p.quarantined.of q) (tally_at p.cached.of q) q
   tallied q low =
       let four : q < 4 = omega (arith, low, head.1.1) in
       record {
         is_live = none_left _ _ (home_in p.table) (len_in p.table) q (tally_at p.live.of q) (b.live.none q four);
         is_quarantined = none_left _ _ (home_in p.table) (len_in p.table) q (tally_at p.quarantined.of q) (b.quarantined.none q four);
-        many = ap (λ (x : Tally). x.slots) (b.cached.none q four) ∙ sym (none_cached q threads) ∙ ap (λ (all : Caches). cached_slots all q threads) (sym same_lists);
-        bytes = ap (λ (x : Tally). x.bytes) (b.cached.none q four) ∙ sym (none_bytes q threads) ∙ ap (λ (all : Caches). cached_bytes all q threads) (sym same_lists);
+        many = ap (λ (x : Tally). x.slots) (b.cached.none q four) ∙ sym (none_cached q threads) ∙
+            ap (λ (all : Caches). cached_slots all q threads) (sym same_lists);
+        bytes = ap (λ (x : Tally). x.bytes) (b.cached.none q four) ∙ sym (none_bytes q threads) ∙
+            ap (λ (all : Caches). cached_bytes all q threads) (sym same_lists);
       }
 
   reported : All (IsToldLine partitions threads 2 p.phase [] p.told.pools (journals p)) p.told.report

@@ -50,24 +50,31 @@ map_on f g (x ∷ xs) same =
     ap (λ y. y ∷ map g xs) (same x (first_in x xs)) ∙ ap (λ ys. f x ∷ ys) (map_on f g xs (λ z among. same z (later_in x z xs among)))
 
 -- past the threads there are no lists
-pub no_list : (partitions threads : ℕ) (p : Player) (t q class : ℕ) → AreShaped partitions threads p → threads ≤ t → list_at p t q class ≡ []
+pub no_list : (partitions threads : ℕ) (p : Player) (t q class : ℕ) → AreShaped partitions threads p → threads ≤ t →
+    list_at p t q class ≡ []
 no_list partitions threads p t q class h past =
     let more : threads * partitions ≤ t * partitions = mul-le-mul_right partitions past in
     let wide : t * p.partitions ≡ t * partitions = ap (λ n. t * n) h.many in
     let rows : threads * partitions ≤ t * p.partitions + q = omega arith in
-    let far : threads * partitions * class_total p.version ≤ (t * p.partitions + q) * class_total p.version = mul-le-mul_right (class_total p.version) rows in
+    let far : threads * partitions * class_total p.version ≤ (t * p.partitions + q) * class_total p.version =
+    mul-le-mul_right (class_total p.version) rows in
     get_or_past p.caches (list_place p.version p.partitions t q class) [] (omega (arith, far, h.lists))
 
 pub caches_kept : (partitions threads : ℕ) (p : Player) (after : List Slot) → AreShaped partitions threads p
-    → ((t q class i : ℕ) → t < threads → q < partitions → HasClass p.version class → Contains (list_at p t q class) i → numbered_at after i ≡ numbered_at p.table i)
+    → ((t q class i : ℕ) → t < threads → q < partitions → HasClass p.version class → Contains (list_at p t q class) i →
+    numbered_at after i ≡ numbered_at p.table i)
     → (t q class : ℕ) → caches (record p { table = after }) t q class ≡ caches p t q class
 caches_kept partitions threads p after h same t q class = elim (cases_lt q p.partitions) [
-  | inr out ↦ caches_none (record p { table = after }) t q class (λ low real. absurd (omega arith)) ∙ sym (caches_none p t q class (λ low real. absurd (omega arith)))
+  | inr out ↦ caches_none (record p { table = after }) t q class (λ low real. absurd (omega arith)) ∙
+      sym (caches_none p t q class (λ low real. absurd (omega arith)))
   | inl low ↦ elim (class_cases p.version class) [
-    | inr out ↦ caches_none (record p { table = after }) t q class (λ inside real. out real) ∙ sym (caches_none p t q class (λ inside real. out real))
+    | inr out ↦ caches_none (record p { table = after }) t q class (λ inside real. out real) ∙
+        sym (caches_none p t q class (λ inside real. out real))
     | inl real ↦
-        let each : map (numbered_at after) (list_at p t q class) ≡ map (numbered_at p.table) (list_at p t q class) = elim (cases_lt t threads) [
-          | inl below ↦ map_on (numbered_at p.table) (numbered_at after) (list_at p t q class) (λ i among. same t q class i below (omega (arith, low, h.many)) real among)
+        let each : map (numbered_at after) (list_at p t q class) ≡ map (numbered_at p.table) (list_at p t q class) =
+        elim (cases_lt t threads) [
+          | inl below ↦ map_on (numbered_at p.table) (numbered_at after) (list_at p t q class)
+              (λ i among. same t q class i below (omega (arith, low, h.many)) real among)
           | inr past ↦
               let none = no_list partitions threads p t q class h past in
               ap (map (numbered_at after)) none ∙ ap (map (numbered_at p.table)) (sym none)
@@ -80,9 +87,11 @@ caches_kept partitions threads p after h same t q class = elim (cases_lt q p.par
 
 -- a player whose slot in a place is another, and whose registers and tallies are others
 abbrev pub changed_at : Player → ℕ → Slot → List (List (Register ℕ)) → Tallies → Tallies → Player
-changed_at p i y registers live quarantined = record p { table = set p.table i y; registers = registers; live = live; quarantined = quarantined }
+changed_at p i y registers live quarantined =
+    record p { table = set p.table i y; registers = registers; live = live; quarantined = quarantined }
 
-module _ (region partitions threads : ℕ) (ls : List Line) (p : Player) (thread : ℕ) (op : Op) (can : CanGoOn region partitions threads ls (Do thread op) p)
+module _ (region partitions threads : ℕ) (ls : List Line) (p : Player) (thread : ℕ) (op : Op)
+    (can : CanGoOn region partitions threads ls (Do thread op) p)
     (reg i : ℕ) (small : reg < 64) (points : Points (register_at p thread reg) i) where
   abbrev h : IsPlaying region partitions threads ls p
   h = can.playing
@@ -97,16 +106,20 @@ module _ (region partitions threads : ℕ) (ls : List Line) (p : Player) (thread
   word_is = at_name (λ z. z.word.0) p.table i h.slots.apart in_table
 
   pub in_use : 0 < held_of (slot_at p.table i).word.0 + refs_of (slot_at p.table i).word.0
-  in_use = subst (λ w. 0 < held_of w + refs_of w) word_is (lets.in_use (named_at p.table i) (points_names p.table (register_at p thread reg) i points))
+  in_use = subst (λ w. 0 < held_of w + refs_of w) word_is
+      (lets.in_use (named_at p.table i) (points_names p.table (register_at p thread reg) i points))
 
   -- a slot of a list has its number still
-  unmoved : (y : Slot) (t q class j : ℕ) → t < threads → q < partitions → HasClass p.version class → Contains (list_at p t q class) j → numbered_at (set p.table i y) j ≡ numbered_at p.table j
+  unmoved : (y : Slot) (t q class j : ℕ) → t < threads → q < partitions → HasClass p.version class → Contains (list_at p t q class) j →
+      numbered_at (set p.table i y) j ≡ numbered_at p.table j
   unmoved y t q class j below low real among =
-      let apart : j ≡ i → ⊥ = λ e. used_unlisted region partitions threads ls p h i t q class in_table in_use below low real (subst (λ z. Contains (list_at p t q class) z) e among) in
+      let apart : j ≡ i → ⊥ = λ e. used_unlisted region partitions threads ls p h i t q class in_table in_use below low real
+      (subst (λ z. Contains (list_at p t q class) z) e among) in
       let f : Slot → Numbered = λ z. record { slot = name_of z.title; number = number_of z.word.0 } in
       ap f (get_or-set_other p.table i j y no_slot apart)
 
-  pub step_quiet : (answer : Answer) (y : Slot) (registers : List (List (Register ℕ))) (live quarantined : Tallies) (after : Shown) (o : Option Step)
+  pub step_quiet : (answer : Answer) (y : Slot) (registers : List (List (Register ℕ))) (live quarantined : Tallies) (after : Shown)
+      (o : Option Step)
       → IsSame (slot_at p.table i) y → KeepsLists op answer
       → mark_of (played_at after.rules ls thread op answer) ≡ Some (mark_at (length ls + 2) (seen_at p.table i) o)
       → LeadsTo threads ls h.ps thread op answer after → IsLike after (shown (changed_at p i y registers live quarantined))
@@ -116,10 +129,12 @@ module _ (region partitions threads : ℕ) (ls : List Line) (p : Player) (thread
   step_quiet answer y registers live quarantined after o same keeps told turn like shaped counts = record {
     next = caches p thread;
     after = after;
-    done = nothing_moves region partitions (length ls + 2) h.ps (played_at after.rules ls thread op answer) p.told.pools (journals p) (caches p) h.placed refl keeps;
+    done = nothing_moves region partitions (length ls + 2) h.ps (played_at after.rules ls thread op answer) p.told.pools (journals p)
+        (caches p) h.placed refl keeps;
     turn = turn;
     like = like;
-    lists = λ t k class. caches_kept partitions threads p (set p.table i y) h.shaped (unmoved y) t k class ∙ cache_same (caches p) thread t k class;
+    lists = λ t k class. caches_kept partitions threads p (set p.table i y) h.shaped (unmoved y) t k class ∙
+        cache_same (caches p) thread t k class;
     still = record {
       entries = refl;
       report = refl;
@@ -135,13 +150,21 @@ module _ (region partitions threads : ℕ) (ls : List Line) (p : Player) (thread
     keeps = keeps_set p.table i y in_table same;
     few = omega (arith, length-set p.table i y);
     slots =
-        all_slots_set partitions p.table p.told.pools (journals p) (root_of p) i y h.slots in_table same (used_away region partitions threads ls p h i in_table in_use).none
+        all_slots_set partitions p.table p.told.pools (journals p) (root_of p) i y h.slots in_table same
+        (used_away region partitions threads ls p h i in_table in_use).none
         (subst (λ c. IsMappedAs (root_of p (slot_at p.table i).partition) y c) (sym same.class)
-        (mapped_used (root_of p (slot_at p.table i).partition) (slot_at p.table i) y (slot_at p.table i).class same in_use (h.slots.mapped i in_table)));
+        (mapped_used (root_of p (slot_at p.table i).partition) (slot_at p.table i) y (slot_at p.table i).class same in_use
+        (h.slots.mapped i in_table)));
     shaped = shaped;
     marked = λ m e.
-        let slot : named_at p.table i ≡ m.slot = ap (λ (z : Mark). z.slot) (some_mark (mark_at (length ls + 2) (seen_at p.table i) o) m (sym told ∙ e)) in
-        (i, (omega (arith, length-set p.table i y, in_table), keeps_named p.table (set p.table i y) i (keeps_set p.table i y in_table same) in_table ∙ slot));
+        let slot : named_at p.table i ≡ m.slot =
+        ap (λ (z : Mark). z.slot) (some_mark (mark_at (length ls + 2) (seen_at p.table i) o) m (sym told ∙ e)) in (
+          i,
+          (
+            omega (arith, length-set p.table i y, in_table),
+            keeps_named p.table (set p.table i y) i (keeps_set p.table i y in_table same) in_table ∙ slot,
+          ),
+        );
     counts = counts;
   }
 
@@ -156,7 +179,8 @@ pub record ShowsStep (p : Player) (i t r : ℕ) (x : Register ℕ) (y : Slot) (q
   pub word : (s : SlotName) → (shown q).word s ≡ with_slot (shown p).word (named_at p.table i) y.word.0 s
   pub usable : (s : SlotName) → (shown q).usable s ≡ (shown p).usable s
 
-pub shows_step : (region partitions threads : ℕ) (ls : List Line) (p : Player) (i t r : ℕ) (x : Register ℕ) (y : Slot) (live quarantined : Tallies) → IsPlaying region partitions threads ls p
+pub shows_step : (region partitions threads : ℕ) (ls : List Line) (p : Player) (i t r : ℕ) (x : Register ℕ) (y : Slot)
+    (live quarantined : Tallies) → IsPlaying region partitions threads ls p
     → i < length p.table → t < threads → r < 64 → IsIn (length p.table) x → IsSame (slot_at p.table i) y
     → ShowsStep p i t r x y (changed_at p i y (registered t r x p).registers live quarantined)
 shows_step region partitions threads ls p i t r x y live quarantined h low below small among same =

@@ -71,7 +71,8 @@ module _ (p : Player) (thread cell reg : ℕ) where
   abbrev entry : CellEntry
   entry = record { line = p.told.line; gave = told_of p.table gave; found = told_of p.table found }
 
-  module _ (region partitions threads : ℕ) (ls : List Line) (can : CanGoOn region partitions threads ls (Do thread (ops.Swap cell reg)) p) where
+  module _ (region partitions threads : ℕ) (ls : List Line)
+      (can : CanGoOn region partitions threads ls (Do thread (ops.Swap cell reg)) p) where
     abbrev h : IsPlaying region partitions threads ls p
     h = can.playing
 
@@ -87,22 +88,29 @@ module _ (p : Player) (thread cell reg : ℕ) where
     like = record {
       rules = refl;
       regs = λ t r.
-          regs_registered p p.table thread reg found t r (omega (arith, can.within.0, h.shaped.registers)) (omega (arith, can.within.1.1, h.shaped.sixty_four thread can.within.0))
-          ∙ with_reg_same (shown p).regs (shown p).regs thread reg (reg_of_held (told_of p.table found)) (reg_of p.table found) t r (λ v j. refl) found_is;
+          regs_registered p p.table thread reg found t r (omega (arith, can.within.0, h.shaped.registers))
+          (omega (arith, can.within.1.1, h.shaped.sixty_four thread can.within.0))
+          ∙ with_reg_same (shown p).regs (shown p).regs thread reg (reg_of_held (told_of p.table found)) (reg_of p.table found) t r
+          (λ v j. refl) found_is;
       held = λ k. elim (cases_eq k cell) [
         | inl e ↦
-            let P : ℕ → Type 0 = λ j. told_of p.table (get_or (set p.cells cell gave) j Empty) ≡ with_held (shown p).held cell (handle_of ((shown p).regs thread reg)) j in
+            let P : ℕ → Type 0 = λ j. told_of p.table (get_or (set p.cells cell gave) j Empty) ≡ with_held (shown p).held cell
+            (handle_of ((shown p).regs thread reg)) j in
             let here : told_of p.table (get_or (set p.cells cell gave) cell Empty) ≡ handle_of ((shown p).regs thread reg) =
-            ap (told_of p.table) (get_or-set_same p.cells cell gave Empty (omega (arith, can.within.1.0, h.shaped.cells))) ∙ told_handle p.table (register_at p thread reg) in
+            ap (told_of p.table) (get_or-set_same p.cells cell gave Empty (omega (arith, can.within.1.0, h.shaped.cells))) ∙
+            told_handle p.table (register_at p thread reg) in
             subst P (sym e) (rw (eq-eqb cell cell refl) here)
         | inr ne ↦ rw (ne_eqb k cell ne) (ap (told_of p.table) (get_or-set_other p.cells cell k gave Empty ne))
       ];
       cells = λ k. elim (cases_eq k cell) [
         | inl e ↦
             let more = history_in p.told cell ++ entry ∷ [] in
-            let P : ℕ → Type 0 = λ j. get_or (set p.told.histories cell more) j [] ≡ with_entry (shown p).cells cell (exchange_of (shown p) (length ls + 2) thread cell reg) j in
-            let here : get_or (set p.told.histories cell more) cell [] ≡ history_in p.told cell ++ exchange_of (shown p) (length ls + 2) thread cell reg ∷ [] =
-            get_or-set_same p.told.histories cell more [] (omega (arith, can.within.1.0, h.shaped.histories)) ∙ ap (λ z. history_in p.told cell ++ z ∷ []) entry_is in
+            let P : ℕ → Type 0 = λ j. get_or (set p.told.histories cell more) j [] ≡ with_entry (shown p).cells cell
+            (exchange_of (shown p) (length ls + 2) thread cell reg) j in
+            let here : get_or (set p.told.histories cell more) cell [] ≡ history_in p.told cell ++
+            exchange_of (shown p) (length ls + 2) thread cell reg ∷ [] =
+            get_or-set_same p.told.histories cell more [] (omega (arith, can.within.1.0, h.shaped.histories)) ∙
+            ap (λ z. history_in p.told cell ++ z ∷ []) entry_is in
             subst P (sym e) (rw (eq-eqb cell cell refl) here)
         | inr ne ↦ rw (ne_eqb k cell ne) (get_or-set_other p.told.histories cell k (history_in p.told cell ++ entry ∷ []) [] ne)
       ];
@@ -113,10 +121,12 @@ module _ (p : Player) (thread cell reg : ℕ) where
 
     shaped : AreShaped partitions threads (swapped thread cell reg p)
     shaped =
-        let told_shape = shaped_told partitions threads p h.shaped (exchanged cell gave found p).told refl (length-set p.told.histories cell (history_in p.told cell ++ entry ∷ [])) in
+        let told_shape = shaped_told partitions threads p h.shaped (exchanged cell gave found p).told refl
+        (length-set p.told.histories cell (history_in p.told cell ++ entry ∷ [])) in
         let celled_shape = shaped_celled partitions threads (exchanged cell gave found p) told_shape cell gave
         (handle_among (length p.table) (register_at p thread reg) (h.shaped.held thread reg)) (handle_again (register_at p thread reg)) in
-        shaped_registered partitions threads (celled cell gave (exchanged cell gave found p)) celled_shape thread reg found (h.shaped.celled cell)
+        shaped_registered partitions threads (celled cell gave (exchanged cell gave found p)) celled_shape thread reg found
+        (h.shaped.celled cell)
 
     -- a history has one exchange more at most
     longer : (k : ℕ) → IsOneMore (history_in p.told k) (get_or (set p.told.histories cell (history_in p.told cell ++ entry ∷ [])) k [])
@@ -126,14 +136,18 @@ module _ (p : Player) (thread cell reg : ℕ) where
     ]
 
   pub swap_plays : Plays p thread (ops.Swap cell reg) (swapped thread cell reg p) (answers.Swapped (length (history_in p.told cell)))
-  swap_plays = quiet_plays p thread (ops.Swap cell reg) (swapped thread cell reg p) (answers.Swapped (length (history_in p.told cell))) (λ region partitions threads ls can.
+  swap_plays = quiet_plays p thread (ops.Swap cell reg) (swapped thread cell reg p) (answers.Swapped (length (history_in p.told cell)))
+      (λ region partitions threads ls can.
       let h = can.playing in
       let n = length (history_in p.told cell) in
       record {
         next = caches p thread;
         after = after_swap (shown p) (length ls + 2) thread cell reg;
-        done = nothing_moves region partitions (length ls + 2) h.ps (played_at (rules_at p) ls thread (ops.Swap cell reg) (answers.Swapped n)) p.told.pools (journals p) (caches p) h.placed refl tt;
-        turn = swap_goes_on threads ls h.ps (shown p) thread cell reg (can_play region partitions threads ls thread (ops.Swap cell reg) p can) can.within.1.0 can.within.1.1;
+        done = nothing_moves region partitions (length ls + 2) h.ps
+            (played_at (rules_at p) ls thread (ops.Swap cell reg) (answers.Swapped n)) p.told.pools (journals p)
+            (caches p) h.placed refl tt;
+        turn = swap_goes_on threads ls h.ps (shown p) thread cell reg
+            (can_play region partitions threads ls thread (ops.Swap cell reg) p can) can.within.1.0 can.within.1.1;
         like = like region partitions threads ls can;
         lists = λ t k class. cache_same (caches p) thread t k class;
         still = record {
@@ -153,5 +167,6 @@ module _ (p : Player) (thread cell reg : ℕ) where
         slots = h.slots;
         shaped = shaped region partitions threads ls can;
         marked = λ m e. absurd (none_not_some m e);
-        counts = counts_still region partitions threads ls p (swapped thread cell reg p) None h none_adds refl refl refl (λ t k class. refl);
+        counts = counts_still region partitions threads ls p (swapped thread cell reg p) None h none_adds refl refl refl
+            (λ t k class. refl);
       })

@@ -15,27 +15,39 @@ use Rattle.pa_trace.specs.Limits.{IsHeadWithin}
 use Rattle.pa_player.specs.Plays.{CanGoOn, IsReady, GoesTo, GoesOnTo, Plays}
 
 -- the next line can be played
-line_can : (t : Trace) (i : ℕ) (p : Player) (line d : Line) → p.version ≡ t.version → IsWithinLimits t → i < length t.lines → line ≡ get_or t.lines i d
+line_can : (t : Trace) (i : ℕ) (p : Player) (line d : Line) → p.version ≡ t.version → IsWithinLimits t → i < length t.lines →
+    line ≡ get_or t.lines i d
     → IsPlaying t.region t.partitions t.threads (take i t.lines) p → CanGoOn t.region t.partitions t.threads (take i t.lines) line p
 line_can t i p line d version within lt is playing = record {
   playing = playing;
   short = let few = within.few in omega (arith, length-take i t.lines, lt, few);
   within = subst (IsLineWithin t.partitions t.threads) (sym is)
-      (All-get_or (IsLineWithin t.partitions t.threads) t.lines i d lt (All-from_recursion (IsLineWithin t.partitions t.threads) t.lines within.lines));
-  head = subst (λ v. IsHeadWithin (record { version = v; region = t.region; partitions = t.partitions; threads = t.threads })) (sym version) within.head;
+      (All-get_or (IsLineWithin t.partitions t.threads) t.lines i d lt
+      (All-from_recursion (IsLineWithin t.partitions t.threads) t.lines within.lines));
+  head = subst (λ v. IsHeadWithin (record { version = v; region = t.region; partitions = t.partitions; threads = t.threads }))
+      (sym version) within.head;
 }
 
-pub line_ready : (t : Trace) (i : ℕ) (p : Player) (line d : Line) → p.version ≡ t.version → IsWithinLimits t → i < length t.lines → line ≡ get_or t.lines i d
+pub line_ready : (t : Trace) (i : ℕ) (p : Player) (line d : Line) → p.version ≡ t.version → IsWithinLimits t → i < length t.lines →
+    line ≡ get_or t.lines i d
     → IsPlaying t.region t.partitions t.threads (take i t.lines) p → IsReady line p
 line_ready t i p line d version within lt is playing =
-    record { region = t.region; partitions = t.partitions; threads = t.threads; ls = take i t.lines; can = line_can t i p line d version within lt is playing }
+    record {
+      region = t.region;
+      partitions = t.partitions;
+      threads = t.threads;
+      ls = take i t.lines;
+      can = line_can t i p line d version within lt is playing;
+    }
 
 -- if the first lines of a trace were played and then the next one, one more of its first lines were played
-pub line_more : (t : Trace) (i : ℕ) (p q : Player) (line d : Line) → p.version ≡ t.version → IsWithinLimits t → i < length t.lines → line ≡ get_or t.lines i d
+pub line_more : (t : Trace) (i : ℕ) (p q : Player) (line d : Line) → p.version ≡ t.version → IsWithinLimits t → i < length t.lines →
+    line ≡ get_or t.lines i d
     → IsPlaying t.region t.partitions t.threads (take i t.lines) p → GoesOnTo p line q
     → IsPlaying t.region t.partitions t.threads (take (i + 1) t.lines) q × (q.version ≡ t.version)
 line_more t i p q line d version within lt is playing goes =
-    let whole : take (i + 1) t.lines ≡ take i t.lines ++ line ∷ [] = take_more t.lines i d lt ∙ ap (λ z. take i t.lines ++ z ∷ []) (sym is) in
+    let whole : take (i + 1) t.lines ≡ take i t.lines ++ line ∷ [] = take_more t.lines i d lt ∙
+    ap (λ z. take i t.lines ++ z ∷ []) (sym is) in
     let to = goes t.region t.partitions t.threads (take i t.lines) (line_can t i p line d version within lt is playing) in
     (subst (λ z. IsPlaying t.region t.partitions t.threads z q) (sym whole) to.0, to.1 ∙ version)
 
@@ -44,14 +56,17 @@ pub goes_on : (p : Player) (l : Line) (a : Option Answer) (q : Player) → GoesT
 goes_on p Phase None q goes = λ region partitions threads ls can. let to = goes region partitions threads ls can in (to.0, to.1.version)
 goes_on p Phase (Some answer) q goes = absurd goes
 goes_on p (Do thread op) None q goes = absurd goes
-goes_on p (Do thread op) (Some answer) q goes = λ region partitions threads ls can. let to = goes region partitions threads ls can in (to.0, to.1.version)
+goes_on p (Do thread op) (Some answer) q goes = λ region partitions threads ls can. let to = goes region partitions threads ls can in
+    (to.0, to.1.version)
 
 -- once the index is past the lines, all lines of the trace were played
-pub all_played : (t : Trace) (i : ℕ) (p : Player) → length t.lines ≤ i → IsPlaying t.region t.partitions t.threads (take i t.lines) p → IsPlaying t.region t.partitions t.threads t.lines p
+pub all_played : (t : Trace) (i : ℕ) (p : Player) → length t.lines ≤ i → IsPlaying t.region t.partitions t.threads (take i t.lines) p →
+    IsPlaying t.region t.partitions t.threads t.lines p
 all_played t i p past playing = subst (λ z. IsPlaying t.region t.partitions t.threads z p) (take_all i t.lines past) playing
 
 -- the line that was played has a number that fits
-pub line_few : (p : Player) (thread : ℕ) (op : Op) (q : Player) (answer : Answer) → IsReady (Do thread op) p → Plays p thread op q answer → q.told.line ≤ 65537
+pub line_few : (p : Player) (thread : ℕ) (op : Op) (q : Player) (answer : Answer) → IsReady (Do thread op) p → Plays p thread op q answer →
+    q.told.line ≤ 65537
 line_few p thread op q answer ready played =
     let next = (played ready.region ready.partitions ready.threads ready.ls ready.can).0 in
     let line = next.line in

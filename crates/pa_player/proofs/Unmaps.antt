@@ -46,9 +46,12 @@ use Rattle.pa_player.proofs.Returning.{IsReturn, inside, used, low, returns, ste
 use Rattle.pa_lists.proofs.Elements.{in_one}
 use Rattle.pa_record.proofs.Leaving.{kept_map}
 
-module _ (region partitions threads : ℕ) (ls : List Line) (p : Player) (thread : ℕ) (op : Op) (can : CanGoOn region partitions threads ls (Do thread op) p)
-    (reg i : ℕ) (small : reg < 64) (points : Points (register_at p thread reg) i) (y : Slot) (registers : List (List (Register ℕ))) (lives waits : Tallies)
-    (r : IsReturn region partitions threads ls p can.playing thread op i y registers lives waits) (is_map : (slot_at p.table i).class ≡ None) where
+module _ (region partitions threads : ℕ) (ls : List Line) (p : Player) (thread : ℕ) (op : Op)
+    (can : CanGoOn region partitions threads ls (Do thread op) p)
+    (reg i : ℕ) (small : reg < 64) (points : Points (register_at p thread reg) i) (y : Slot) (registers : List (List (Register ℕ)))
+    (lives waits : Tallies)
+    (r : IsReturn region partitions threads ls p can.playing thread op i y registers lives waits)
+    (is_map : (slot_at p.table i).class ≡ None) where
   abbrev h : IsPlaying region partitions threads ls p
   h = can.playing
 
@@ -112,7 +115,9 @@ module _ (region partitions threads : ℕ) (ls : List Line) (p : Player) (thread
       (unmapped (named_at p.table i) (root_of p home)) (gave (super_page_at title.start) p.heap.pool)
   called =
       let x = played_at r.after.rules ls thread op (Done (seen_at p.table i)) in
-      let C : Root → PoolState → Type 0 = λ s plan. IsCalled region partitions n x p.told.pools (unmap_made n home title ∷ []) (journals p) home (act ∷ []) (caches p thread) (caches p thread)
+      let C : Root → PoolState →
+      Type 0 = λ s plan. IsCalled region partitions n x p.told.pools (unmap_made n home title ∷ []) (journals p) home (act ∷ [])
+      (caches p thread) (caches p thread)
       (unmapped (named_at p.table i) s) (gave (super_page_at title.start) plan) in
       subst (λ s. C s p.heap.pool) (sym (h.roots home)) (subst (λ plan. C (root_at p.told.pools (journals p) home) plan) (sym h.plan)
       (unmap_is_done region partitions n home h.ps x p.told.pools (journals p) (caches p) (seen_at p.table i) title h.placed h.pooled refl
@@ -126,7 +131,8 @@ module _ (region partitions threads : ℕ) (ls : List Line) (p : Player) (thread
   roots_low = let a = h.shaped.roots in let b = its_home in omega arith
 
   root_then : root_of final home ≡ unmapped (named_at p.table i) (root_of p home)
-  root_then = root_here p.heap.roots home (unmapped (named_at table i) (root_of p home)) roots_low ∙ ap (λ (t : Title). unmapped (name_of t) (root_of p home)) title_then
+  root_then = root_here p.heap.roots home (unmapped (named_at table i) (root_of p home)) roots_low ∙
+      ap (λ (t : Title). unmapped (name_of t) (root_of p home)) title_then
 
   roots_there : (k : ℕ) → (k ≡ home → ⊥) → root_of final k ≡ root_of p k
   roots_there k ne = root_there p.heap.roots home k (unmapped (named_at table i) (root_of p home)) ne
@@ -139,23 +145,29 @@ module _ (region partitions threads : ℕ) (ls : List Line) (p : Player) (thread
     version = refl;
     phase = refl;
     pools =
-        let e : ℕ → Title → List PoolEntry = λ line t. p.told.pools ++ record { line = line; partition = home; act = pool.Give (supers_for t.len) (super_page_at t.start) } ∷ [] in
+        let e : ℕ → Title → List PoolEntry = λ line t. p.told.pools ++
+        record { line = line; partition = home; act = pool.Give (supers_for t.len) (super_page_at t.start) } ∷ [] in
         ap (λ line. e line (slot_at table i).title) h.line ∙ ap (e n) title_then;
     journals = λ k.
-        journals_acted p.told.journals home p.told.line (unmap_at p.heap.pool.entries (named_at table i) (number_of (slot_at table i).word.0) ∷ []) journals_low k
-        ∙ ap (λ line. grown (journals p) line (only_in home (unmap_at p.heap.pool.entries (named_at table i) (number_of (slot_at table i).word.0) ∷ [])) k) h.line
+        journals_acted p.told.journals home p.told.line
+        (unmap_at p.heap.pool.entries (named_at table i) (number_of (slot_at table i).word.0) ∷ []) journals_low k
+        ∙ ap (λ line. grown (journals p) line
+        (only_in home (unmap_at p.heap.pool.entries (named_at table i) (number_of (slot_at table i).word.0) ∷ [])) k) h.line
         ∙ ap (λ a. grown (journals p) n (only_in home (a ∷ [])) k) act_then;
     histories = λ k. inl refl;
     few = of_only (λ bs. length bs ≤ 512) home (act ∷ []) (omega arith) (omega arith);
-    printable = of_only (λ bs. (a : RootAct) → Contains bs a → NamesSlots a) home (act ∷ []) (λ a among. subst NamesSlots (in_one act a among) tt) (λ a among. absurd (not_in_none a among));
+    printable = of_only (λ bs. (a : RootAct) → Contains bs a → NamesSlots a) home (act ∷ [])
+        (λ a among. subst NamesSlots (in_one act a among) tt) (λ a among. absurd (not_in_none a among));
   }
 
   heap_then : HasHeap region p final n (unmap_made n home title ∷ []) (only_in home (act ∷ []))
   heap_then =
-      heap_called region partitions n (played_at r.after.rules ls thread op (Done (seen_at p.table i))) p final (unmap_made n home title ∷ []) home (act ∷ []) (caches p thread) (caches p thread)
+      heap_called region partitions n (played_at r.after.rules ls thread op (Done (seen_at p.table i))) p final
+      (unmap_made n home title ∷ []) home (act ∷ []) (caches p thread) (caches p thread)
       (unmapped (named_at p.table i) (root_of p home)) (gave (super_page_at title.start) p.heap.pool) called h.roots root_then roots_there
       (ap (λ (t : Title). gave (super_page_at t.start) p.heap.pool) title_then) (omega arith) (omega arith)
-      (unmapped_born (named_at p.table i) p.heap.pool.entries (p.heap.pool.entries + 1) (root_of p home) (omega arith) (h.bounded.born home)) h.bounded.born
+      (unmapped_born (named_at p.table i) p.heap.pool.entries (p.heap.pool.entries + 1) (root_of p home) (omega arith)
+      (h.bounded.born home)) h.bounded.born
 
   known : AreAllSlots p.version partitions table p.told.pools (journals p) (root_of p)
   known = stepped_slots region partitions threads ls p thread op can reg i small points y registers lives waits r
@@ -167,21 +179,27 @@ module _ (region partitions threads : ℕ) (ls : List Line) (p : Player) (thread
   mapped_then j there None m = λ some.
       let apart : j ≡ i → ⊥ = λ e.
       let idle : held_of (slot_at table j).word.0 + refs_of (slot_at table j).word.0 ≡ 0 =
-      ap (λ z. held_of (slot_at table z).word.0 + refs_of (slot_at table z).word.0) e ∙ ap (λ (z : Slot). held_of z.word.0 + refs_of z.word.0) slot_then ∙ r.idle in
+      ap (λ z. held_of (slot_at table z).word.0 + refs_of (slot_at table z).word.0) e ∙
+      ap (λ (z : Slot). held_of z.word.0 + refs_of z.word.0) slot_then ∙ r.idle in
       omega arith in
       elim (cases_eq (slot_at table j).partition home) [
         | inl e ↦
-            let other : named_at table j ≡ named_at p.table i → ⊥ = λ same. apart (known.apart j i there (omega (arith, length-set p.table i y, inside_it)) (same ∙ sym (ap name_of title_then))) in
-            let before : Contains (root_of p home).maps (slot_at table j).title = subst (λ k. Contains (root_of p k).maps (slot_at table j).title) e (m some) in
+            let other : named_at table j ≡ named_at p.table i →
+            ⊥ = λ same. apart (known.apart j i there (omega (arith, length-set p.table i y, inside_it))
+            (same ∙ sym (ap name_of title_then))) in
+            let before : Contains (root_of p home).maps (slot_at table j).title =
+            subst (λ k. Contains (root_of p k).maps (slot_at table j).title) e (m some) in
             let after = kept_map (named_at p.table i) (root_of p home).maps (slot_at table j).title before other in
-            subst (λ k. Contains (root_of final k).maps (slot_at table j).title) (sym e) (subst (λ (s : Root). Contains s.maps (slot_at table j).title) (sym root_then) after)
+            subst (λ k. Contains (root_of final k).maps (slot_at table j).title) (sym e)
+            (subst (λ (s : Root). Contains s.maps (slot_at table j).title) (sym root_then) after)
         | inr ne ↦ subst (λ (s : Root). Contains s.maps (slot_at table j).title) (sym (roots_there (slot_at table j).partition ne)) (m some)
       ]
 
   comes_back : AllComeBack table (act ∷ [])
   comes_back a among line m moves =
       let is : act ≡ a = in_one act a among in
-      elim (in_cases (move_of line Back (record { slot = named_at p.table i; number = number_of (slot_at p.table i).word.0 + 1 })) m [] (subst (λ z. Contains (moves_by line z) m) (sym is) moves)) [
+      elim (in_cases (move_of line Back (record { slot = named_at p.table i; number = number_of (slot_at p.table i).word.0 + 1 })) m []
+      (subst (λ z. Contains (moves_by line z) m) (sym is) moves)) [
         | inl e ↦ (
           sym (ap (λ (z : Move). z.way) e),
           i,
@@ -192,9 +210,11 @@ module _ (region partitions threads : ℕ) (ls : List Line) (p : Player) (thread
         | inr none ↦ absurd (not_in_none m none)
       ]
 
-  slots_then : AreAllSlots p.version partitions table (p.told.pools ++ unmap_made n home title ∷ []) (grown (journals p) n (only_in home (act ∷ []))) (root_of final)
+  slots_then : AreAllSlots p.version partitions table (p.told.pools ++ unmap_made n home title ∷ [])
+      (grown (journals p) n (only_in home (act ∷ []))) (root_of final)
   slots_then =
-      slots_back partitions table p.told.pools (unmap_made n home title ∷ []) (journals p) (root_of p) (root_of final) n (only_in home (act ∷ [])) known
+      slots_back partitions table p.told.pools (unmap_made n home title ∷ []) (journals p) (root_of p) (root_of final) n
+      (only_in home (act ∷ [])) known
       (of_only (AllComeBack table) home (act ∷ []) comes_back (λ a among. absurd (not_in_none a among)))
       (λ j there. mapped_then j there (slot_at table j).class (known.mapped j there))
 
@@ -206,7 +226,8 @@ module _ (region partitions threads : ℕ) (ls : List Line) (p : Player) (thread
       let heap_shape = shaped_heap partitions threads stepped r.shaped final.heap.pool final.heap.roots (length-set p.heap.roots home _) in
       shaped_told partitions threads (record stepped { heap = final.heap }) heap_shape final.told (length-set p.told.journals home _) refl
 
-  pub unmapped_played : IsPlayed region partitions threads ls p (unmapped_at home i stepped) can.playing thread op (Done (seen_at p.table i))
+  pub unmapped_played : IsPlayed region partitions threads ls p (unmapped_at home i stepped) can.playing thread op
+      (Done (seen_at p.table i))
   unmapped_played = record {
     more = unmap_made n home title ∷ [];
     acts = only_in home (act ∷ []);

@@ -57,7 +57,8 @@ pub record CanPutBack (thread i q class : ℕ) (p : Player) : Type 0 where
   pub short : length (list_in p (list_place p.version p.partitions thread q class)) ≤ limit_of class
   pub slots : (tally_at p.cached.of q).slots < 2 ^ 31
   pub bytes : (tally_at p.cached.of q).bytes < 2 ^ 62
-  pub gives : CanGive q (i ∷ list_in p (list_place p.version p.partitions thread q class)) (put_front q (list_place p.version p.partitions thread q class) i p)
+  pub gives : CanGive q (i ∷ list_in p (list_place p.version p.partitions thread q class))
+      (put_front q (list_place p.version p.partitions thread q class) i p)
 
 -- The direct map at an index can go back to the pool.
 pub record CanUnmap (i q : ℕ) (p : Player) : Type 0 where

@@ -115,7 +115,11 @@ pooled q act p = record p { told = record p.told { pools = p.told.pools ++ recor
 abbrev pub answered : ℕ → Answer → Player → Player
 answered thread answer p =
     record p {
-      told = record p.told { entries = p.told.entries ++ record { line = p.told.line; thread = thread; answer = answer } ∷ []; line = p.told.line + 1 };
+      told = record p.told {
+        entries = p.told.entries ++
+            record { line = p.told.line; thread = thread; answer = answer } ∷ [];
+        line = p.told.line + 1;
+      };
     }
 
 -- cell k has this handle now
@@ -178,7 +182,8 @@ unmapped_at q i p =
 -- a slot that a step of the thread returned goes to its cache, or back to the pool
 abbrev pub taken_back : ℕ → ℕ → Option ℕ → ℕ → Player → Player
 taken_back thread q (Some class) i p =
-    spilled_if class q (list_place p.version p.partitions thread q class) (put_front q (list_place p.version p.partitions thread q class) i p)
+    spilled_if class q (list_place p.version p.partitions thread q class)
+    (put_front q (list_place p.version p.partitions thread q class) i p)
 taken_back thread q None i p = unmapped_at q i p
 
 -- a thread's lists of `n` classes from one class on go back whole to the root of partition q

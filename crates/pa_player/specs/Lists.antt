@@ -16,4 +16,4 @@ row_in lists classes row = take classes (drop (row * classes) lists)
 pub record AreSummed (lists : List (List ℕ)) (classes : ℕ) (sums : List ℕ) : Type 0 where
   pub many : length lists ≡ length sums * classes
   pub short : All (λ slots. length slots ≤ 65) lists
-  pub each : (row : ℕ) → row < length sums → slice_index_or sums row 0 ≡ sum_by length (row_in lists classes row)
+  pub each : (k : ℕ) → k < length sums → slice_index_or sums k 0 ≡ sum_by length (row_in lists classes k)

@@ -4,7 +4,6 @@ use Rattle.std.specs.Prelude.{slice_index_or, Option, Some, None, All, Contains}
 use Rattle.pa_slot.specs.declared.word.SlotName.{SlotName}
 use Rattle.pa_slot.specs.Count.{number_of, held_of, refs_of}
 use Rattle.pa_slot.specs.Run.{same_slot, Slots}
-use Rattle.pa_buckets.specs.Limits.{first_class}
 use Rattle.pa_buckets.specs.Table.{slot_of}
 use Rattle.pa_buckets.specs.Bands.{limit_of}
 use Rattle.pa_trace.specs.declared.script.Line.{Line}
@@ -26,6 +25,7 @@ use Rattle.pa_rules.specs.Nexts.{named}
 use Rattle.pa_rules.specs.Played.{entry_of, marks_of}
 use Rattle.pa_rules.specs.Roots.{Journals, journal_at}
 use Rattle.pa_rules.specs.Caches.{Caches, IsOfClass}
+use Rattle.pa_rules.specs.Lists.{cache_place}
 use Rattle.pa_rules.specs.Sizes.{HasClass, is_class, class_total}
 use Rattle.pa_rules.specs.Report.{cached_slots, cached_bytes, census_of, phases_of}
 use Rattle.pa_rules.specs.Legal.{phases_in}
@@ -111,7 +111,7 @@ numbered_at slots i = record { slot = named_at slots i; number = number_of (slot
 
 -- the index of a thread's list, by its partition and class, which is one of the version's
 abbrev pub list_place : ℕ → ℕ → ℕ → ℕ → ℕ → ℕ
-list_place version partitions t q class = (t * partitions + q) * class_total version + (class - first_class version)
+list_place version partitions t q class = cache_place version (t * partitions + q) class
 
 -- the indices of the slots in a thread's list, by its partition and class
 abbrev pub list_at : Player → ℕ → ℕ → ℕ → List ℕ
@@ -127,12 +127,13 @@ root_of p q = slice_index_or p.heap.roots q new_root
 
 -- ---- what is known
 
--- A slot of the table is one that a journal let out, of its partition, with its class, which is one of the version's, or as a direct map,
--- and of its length.
+-- A slot of the table is one that a journal let out, of its partition, with its class, which is one of the version's,
+-- or as a direct map, and of its length.
 abbrev pub IsLetOut : ℕ → Journals → Slot → Option ℕ → Type 0
 IsLetOut version roots x (Some class) =
     HasClass version class × IsOfClass roots (name_of x.title) x.partition class × (x.title.len ≡ slot_of class)
-IsLetOut version roots x None = (e : RootEntry) × (asked : ℕ) × Contains (roots x.partition) e × (e.act ≡ Map asked (name_of x.title) x.title.len)
+IsLetOut version roots x None =
+    (e : RootEntry) × (asked : ℕ) × Contains (roots x.partition) e × (e.act ≡ Map asked (name_of x.title) x.title.len)
 
 -- A direct map that is in use is mapped.
 abbrev pub IsMappedAs : Root → Slot → Option ℕ → Type 0
@@ -145,7 +146,8 @@ IsMappedAs r x None = 0 < held_of x.word.0 + refs_of x.word.0 → Contains r.map
 --   born: by an entry of the pool that exists
 --   apart: no two have one name
 --   others: a slot that isn't in the table never moved
-pub record AreAllSlots (version partitions : ℕ) (slots : List Slot) (pools : List PoolEntry) (roots : Journals) (root : ℕ → Root) : Type 0 where
+pub record AreAllSlots (version partitions : ℕ) (slots : List Slot) (pools : List PoolEntry) (roots : Journals)
+    (root : ℕ → Root) : Type 0 where
   pub among : (i : ℕ) → i < length slots → (slot_at slots i).partition < partitions
   pub let_out : (i : ℕ) → i < length slots → IsLetOut version roots (slot_at slots i) (slot_at slots i).class
   pub mapped : (i : ℕ) → i < length slots → IsMappedAs (root (slot_at slots i).partition) (slot_at slots i) (slot_at slots i).class

@@ -2,10 +2,7 @@
 use Rattle.std.specs.Prelude.{◌≡◌, ℕ, ◌<◌, List, length, slice_index_or}
 use Rattle.pa_record.specs.declared.report.Tally.{Tally}
 use Rattle.pa_trace.specs.Limits.{most_partitions}
-
--- the tally past the last partition
-abbrev pub no_tally : Tally
-no_tally = record { slots = 0; bytes = 0 }
+use Rattle.pa_rules.specs.Lists.{no_tally}
 
 -- the tally of partition q, with no slots and no bytes past the last one
 abbrev pub tally_at : List Tally → ℕ → Tally

@@ -34,8 +34,8 @@ with_act q e t = record t { journals = slice_set t.journals q (journal_in t q ++
 abbrev pub with_exchange : ℕ → CellEntry → Lists → Lists
 with_exchange k e t = record t { histories = slice_set t.histories k (history_in t k ++ e ∷ []) }
 
--- The lists without those that a part of a line may go on with before memory runs out: the journals, the entries of the pool, the
--- histories and the report.
+-- The lists without those that a part of a line may go on with before memory runs out: the journals,
+-- the entries of the pool, the histories and the report.
 abbrev pub told_before : Lists → Lists
 told_before t = record t { journals = []; pools = []; histories = []; report = [] }
 

@@ -94,8 +94,8 @@ impl Caches {
         self.sums[at / self.classes as usize] -= dropped;
     }
 
-    // The first list with slots from one list on and before another, which is returned if there is none. A row with no slots is
-    // passed at once.
+    // The first list with slots from one list on and before another, which is returned if there is none.
+    // A row with no slots is passed at once.
     pub(crate) fn next_with_slots(&self, from: usize, to: usize) -> usize
         requires order { from ≤ to }
         requires among { to ≤ length self.now }

@@ -17,9 +17,9 @@ use crate::registers::Registers;
 use crate::table::Table;
 use crate::tallies::Tallies;
 use crate::told::Told;
-use pa_buckets::{Class, first_class, past_class};
+use pa_buckets::Class;
 use pa_record::Answer;
-use pa_rules::Register;
+use pa_rules::{Register, cache_place, class_total};
 use pa_slot::{OutOfMemory, Title};
 use pa_trace::{CELLS, Head, Line, Op};
 use std::alloc::Global;
@@ -54,13 +54,12 @@ impl<O: Output> Player<Told<O>> {
             partitions,
             threads,
         } = head;
-        let classes = past_class(version) - first_class(version);
         Ok(Player {
             heap: Heap::new(alloc, region, partitions)?,
             table: Table::new(alloc),
             registers: Registers::new(alloc, threads)?,
             cells: [Register::Empty; CELLS as usize],
-            caches: Caches::new(alloc, threads * partitions, classes)?,
+            caches: Caches::new(alloc, threads * partitions, class_total(version))?,
             live: Tallies::new(),
             quarantined: Tallies::new(),
             cached: Tallies::new(),
@@ -72,8 +71,8 @@ impl<O: Output> Player<Told<O>> {
     }
 
     /// Plays a line, and records its op. Returns its answer, and none of a line that begins a phase. Out of memory is the only error.
-    /// After it the player can't be used: it has the records that it had, but its journals, the entries of the pool, the histories and
-    /// the report may go on.
+    /// After it the player can't be used: it has the records that it had, but its journals, the entries of the pool,
+    /// the histories and the report may go on.
     pub fn line(&mut self, line: Line) -> Result<Option<Answer>, OutOfMemory>
         requires { IsReady line self.old }
         ensures played { IfOk result (λ answer. GoesTo self.old line answer self.new) }
@@ -189,8 +188,6 @@ impl<O: Output> Player<Told<O>> {
         requires class { HasClass self.now.version class }
         ensures { result ≡ list_place self.now.version self.now.partitions thread partition class }
     {
-        let first = first_class(self.version);
-        let classes = past_class(self.version) - first;
-        ((thread * self.partitions + partition) * classes + (class.number() - first)) as usize
+        cache_place(self.version, thread * self.partitions + partition, class)
     }
 }

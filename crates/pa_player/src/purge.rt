@@ -13,8 +13,9 @@ ghost use Rattle.pa_player.specs.Told.{told_before};
 use crate::output::Output;
 use crate::player::Player;
 use crate::told::Told;
-use pa_buckets::{Class, first_class, past_class};
+use pa_buckets::{Class, first_class};
 use pa_record::{Act, Answer};
+use pa_rules::class_total;
 use pa_slot::OutOfMemory;
 
 impl<O: Output> Player<Told<O>> {
@@ -31,8 +32,8 @@ impl<O: Output> Player<Told<O>> {
         Ok(Answer::Purged { slots })
     }
 
-    // Purges one partition: gives back all that the thread's lists of it have, and decommits its empty spans. Returns how many slots were
-    // given back.
+    // Purges one partition: gives back all that the thread's lists of it have, and decommits its empty spans.
+    // Returns how many slots were given back.
     fn purge_one(&mut self, thread: u32, partition: u32) -> Result<u32, OutOfMemory>
         requires { CanPurgeOne thread partition self.old }
         ensures slots { IfOk result (λ n. n ≡ listed_slots (caches self.old thread partition)
@@ -56,7 +57,7 @@ impl<O: Output> Player<Told<O>> {
     {
         let first = first_class(self.version);
         let start = self.list_of(thread, partition, Class::of(first).unwrap());
-        let end = start + (past_class(self.version) - first) as usize;
+        let end = start + class_total(self.version) as usize;
         let mut slots = 0;
         let mut at = self.caches.next_with_slots(start, end);
         'lists: while at < end {

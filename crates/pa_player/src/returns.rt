@@ -34,8 +34,8 @@ impl<O: Output> Player<Told<O>> {
         }
     }
 
-    // Puts a slot at the front of its list. If that is then longer than its limit, the slots after half of the limit go back to
-    // the root.
+    // Puts a slot at the front of its list. If that is then longer than its limit,
+    // the slots after half of the limit go back to the root.
     fn put_back(
         &mut self,
         thread: u32,

@@ -61,8 +61,8 @@ impl Table {
         let _slots = self.slots.len();
     }
 
-    // The index of the title's slot. It is appended, never issued, if none has its name. If memory runs out, the table is as
-    // before.
+    // The index of the title's slot. It is appended, never issued, if none has its name.
+    // If memory runs out, the table is as before.
     pub(crate) fn home(
         &mut self,
         title: Title,

@@ -17,8 +17,8 @@ use pa_trace::CELLS;
 use std::alloc::Global;
 use std::marker::Model;
 
-/// What the run contains so far, and the number of the line that is played. It is seen as its lists, wherever the records and the
-/// journals are sent.
+/// What the run contains so far, and the number of the line that is played. It is seen as its lists,
+/// wherever the records and the journals are sent.
 #[derive(Drop)]
 pub struct Told<O: Output> {
     output: O,

@@ -32,7 +32,8 @@ use Rattle.pa_pool.proofs.NextPool.{list_grows, next_pool, entered, last_stands}
 use Rattle.pa_pool.proofs.Took.{IsMadeBy, made_by, more_kept}
 
 -- the lease is the note's, so it isn't the pool's: its run is taken
-pub is_out : (supers taken : ℕ) (es : List PoolEntry) (h note u : View) → IsPoolSound supers es h → IsAware u → IsParted u h note → lease_of note taken ≡ one (eqb taken taken) →
+pub is_out : (supers taken : ℕ) (es : List PoolEntry) (h note u : View) → IsPoolSound supers es h → IsAware u → IsParted u h note →
+    lease_of note taken ≡ one (eqb taken taken) →
     IsEntryOut (pool_after es supers) taken
 is_out supers taken es h note u sound aware parted lease =
     let o = aware.lease_once taken in
@@ -41,11 +42,13 @@ is_out supers taken es h note u sound aware parted lease =
     elim (out_cases (pool_after es supers) taken) [ inl is ↦ is | inr none ↦ let l = sound.here taken none in absurd (omega arith) ]
 
 -- the entry of a run that is still taken is in the list, with what it found
-pub out_found : (supers taken : ℕ) (es : List PoolEntry) (h : View) → IsPoolSound supers es h → (is : IsEntryOut (pool_after es supers) taken) → FoundRun es taken is.0.count is.0.first
+pub out_found : (supers taken : ℕ) (es : List PoolEntry) (h : View) → IsPoolSound supers es h →
+    (is : IsEntryOut (pool_after es supers) taken) → FoundRun es taken is.0.count is.0.first
 out_found supers taken es h sound is =
     subst (λ (n : ℕ). FoundRun es n is.0.count is.0.first) is.2 ((sound_state supers es sound.pool).found is.0 is.1).1
 
-pub out_take : (supers taken first count : ℕ) (es : List PoolEntry) (h : View) → IsPoolSound supers es h → (is : IsEntryOut (pool_after es supers) taken) → FoundRun es taken count first →
+pub out_take : (supers taken first count : ℕ) (es : List PoolEntry) (h : View) → IsPoolSound supers es h →
+    (is : IsEntryOut (pool_after es supers) taken) → FoundRun es taken count first →
     IsOneTake (pool_after es supers) first count is.0
 out_take supers taken first count es h sound is found =
     let same = found_one es taken is.0.count count is.0.first first (out_found supers taken es h sound is) found in
@@ -57,7 +60,8 @@ pub at_taken : (supers taken : ℕ) (es : List PoolEntry) (h : View) → IsPoolS
 at_taken supers taken es h sound is = act_of (slice_get es taken) (Take is.0.count (Some is.0.first)) (out_found supers taken es h sound is)
 
 -- what is read at its place in the list is what it found
-pub run_found : (supers taken first count : ℕ) (es : List PoolEntry) (h : View) (e : PoolEntry) → IsPoolSound supers es h → IsEntryOut (pool_after es supers) taken → e ≡ get_or es taken e →
+pub run_found : (supers taken first count : ℕ) (es : List PoolEntry) (h : View) (e : PoolEntry) → IsPoolSound supers es h →
+    IsEntryOut (pool_after es supers) taken → e ≡ get_or es taken e →
     e.act ≡ Take count (Some first) → FoundRun es taken count first
 run_found supers taken first count es h e sound is stands acts =
     let there = at_taken supers taken es h sound is in
@@ -79,21 +83,26 @@ pub seen_entry : (supers taken partition first count : ℕ) (es : List PoolEntry
     IsBeginning (list_of 4 seat) (list_of 4 seat_now) → list_of 4 seat_now ≡ list_of 4 after → list_of 4 after ≡ list_of 4 h ++ m ∷ [] →
     (line : ℕ) × (slice_get es taken ≡ Some (take_entry line partition count (Some first)))
 seen_entry supers taken partition first count es h seat seat_now after m sound below seen begins whole list =
-    let long : length (list_of 4 h) ≡ length es = sym (length-map (list_of 4 h) (λ (x : Made). x.numbers)) ∙ (ap length sound.list ∙ length-map es pool_numbers) in
+    let long : length (list_of 4 h) ≡ length es = sym (length-map (list_of 4 h) (λ (x : Made). x.numbers)) ∙
+    (ap length sound.list ∙ length-map es pool_numbers) in
     let there : slice_get (list_of 4 h ++ m ∷ []) taken ≡ Some seen.made =
-    ap (λ xs. slice_get xs taken) (sym (whole ∙ list)) ∙ begun_at (list_of 4 seat) (list_of 4 seat_now) taken seen.made begins seen.stands in
+    ap (λ xs. slice_get xs taken) (sym (whole ∙ list)) ∙
+    begun_at (list_of 4 seat) (list_of 4 seat_now) taken seen.made begins seen.stands in
     let here = within_at (list_of 4 h) (m ∷ []) taken seen.made (omega arith) there in
     let numbers : slice_get (map pool_numbers es) taken ≡ Some seen.made.numbers =
-    ap (λ xs. slice_get xs taken) (sym sound.list) ∙ (slice_get-map (λ (x : Made). x.numbers) (list_of 4 h) taken ∙ ap (option_map (λ (x : Made). x.numbers)) here) in
+    ap (λ xs. slice_get xs taken) (sym sound.list) ∙
+    (slice_get-map (λ (x : Made). x.numbers) (list_of 4 h) taken ∙ ap (option_map (λ (x : Made). x.numbers)) here) in
     let e = entry_of (slice_get es taken) seen.made.numbers (sym (slice_get-map pool_numbers es taken) ∙ numbers) in
     (seen.line, e.1 ∙ ap Some (one_pool e.0 (take_entry seen.line partition count (Some first)) (e.2 ∙ seen.says)))
   where
-    entry_of : (o : Option PoolEntry) (ns : List ℕ) → option_map pool_numbers o ≡ Some ns → (e : PoolEntry) × (o ≡ Some e) × (pool_numbers e ≡ ns)
+    entry_of : (o : Option PoolEntry) (ns : List ℕ) → option_map pool_numbers o ≡ Some ns → (e : PoolEntry) × (o ≡ Some e) ×
+        (pool_numbers e ≡ ns)
     entry_of None ns e = absurd (not_some ns e)
     entry_of (Some x) ns e = (x, refl, of_some (pool_numbers x) ns e)
 
 -- two views, neither with more
-pub more_joined : (u h note : View) (first count floor n : ℕ) → IsParted u h note → HasNoMore h → HasRun first count floor n note → HasNoMore u
+pub more_joined : (u h note : View) (first count floor n : ℕ) → IsParted u h note → HasNoMore h → HasRun first count floor n note →
+    HasNoMore u
 more_joined u h note first count floor n parted more run = record {
   titles = λ t.
       let f = parted.things (FreeTitle t) in let o = parted.things (OwnOf t) in let r = parted.things (RefOf t) in
@@ -108,7 +117,8 @@ more_joined u h note first count floor n parted more run = record {
 
 module _ (line partition supers taken first count : ℕ) (es : List PoolEntry) (h note u w : View) (m : Made) where
   -- a run that is taken, but for the one that comes back, is taken still
-  still : (t : Taken) → IsPoolSound supers es h → (is : IsEntryOut (pool_after es supers) taken) → FoundRun es taken count first → Contains (pool_after es supers).taken t →
+  still : (t : Taken) → IsPoolSound supers es h → (is : IsEntryOut (pool_after es supers) taken) → FoundRun es taken count first →
+      Contains (pool_after es supers).taken t →
       (t ≡ is.0) ⊎ Contains (gave first (pool_after es supers)).taken t
   still t sound is found among =
       let take = out_take supers taken first count es h sound is found in
@@ -134,10 +144,12 @@ module _ (line partition supers taken first count : ℕ) (es : List PoolEntry) (
         omega arith
   ]
     where
-      beside : (t : Taken) → IsByteOf t.first t.count b → (IsByteOf first count b → ⊥) → (t ≡ is.0) ⊎ Contains (gave first (pool_after es supers)).taken t → ⊥
+      beside : (t : Taken) → IsByteOf t.first t.count b → (IsByteOf first count b → ⊥) → (t ≡ is.0) ⊎
+          Contains (gave first (pool_after es supers)).taken t → ⊥
       beside t has out (inl e) =
           let take = out_take supers taken first count es h sound is found in
-          out (subst (λ n. IsByteOf first n b) (ap (λ (z : Taken). z.count) e ∙ take.reaches) (subst (λ n. IsByteOf n t.count b) (ap (λ (z : Taken). z.first) e ∙ take.begins) has))
+          out (subst (λ n. IsByteOf first n b) (ap (λ (z : Taken). z.count) e ∙ take.reaches)
+          (subst (λ n. IsByteOf n t.count b) (ap (λ (z : Taken). z.first) e ∙ take.begins) has))
       beside t has out (inr left) = free.free t left has
 
   gave_here : (n : ℕ) → IsPoolSound supers es h → IsParted u h note → HasRun first count (taken + 1) taken note
@@ -168,11 +180,15 @@ module _ (line partition supers taken first count : ℕ) (es : List PoolEntry) (
         | inr ne ↦ let e : one (eqb taken n) ≡ 0 = ap one ne.0 in omega arith
       ]
 
-  pub gave_sound : IsPoolSound supers es h → IsParted u h note → HasRun first count (taken + 1) taken note → (is : IsEntryOut (pool_after es supers) taken) → FoundRun es taken count first →
-      IsPartitions es partition is.0 → list_of 4 u ≡ list_of 4 h → IsMadeBy (give_entry line partition count first) u w m → IsPoolSound supers (es ++ give_entry line partition count first ∷ []) w
+  pub gave_sound : IsPoolSound supers es h → IsParted u h note → HasRun first count (taken + 1) taken note →
+      (is : IsEntryOut (pool_after es supers) taken) → FoundRun es taken count first →
+      IsPartitions es partition is.0 → list_of 4 u ≡ list_of 4 h → IsMadeBy (give_entry line partition count first) u w m →
+      IsPoolSound supers (es ++ give_entry line partition count first ∷ []) w
   gave_sound sound parted run is found owned same made =
-      next_pool supers es (give_entry line partition count first) w sound.few sound.pool (is.0, out_take supers taken first count es h sound is found, owned)
-      (list_grows es (give_entry line partition count first) (list_of 4 h) (list_of 4 w) m sound.list (made.list ∙ ap (λ xs. xs ++ m ∷ []) same) made.says)
+      next_pool supers es (give_entry line partition count first) w sound.few sound.pool
+      (is.0, out_take supers taken first count es h sound is found, owned)
+      (list_grows es (give_entry line partition count first) (list_of 4 h) (list_of 4 w) m sound.list
+      (made.list ∙ ap (λ xs. xs ++ m ∷ []) same) made.says)
       made.hosts
       (record {
         raw = λ b free. gave_raw b sound parted run is found made.keeps free;
@@ -188,10 +204,13 @@ pub give_ends : (line partition supers taken first count from of r : ℕ) (es : 
     IsParted u h note → ComesBack partition taken from of seat note → FoundRun es taken count first
     → IsNoted r 4 (pool_numbers (give_entry line partition count first)) seat seat_now u w m → HostsKeeper 4 w →
     IsPoolSound supers (es ++ give_entry line partition count first ∷ []) w × (list_of 4 u ≡ list_of 4 h) × ((of ≡ count) × (from ≡ first))
-give_ends line partition supers taken first count from of r es h note u w seat seat_now m sound aware both joined parted back found noted hosts =
+give_ends line partition supers taken first count from of r es h note u w seat seat_now m sound aware both joined parted back found noted
+    hosts =
     let out = is_out supers taken es h note u sound both parted (back.run.leases taken) in
-    let same : list_of 4 u ≡ list_of 4 h = ap (list_of 4) joined ∙ left_whole h note 4 aware (subst (λ x. IsAware x) joined both) sound.hosts.1 in
-    let seen = seen_entry supers taken partition from of es h seat seat_now w m sound (out_below supers es taken sound.pool out) back.seen (noted.lends.keeps.lists 4) noted.whole
+    let same : list_of 4 u ≡ list_of 4 h = ap (list_of 4) joined ∙
+    left_whole h note 4 aware (subst (λ x. IsAware x) joined both) sound.hosts.1 in
+    let seen = seen_entry supers taken partition from of es h seat seat_now w m sound (out_below supers es taken sound.pool out) back.seen
+    (noted.lends.keeps.lists 4) noted.whole
     (noted.list ∙ ap (λ ms. ms ++ m ∷ []) same) in
     let one = found_one es taken of count from first (ap (option_map (λ (e : PoolEntry). e.act)) seen.1) found in
     let run = subst (λ n. HasRun first n (taken + 1) taken note) one.0 (subst (λ n. HasRun n of (taken + 1) taken note) one.1 back.run) in
@@ -204,15 +223,24 @@ give_ends line partition supers taken first count from of r es h note u w seat s
     )
 
 -- what the call that gives ensures
-pub given_so : (line partition taken first count from of index : ℕ) (u : View) (a b host : Share) (p q z : PoolValue) (m : Made) → IsAsBefore p q → index ≡ length q.entries →
-    FoundRun q.entries taken count first → of ≡ count → from ≡ first → IsNoted (least_stake a.view.stakes) 4 (pool_numbers (give_entry line partition count first)) a.view b.view u host.view m →
-    list_of 4 u ≡ list_of 4 q.view → z.entries ≡ q.entries ++ give_entry line partition count first ∷ [] → z.supers ≡ q.supers → list_of 4 z.view ≡ list_of 4 host.view →
+pub given_so : (line partition taken first count from of index : ℕ) (u : View) (a b host : Share) (p q z : PoolValue) (m : Made) →
+    IsAsBefore p q → index ≡ length q.entries →
+    FoundRun q.entries taken count first → of ≡ count → from ≡ first →
+    IsNoted (least_stake a.view.stakes) 4 (pool_numbers (give_entry line partition count first)) a.view b.view u host.view m →
+    list_of 4 u ≡ list_of 4 q.view → z.entries ≡ q.entries ++ give_entry line partition count first ∷ [] → z.supers ≡ q.supers →
+    list_of 4 z.view ≡ list_of 4 host.view →
     IsGivenBack line partition taken from of index a b p z
-given_so line partition taken first count from of index u a b host p q z m same place found is_count is_first noted stays grown supers list =
-    subst (λ n. IsGivenBack line partition taken n of index a b p z) (sym is_first) (subst (λ n. IsGivenBack line partition taken first n index a b p z) (sym is_count) (record {
+given_so line partition taken first count from of index u a b host p q z m same place found is_count is_first noted stays grown supers
+    list =
+    subst (λ n. IsGivenBack line partition taken n of index a b p z) (sym is_first)
+    (subst (λ n. IsGivenBack line partition taken first n index a b p z) (sym is_count) (record {
       place = place ∙ ap length same.entries;
       found = subst (λ es. FoundRun es taken count first) same.entries found;
-      entered = (m, entered (least_stake a.view.stakes) (give_entry line partition count first) a.view b.view u host.view p q z m same noted stays grown supers list);
+      entered = (
+        m,
+        entered (least_stake a.view.stakes)
+            (give_entry line partition count first) a.view b.view u host.view p q z m same noted stays grown supers list,
+      );
       stands = last_stands q.entries z.entries (give_entry line partition count first) index grown place;
     }))
 

@@ -31,8 +31,10 @@ pub record HasRest (s : PoolState) (n : ℕ) (v : View) : Type 0 where
   pub here : (k : ℕ) → (IsEntryOut s k → ⊥) → 0 < lease_of v k
   pub out : (k : ℕ) → IsEntryOut s k → lease_of v k ≡ 0
 
-pub next_pool : (supers : ℕ) (es : List PoolEntry) (e : PoolEntry) (v : View) → supers ≤ 64 → IsPool supers es → PoolActFits es e.partition e.act (pool_after es supers) →
-    map (λ (m : Made). m.numbers) (list_of 4 v) ≡ map pool_numbers (es ++ e ∷ []) → HostsKeeper 4 v → HasRest (pool_next e.act (pool_after es supers)) (length es + 1) v → HasNoMore v →
+pub next_pool : (supers : ℕ) (es : List PoolEntry) (e : PoolEntry) (v : View) → supers ≤ 64 → IsPool supers es →
+    PoolActFits es e.partition e.act (pool_after es supers) →
+    map (λ (m : Made). m.numbers) (list_of 4 v) ≡ map pool_numbers (es ++ e ∷ []) → HostsKeeper 4 v →
+    HasRest (pool_next e.act (pool_after es supers)) (length es + 1) v → HasNoMore v →
     IsPoolSound supers (es ++ e ∷ []) v
 next_pool supers es e v few fits next list hosts rest more =
     let is = pool_grows.next supers es e in
@@ -49,8 +51,10 @@ next_pool supers es e v few fits next list hosts rest more =
     }
 
 -- the plan goes along with the entries
-pub plan_follows : (plan next : PoolState) (es after : List PoolEntry) (e : PoolEntry) (v : View) → plan ≡ pool_after es plan.supers → next ≡ pool_next e.act plan → after ≡ es ++ e ∷ [] →
-    IsPoolSound plan.supers (es ++ e ∷ []) v → (next ≡ pool_after after next.supers) × IsPoolSound next.supers after v × (next.supers ≡ plan.supers)
+pub plan_follows : (plan next : PoolState) (es after : List PoolEntry) (e : PoolEntry) (v : View) → plan ≡ pool_after es plan.supers →
+    next ≡ pool_next e.act plan → after ≡ es ++ e ∷ [] →
+    IsPoolSound plan.supers (es ++ e ∷ []) v → (next ≡ pool_after after next.supers) × IsPoolSound next.supers after v ×
+    (next.supers ≡ plan.supers)
 plan_follows plan next es after e v was step grown sound =
     let is : next ≡ pool_after (es ++ e ∷ []) plan.supers = step ∙ (ap (pool_next e.act) was ∙ sym (pool_grows.next plan.supers es e)) in
     let same : next.supers ≡ plan.supers = ap (λ (s : PoolState). s.supers) is ∙ same_supers plan.supers (es ++ e ∷ []) in (
@@ -60,11 +64,14 @@ plan_follows plan next es after e v was step grown sound =
     )
 
 -- a new member is at the end
-pub last_stands : {A : Type 0} (before after : List A) (x : A) (index : ℕ) → after ≡ before ++ x ∷ [] → index ≡ length before → slice_get after index ≡ Some x
-last_stands before after x index grown place = ap (λ xs. slice_get xs index) grown ∙ (ap (λ n. slice_get (before ++ x ∷ []) n) place ∙ slice_get_at before [] x)
+pub last_stands : {A : Type 0} (before after : List A) (x : A) (index : ℕ) → after ≡ before ++ x ∷ [] → index ≡ length before →
+    slice_get after index ≡ Some x
+last_stands before after x index grown place = ap (λ xs. slice_get xs index) grown ∙
+    (ap (λ n. slice_get (before ++ x ∷ []) n) place ∙ slice_get_at before [] x)
 
 -- what the entry means for the caller
-pub entered : (r : ℕ) (e : PoolEntry) (v w u host : View) (p q z : PoolValue) (m : Made) → IsAsBefore p q → IsNoted r 4 (pool_numbers e) v w u host m → list_of 4 u ≡ list_of 4 q.view →
+pub entered : (r : ℕ) (e : PoolEntry) (v w u host : View) (p q z : PoolValue) (m : Made) → IsAsBefore p q →
+    IsNoted r 4 (pool_numbers e) v w u host m → list_of 4 u ≡ list_of 4 q.view →
     z.entries ≡ q.entries ++ e ∷ [] → z.supers ≡ q.supers → list_of 4 z.view ≡ list_of 4 host → IsEntered r e v w p z m
 entered r e v w u host p q z m same noted stays grown supers list = record {
   entries = grown ∙ ap (λ es. es ++ e ∷ []) same.entries;
@@ -79,21 +86,32 @@ entered r e v w u host p q z m same noted stays grown supers list = record {
 }
 
 -- what the call that takes ensures
-pub taken_so : (line partition count : ℕ) (found : Option ℕ) (index : ℕ) (a b host : Share) (p q z : PoolValue) → IsAsBefore p q → index ≡ length q.entries →
-    IsLowest (pool_after q.entries q.supers) count found → (m : Made) → IsNoted (least_stake a.view.stakes) 4 (pool_numbers (take_entry line partition count found)) a.view b.view q.view host.view m →
-    z.entries ≡ q.entries ++ take_entry line partition count found ∷ [] → z.supers ≡ q.supers → list_of 4 z.view ≡ list_of 4 host.view → IsTaken line partition count found index a b p z
+pub taken_so : (line partition count : ℕ) (found : Option ℕ) (index : ℕ) (a b host : Share) (p q z : PoolValue) → IsAsBefore p q →
+    index ≡ length q.entries →
+    IsLowest (pool_after q.entries q.supers) count found → (m : Made) →
+    IsNoted (least_stake a.view.stakes) 4 (pool_numbers (take_entry line partition count found)) a.view b.view q.view host.view m →
+    z.entries ≡ q.entries ++ take_entry line partition count found ∷ [] → z.supers ≡ q.supers → list_of 4 z.view ≡ list_of 4 host.view →
+    IsTaken line partition count found index a b p z
 taken_so line partition count found index a b host p q z same place lowest m noted grown supers list = record {
   place = place ∙ ap length same.entries;
-  lowest = subst (λ n. IsLowest (pool_after p.entries n) count found) same.supers (subst (λ es. IsLowest (pool_after es q.supers) count found) same.entries lowest);
-  entered = (m, entered (least_stake a.view.stakes) (take_entry line partition count found) a.view b.view q.view host.view p q z m same noted refl grown supers list);
+  lowest = subst (λ n. IsLowest (pool_after p.entries n) count found) same.supers
+      (subst (λ es. IsLowest (pool_after es q.supers) count found) same.entries lowest);
+  entered = (
+    m,
+    entered (least_stake a.view.stakes)
+        (take_entry line partition count found) a.view b.view q.view host.view p q z m same noted refl grown supers list,
+  );
   stands = last_stands q.entries z.entries (take_entry line partition count found) index grown place;
 }
 
 -- the caller of a take has seen its entry
-pub taken_seen : (line partition count first index supers r : ℕ) (es : List PoolEntry) (v w h host : View) (m : Made) → IsPoolSound supers es h →
-    IsNoted r 4 (pool_numbers (take_entry line partition count (Some first))) v w h host m → index ≡ length es → HasSeenTake partition index first count w
+pub taken_seen : (line partition count first index supers r : ℕ) (es : List PoolEntry) (v w h host : View) (m : Made) →
+    IsPoolSound supers es h →
+    IsNoted r 4 (pool_numbers (take_entry line partition count (Some first))) v w h host m → index ≡ length es →
+    HasSeenTake partition index first count w
 taken_seen line partition count first index supers r es v w h host m sound noted place =
-    let long : length (list_of 4 h) ≡ length es = sym (length-map (list_of 4 h) (λ (x : Made). x.numbers)) ∙ (ap length sound.list ∙ length-map es pool_numbers) in
+    let long : length (list_of 4 h) ≡ length es = sym (length-map (list_of 4 h) (λ (x : Made). x.numbers)) ∙
+    (ap length sound.list ∙ length-map es pool_numbers) in
     record {
       line = line;
       made = m;

@@ -25,7 +25,8 @@ use Rattle.pa_region.proofs.LendBack.{no_keepers}
 -- more ranges have a floor of at most a greater number
 pub low_rises : (v : View) (b m n : ℕ) → m ≤ n → low_of v b m ≤ low_of v b n
 low_rises v b m n less =
-    sum_by-le-sum_by (λ (r : RawRange). one (has_byte r b && leb r.floor m)) (λ (r : RawRange). one (has_byte r b && leb r.floor n)) v.raws (λ r. each (has_byte r b) r.floor)
+    sum_by-le-sum_by (λ (r : RawRange). one (has_byte r b && leb r.floor m)) (λ (r : RawRange). one (has_byte r b && leb r.floor n)) v.raws
+    (λ r. each (has_byte r b) r.floor)
   where
     each : (x : Bool) (floor : ℕ) → one (x && leb floor m) ≤ one (x && leb floor n)
     each false floor = omega arith
@@ -38,11 +39,13 @@ low_rises v b m n less =
 outside_low : (a e b n : ℕ) (rs : List RawRange) → a ≤ b → b < e → sum_by (λ r. one (has_byte r b && leb r.floor n)) (outside a e rs) ≡ 0
 outside_low a e b n rs low high =
     let z = outside_none a e b rs low high in
-    let l = sum_by-le-sum_by (λ r. one (has_byte r b && leb r.floor n)) (λ r. one (has_byte r b)) (outside a e rs) (λ r. one_and (has_byte r b) (leb r.floor n)) in
+    let l = sum_by-le-sum_by (λ r. one (has_byte r b && leb r.floor n)) (λ r. one (has_byte r b)) (outside a e rs)
+    (λ r. one_and (has_byte r b) (leb r.floor n)) in
     omega arith
 
 -- of such a byte the note has what the view had
-given_low : (first count index b n : ℕ) (v : View) → IsByteOf first count b → low_of (given_after (run_parcel first count index) v) b n ≡ low_of v b n
+given_low : (first count index b n : ℕ) (v : View) → IsByteOf first count b →
+    low_of (given_after (run_parcel first count index) v) b n ≡ low_of v b n
 given_low first count index b n v within =
     let a = 2097152 * first in let e = 2097152 * first + 2097152 * count in
     let w0 = within.0 in let w1 = within.1 in
@@ -52,7 +55,8 @@ given_low first count index b n v within =
     omega arith
 
 -- of another byte it has nothing
-other_low : (first count index b n : ℕ) (v : View) → (IsByteOf first count b → ⊥) → low_of (given_after (run_parcel first count index) v) b n ≡ 0
+other_low : (first count index b n : ℕ) (v : View) → (IsByteOf first count b → ⊥) →
+    low_of (given_after (run_parcel first count index) v) b n ≡ 0
 other_low first count index b n v out =
     let a = 2097152 * first in let e = 2097152 * first + 2097152 * count in
     let far = inside_low a e b n v.raws (byte_apart first count b out) in
@@ -66,17 +70,21 @@ given_other first count index v b out =
     let far = inside_none a e b v.raws (byte_apart first count b out) in
     let s = held_split g (RawByte b) in
     let z = sum_by-append (λ (r : RawRange). amount (RawByte b) (raw_piece r)) (inside a e v.raws) [] in
-    let y = sum_same (λ (r : RawRange). one (has_byte r b)) (λ (r : RawRange). amount (RawByte b) (raw_piece r)) (inside a e v.raws) (λ r. refl) in
+    let y = sum_same (λ (r : RawRange). one (has_byte r b)) (λ (r : RawRange). amount (RawByte b) (raw_piece r)) (inside a e v.raws)
+    (λ r. refl) in
     omega arith
 
 -- the note has what is required of it
-pub given_raw : (first count index floor b : ℕ) (v : View) → IsByteOf first count b → 0 < low_of v b floor → 0 < low_of (given_after (run_parcel first count index) v) b floor
+pub given_raw : (first count index floor b : ℕ) (v : View) → IsByteOf first count b → 0 < low_of v b floor →
+    0 < low_of (given_after (run_parcel first count index) v) b floor
 given_raw first count index floor b v within has = let e = given_low first count index b floor v within in omega arith
 
 -- bytes outside of the run stay as they were with the giver
-pub left_raw : (first count index floor b : ℕ) (v : View) → IsParted v (left_after (run_parcel first count index) v) (given_after (run_parcel first count index) v) →
+pub left_raw : (first count index floor b : ℕ) (v : View) →
+    IsParted v (left_after (run_parcel first count index) v) (given_after (run_parcel first count index) v) →
     (IsByteOf first count b → ⊥) → low_of (left_after (run_parcel first count index) v) b floor ≡ low_of v b floor
-left_raw first count index floor b v parted out = let e = other_low first count index b floor v out in let f = parted.floors b floor in omega arith
+left_raw first count index floor b v parted out = let e = other_low first count index b floor v out in let f = parted.floors b floor in
+    omega arith
 
 -- the note of a run has this lease alone
 pub given_lease : (first count index n : ℕ) (v : View) → lease_of (given_after (run_parcel first count index) v) n ≡ one (eqb index n)
@@ -120,5 +128,6 @@ handed = record {
   };
   only = λ first count n v. given_other first count n v;
   bytes = λ first count n b m v can out. left_raw first count n m b v (hand_parts (run_parcel first count n) v can) out;
-  leases = λ first count n m v can. let p = (hand_parts (run_parcel first count n) v can).leases m in let g = given_lease first count n m v in omega arith;
+  leases = λ first count n m v can. let p = (hand_parts (run_parcel first count n) v can).leases m in
+      let g = given_lease first count n m v in omega arith;
 }

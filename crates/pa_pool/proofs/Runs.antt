@@ -64,16 +64,20 @@ byte_apart first count b out = elim (cases_lt b (2097152 * first)) [
 ]
 
 -- one more run
-pub took_more : (n first count : ℕ) (ts : List Taken) (t : Taken) → Contains ts t → Contains (ts ++ record { entry = n; first = first; count = count } ∷ []) t
+pub took_more : (n first count : ℕ) (ts : List Taken) (t : Taken) → Contains ts t →
+    Contains (ts ++ record { entry = n; first = first; count = count } ∷ []) t
 took_more n first count ts t among = Contains-append_left ts (record { entry = n; first = first; count = count } ∷ []) t among
 
-pub took_last : (n first count : ℕ) (ts : List Taken) → Contains (ts ++ record { entry = n; first = first; count = count } ∷ []) (record { entry = n; first = first; count = count })
+pub took_last : (n first count : ℕ) (ts : List Taken) →
+    Contains (ts ++ record { entry = n; first = first; count = count } ∷ []) (record { entry = n; first = first; count = count })
 took_last n first count [] = first_in (record { entry = n; first = first; count = count }) []
 took_last n first count (u ∷ ts) =
-    later_in u (record { entry = n; first = first; count = count }) (ts ++ record { entry = n; first = first; count = count } ∷ []) (took_last n first count ts)
+    later_in u (record { entry = n; first = first; count = count }) (ts ++ record { entry = n; first = first; count = count } ∷ [])
+    (took_last n first count ts)
 
 -- of two runs that begin at one super page one is the other
-pub one_begins : (es : List PoolEntry) (s : PoolState) (t u : Taken) → IsSoundPool es s → Contains s.taken t → Contains s.taken u → u.first ≡ t.first → u ≡ t
+pub one_begins : (es : List PoolEntry) (s : PoolState) (t u : Taken) → IsSoundPool es s → Contains s.taken t → Contains s.taken u →
+    u.first ≡ t.first → u ≡ t
 one_begins es s t u h among also e =
     let m = h.some t among in let n = h.some u also in
     h.owned u t t.first also among (omega arith, omega arith) (omega arith, omega arith)
@@ -90,11 +94,14 @@ take_one count other first another e = (ap count_in e, of_some first another (ap
     first_in_act (Take n found) = found
     first_in_act (Give n from) = None
 
-pub found_one : (es : List PoolEntry) (n count other first another : ℕ) → FoundRun es n count first → FoundRun es n other another → (count ≡ other) × (first ≡ another)
-found_one es n count other first another f g = take_one count other first another (of_some (Take count (Some first)) (Take other (Some another)) (sym f ∙ g))
+pub found_one : (es : List PoolEntry) (n count other first another : ℕ) → FoundRun es n count first → FoundRun es n other another →
+    (count ≡ other) × (first ≡ another)
+found_one es n count other first another f g =
+    take_one count other first another (of_some (Take count (Some first)) (Take other (Some another)) (sym f ∙ g))
 
 -- after a give no run of its entry is taken
-pub gave_entry : (es : List PoolEntry) (s : PoolState) (t u : Taken) → IsSoundPool es s → Contains s.taken t → Contains (without_run t.first s.taken) u → u.entry ≡ t.entry → ⊥
+pub gave_entry : (es : List PoolEntry) (s : PoolState) (t u : Taken) → IsSoundPool es s → Contains s.taken t →
+    Contains (without_run t.first s.taken) u → u.entry ≡ t.entry → ⊥
 gave_entry es s t u h among left e =
     let also = without_in t.first s.taken u left in
     let f = (h.found t among).1 in

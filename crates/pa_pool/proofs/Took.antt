@@ -28,15 +28,22 @@ pub record IsMadeBy (e : PoolEntry) (before after : View) (m : Made) : Type 0 wh
   pub keeps : Keeps before after
   pub hosts : HostsKeeper 4 after
 
-pub made_by : (r : ℕ) (e : PoolEntry) (v w before after : View) (m : Made) → IsNoted r 4 (pool_numbers e) v w before after m → HostsKeeper 4 after → IsMadeBy e before after m
+pub made_by : (r : ℕ) (e : PoolEntry) (v w before after : View) (m : Made) → IsNoted r 4 (pool_numbers e) v w before after m →
+    HostsKeeper 4 after → IsMadeBy e before after m
 made_by r e v w before after m noted hosts = record { list = noted.list; says = noted.says; keeps = noted.hosts; hosts = hosts }
 
 pub more_kept : (v w : View) → Keeps v w → HasNoMore v → HasNoMore w
-more_kept v w k more = record { titles = no_title_kept v w k more.titles; budget = k.budget ∙ more.budget; keepers = λ n ne. k.keepers n ∙ more.keepers n ne }
+more_kept v w k more = record {
+  titles = no_title_kept v w k more.titles;
+  budget = k.budget ∙ more.budget;
+  keepers = λ n ne. k.keepers n ∙
+      more.keepers n ne;
+}
 
 module _ (line partition count supers : ℕ) (es : List PoolEntry) (h w : View) (m : Made) where
   -- if it found none
-  pub took_none : IsPoolSound supers es h → 1 ≤ count → IsLowest (pool_after es supers) count None → IsMadeBy (take_entry line partition count None) h w m →
+  pub took_none : IsPoolSound supers es h → 1 ≤ count → IsLowest (pool_after es supers) count None →
+      IsMadeBy (take_entry line partition count None) h w m →
       IsPoolSound supers (es ++ take_entry line partition count None ∷ []) w
   took_none sound some lowest made =
       next_pool supers es (take_entry line partition count None) w sound.few sound.pool (some, lowest)
@@ -60,8 +67,10 @@ module _ (line partition count supers : ℕ) (es : List PoolEntry) (h w : View) 
         elim (run.free t among) [ inl before ↦ absurd (omega arith) | inr after ↦ absurd (omega arith) ];
   }
 
-  low_here : (first b : ℕ) → IsPoolSound supers es h → IsFreeRun (pool_after es supers) count first → Keeps h w → IsByteOf first count b → 0 < low_of w b (length es)
-  low_here first b sound run keeps within = let low = sound.raw b (run_bytes first b run within) in let f = keeps.floors b (length es) in omega arith
+  low_here : (first b : ℕ) → IsPoolSound supers es h → IsFreeRun (pool_after es supers) count first → Keeps h w → IsByteOf first count b →
+      0 < low_of w b (length es)
+  low_here first b sound run keeps within = let low = sound.raw b (run_bytes first b run within) in let f = keeps.floors b (length es) in
+      omega arith
 
   -- no run has the next entry yet
   next_lease : IsPoolSound supers es h → Keeps h w → 0 < lease_of w (length es)
@@ -70,24 +79,33 @@ module _ (line partition count supers : ℕ) (es : List PoolEntry) (h w : View) 
       let e = keeps.leases (length es) in omega arith
 
   -- what a take found can be handed over
-  pub can_part : (first : ℕ) → IsPoolSound supers es h → IsFreeRun (pool_after es supers) count first → Keeps h w → CanHand (run_parcel first count (length es)) w
-  can_part first sound run keeps = handed.able first count (length es) (length es) w (λ b within. low_here first b sound run keeps within) (next_lease sound keeps)
+  pub can_part : (first : ℕ) → IsPoolSound supers es h → IsFreeRun (pool_after es supers) count first → Keeps h w →
+      CanHand (run_parcel first count (length es)) w
+  can_part first sound run keeps =
+      handed.able first count (length es) (length es) w (λ b within. low_here first b sound run keeps within) (next_lease sound keeps)
 
   -- what is handed over, and what stays
   pub note_has : (first : ℕ) → IsPoolSound supers es h → IsFreeRun (pool_after es supers) count first → Keeps h w →
-      HasRun first count (length es) (length es) (given_after (run_parcel first count (length es)) w) × HasNoOther first count (given_after (run_parcel first count (length es)) w)
-  note_has first sound run keeps =
-      (handed.given first count (length es) (length es) w (λ b within. low_here first b sound run keeps within), handed.only first count (length es) w)
+      HasRun first count (length es) (length es) (given_after (run_parcel first count (length es)) w) ×
+      HasNoOther first count (given_after (run_parcel first count (length es)) w)
+  note_has first sound run keeps = (
+    handed.given first count (length es) (length es) w (λ b within. low_here first b sound run keeps within),
+    handed.only first count (length es) w,
+  )
 
-  rest_hosts : (first : ℕ) → HostsKeeper 4 w → IsParted w (left_after (run_parcel first count (length es)) w) (given_after (run_parcel first count (length es)) w) →
+  rest_hosts : (first : ℕ) → HostsKeeper 4 w →
+      IsParted w (left_after (run_parcel first count (length es)) w) (given_after (run_parcel first count (length es)) w) →
       HostsKeeper 4 (left_after (run_parcel first count (length es)) w)
   rest_hosts first hosts parted =
-      let u = parted.unclean in let z = hosts.0.1 in let k = parted.keepers 4 in let g = given_keeper first count (length es) 4 w in let has = hosts.1 in
+      let u = parted.unclean in let z = hosts.0.1 in let k = parted.keepers 4 in let g = given_keeper first count (length es) 4 w in
+      let has = hosts.1 in
       (((λ n. let p = parted.stakes n in let y = hosts.0.0 n in omega arith), omega arith), omega arith)
 
   -- the leases that are left
-  rest_here : (first n : ℕ) → IsPoolSound supers es h → Keeps h w → IsParted w (left_after (run_parcel first count (length es)) w) (given_after (run_parcel first count (length es)) w) →
-      (IsEntryOut (took count (Some first) (pool_after es supers)) n → ⊥) → 0 < lease_of (left_after (run_parcel first count (length es)) w) n
+  rest_here : (first n : ℕ) → IsPoolSound supers es h → Keeps h w →
+      IsParted w (left_after (run_parcel first count (length es)) w) (given_after (run_parcel first count (length es)) w) →
+      (IsEntryOut (took count (Some first) (pool_after es supers)) n → ⊥) →
+      0 < lease_of (left_after (run_parcel first count (length es)) w) n
   rest_here first n sound keeps parted none =
       let s = pool_after es supers in
       let c = counted supers es in
@@ -96,11 +114,17 @@ module _ (line partition count supers : ℕ) (es : List PoolEntry) (h w : View) 
       let k = keeps.leases n in
       let l = sound.here n (λ is. none (is.0, took_more s.entries first count s.taken is.0 is.1, is.2)) in
       elim (eqb_tells (length es) n) [
-        | inl y ↦ absurd (none (record { entry = s.entries; first = first; count = count }, took_last s.entries first count s.taken, c ∙ y.1))
+        | inl y ↦ absurd (none (
+          record { entry = s.entries; first = first; count = count },
+          took_last s.entries first count s.taken,
+          c ∙
+              y.1,
+        ))
         | inr ne ↦ let z : one (eqb (length es) n) ≡ 0 = ap one ne.0 in omega arith
       ]
 
-  rest_out : (first n : ℕ) → IsPoolSound supers es h → Keeps h w → IsAware w → IsParted w (left_after (run_parcel first count (length es)) w) (given_after (run_parcel first count (length es)) w) →
+  rest_out : (first n : ℕ) → IsPoolSound supers es h → Keeps h w → IsAware w →
+      IsParted w (left_after (run_parcel first count (length es)) w) (given_after (run_parcel first count (length es)) w) →
       IsEntryOut (took count (Some first) (pool_after es supers)) n → lease_of (left_after (run_parcel first count (length es)) w) n ≡ 0
   rest_out first n sound keeps aware parted is =
       let s = pool_after es supers in
@@ -118,7 +142,8 @@ module _ (line partition count supers : ℕ) (es : List PoolEntry) (h w : View) 
       ]
 
   -- if it found some
-  pub took_some : (first : ℕ) → IsPoolSound supers es h → 1 ≤ count → IsLowest (pool_after es supers) count (Some first) → IsMadeBy (take_entry line partition count (Some first)) h w m → IsAware w →
+  pub took_some : (first : ℕ) → IsPoolSound supers es h → 1 ≤ count → IsLowest (pool_after es supers) count (Some first) →
+      IsMadeBy (take_entry line partition count (Some first)) h w m → IsAware w →
       IsParted w (left_after (run_parcel first count (length es)) w) (given_after (run_parcel first count (length es)) w) →
       IsPoolSound supers (es ++ take_entry line partition count (Some first) ∷ []) (left_after (run_parcel first count (length es)) w)
   took_some first sound some lowest made aware parted =
@@ -129,8 +154,13 @@ module _ (line partition count supers : ℕ) (es : List PoolEntry) (h w : View) 
       (rest_hosts first made.hosts parted)
       (record {
         raw = λ b free.
-            let out : IsByteOf first count b → ⊥ = λ within. free.free (record { entry = s.entries; first = first; count = count }) (took_last s.entries first count s.taken) within in
-            let low = sound.raw b (record { inside = free.inside; free = λ t among. free.free t (took_more s.entries first count s.taken t among) }) in
+            let out : IsByteOf first count b →
+            ⊥ = λ within. free.free (record { entry = s.entries; first = first; count = count })
+            (took_last s.entries first count s.taken) within in
+            let low = sound.raw b (record {
+              inside = free.inside;
+              free = λ t among. free.free t (took_more s.entries first count s.taken t among);
+            }) in
             let f = made.keeps.floors b (length es) in
             let e = left_raw first count (length es) (length es) b w parted out in
             let r = low_rises left b (length es) (length es + 1) (omega arith) in
@@ -147,8 +177,10 @@ module _ (line partition count supers : ℕ) (es : List PoolEntry) (h w : View) 
       })
 
   -- what a take ensures, of the views that the call leaves
-  pub take_ends : (first index : ℕ) (l g : View) → l ≡ left_after (run_parcel first count index) w → g ≡ given_after (run_parcel first count index) w → index ≡ length es → IsParted w l g →
-      IsPoolSound supers es h → 1 ≤ count → IsLowest (pool_after es supers) count (Some first) → IsMadeBy (take_entry line partition count (Some first)) h w m → IsAware w →
+  pub take_ends : (first index : ℕ) (l g : View) → l ≡ left_after (run_parcel first count index) w →
+      g ≡ given_after (run_parcel first count index) w → index ≡ length es → IsParted w l g →
+      IsPoolSound supers es h → 1 ≤ count → IsLowest (pool_after es supers) count (Some first) →
+      IsMadeBy (take_entry line partition count (Some first)) h w m → IsAware w →
       IsPoolSound supers (es ++ take_entry line partition count (Some first) ∷ []) l
       × (HasRun first count index index g × HasNoOther first count g) × (list_of 4 g ≡ list_of 4 l) × (list_of 4 l ≡ list_of 4 w)
   take_ends first index l g is_left is_given place parted sound some lowest made aware =
@@ -158,7 +190,8 @@ module _ (line partition count supers : ℕ) (es : List PoolEntry) (h w : View) 
       let b : g ≡ given = is_given ∙ ap (λ n. given_after (run_parcel first count n) w) place in
       let p : IsParted w left given = subst (λ x. IsParted w x given) a (subst (λ x. IsParted w l x) b parted) in
       let note = note_has first sound lowest.0 made.keeps in (
-        subst (λ x. IsPoolSound supers (es ++ take_entry line partition count (Some first) ∷ []) x) (sym a) (took_some first sound some lowest made aware p),
+        subst (λ x. IsPoolSound supers (es ++ take_entry line partition count (Some first) ∷ []) x) (sym a)
+            (took_some first sound some lowest made aware p),
         (
           subst (λ x. HasRun first count index index x) (sym b) (subst (λ n. HasRun first count n n given) (sym place) note.0),
           subst (λ x. HasNoOther first count x) (sym b) note.1,

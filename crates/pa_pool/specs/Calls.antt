@@ -50,8 +50,8 @@ Enters e a b p q = (m : Made) × IsEntered (least_stake a.view.stakes) e a.view 
 abbrev pub HasRaw : (first count floor : ℕ) → View → Type 0
 HasRaw first count floor v = (b : ℕ) → IsByteOf first count b → 0 < low_of v b floor
 
--- The view has the `count` super pages from `first` on as raw, with floors of at most `floor`, and the lease n. But for raw bytes it
--- has nothing else.
+-- The view has the `count` super pages from `first` on as raw, with floors of at most `floor`, and the lease n.
+-- But for raw bytes it has nothing else.
 pub record HasRun (first count floor n : ℕ) (v : View) : Type 0 where
   pub raw : HasRaw first count floor v
   pub leases : (m : ℕ) → lease_of v m ≡ one (n == m)
@@ -68,8 +68,8 @@ run_parcel first count index = parcel_of (Raw (2097152 * first) (2097152 * count
 abbrev pub HasNoOther : (first count : ℕ) → View → Type 0
 HasNoOther first count v = (b : ℕ) → (IsByteOf first count b → ⊥) → held_of_view v (RawByte b) ≡ 0
 
--- The pool was asked for `count` super pages, and found the lowest that are free, or none if there are none. Its new entry,
--- with this index, says so.
+-- The pool was asked for `count` super pages, and found the lowest that are free, or none if there are none.
+-- Its new entry, with this index, says so.
 pub record IsTaken (line partition count : ℕ) (found : Option ℕ) (index : ℕ)
     (seat seat_now : Share) (pool pool_now : PoolValue) : Type 0 where
   pub place : index ≡ length pool.entries
@@ -95,8 +95,8 @@ abbrev pub Refused : (line partition count : ℕ) → (seat seat_now : Share) �
 Refused line partition count a b p q (NoRoom index) = IsTaken line partition count None index a b p q
 Refused line partition count a b p q OutOfMemory = IsAsBefore p q × (b ≡ a)
 
--- a view has seen that entry `taken` of the pool's list is a take of this partition that found `count` super pages, those
--- from `first` on
+-- a view has seen that entry `taken` of the pool's list is a take of this partition
+-- that found `count` super pages, those from `first` on
 pub record HasSeenTake (partition taken first count : ℕ) (v : View) : Type 0 where
   pub line : ℕ
   pub made : Made

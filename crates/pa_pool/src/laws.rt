@@ -5,8 +5,8 @@ pub fn seen_takes_stay()
     ensures { SeenTakesStay }
 {}
 
-/// A seat that has super pages as raw, and a lease, can hand them over. The law also says what the note has then, and what
-/// stays.
+/// A seat that has super pages as raw, and a lease, can hand them over.
+/// The law also says what the note has then, and what stays.
 pub fn runs_are_handed()
     ensures { RunsAreHanded }
 {}

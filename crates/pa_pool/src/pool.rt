@@ -54,8 +54,8 @@ impl<N: Name> Model for Pool<N> {
 }
 
 impl<N: Name> Pool<N> {
-    /// The pool of the region's super pages, at most 64, and none is taken. The note has them as raw, the pool's keeper,
-    /// and every lease.
+    /// The pool of the region's super pages, at most 64, and none is taken. The note has them as raw,
+    /// the pool's keeper, and every lease.
     pub fn open(alloc: Global, note: Note, supers: u32) -> Result<Pool<N>, OutOfMemory>
         requires region { note.region ≡ N.region }
         requires whole { byte_word_count N.region ≡ 262144 * supers }

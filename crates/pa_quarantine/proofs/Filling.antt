@@ -28,14 +28,19 @@ plain_after : (at_byte value : ℕ) (v w : View) → w ≡ after_store at_byte v
     w ≡ record v { words = set v.words (at_byte / 8) value; since = record v.since { stored = true } }
 plain_after at_byte value v w e owns =
     let same : (after_store at_byte value v).owns ≡ v.owns = sym (ap (λ (x : View). x.owns) e) ∙ owns in
-    e ∙ ap (λ (os : List OwnTitle). record v { words = set v.words (at_byte / 8) value; owns = os; since = record v.since { stored = true } }) same
+    e ∙ ap (λ (os : List OwnTitle). record v {
+      words = set v.words (at_byte / 8) value;
+      owns = os;
+      since = record v.since { stored = true };
+    }) same
 
 -- a content word's offset, and its number among the region's words
 pub offset_place : (n : ℕ) (t : Title) (j at_byte : ℕ) → IsWellFormed n t → at_byte ≡ t.start + 8 * j → at_byte / 8 ≡ content_place t j
 offset_place n t j at_byte well e = let a = well.start_aligned in omega arith
 
 -- a content word of a free title may be stored to, while words before it are set to 0
-pub zero_plain : (n : ℕ) (t : Title) (j at_byte : ℕ) (v u : View) → IsWellFormed n t → at_byte ≡ t.start + 8 * j → j < content_count t → 0 < free_of v t →
+pub zero_plain : (n : ℕ) (t : Title) (j at_byte : ℕ) (v u : View) → IsWellFormed n t → at_byte ≡ t.start + 8 * j → j < content_count t →
+    0 < free_of v t →
     u ≡ zeros_to t j v → HasRawWord u at_byte ⊎ HasFreeContent u at_byte
 zero_plain n t j at_byte v u well e below has same =
     let a = well.start_aligned in let b = well.len_aligned in let c = well.long in
@@ -46,7 +51,8 @@ zero_plain n t j at_byte v u well e below has same =
     still (suc k) = has
 
 -- the next store of 0 may be made
-pub zero_can : (n : ℕ) (t : Title) (j at_byte : ℕ) (v u : View) → IsWellFormed n t → at_byte ≡ t.start + 8 * j → j < content_count t → 0 < free_of v t →
+pub zero_can : (n : ℕ) (t : Title) (j at_byte : ℕ) (v u : View) → IsWellFormed n t → at_byte ≡ t.start + 8 * j → j < content_count t →
+    0 < free_of v t →
     u ≡ zeros_to t j v → CanStore at_byte u
 zero_can n t j at_byte v u well e below has same =
     let a = well.start_aligned in
@@ -54,7 +60,10 @@ zero_can n t j at_byte v u well e below has same =
 
 -- one word more
 zero_step : (t : Title) (k : ℕ) (v : View) →
-    record (zeros_to t k v) { words = set (zeros_to t k v).words (content_place t k) 0; since = record (zeros_to t k v).since { stored = true } } ≡ zeros_to t (suc k) v
+    record (zeros_to t k v) {
+      words = set (zeros_to t k v).words (content_place t k) 0;
+      since = record (zeros_to t k v).since { stored = true };
+    } ≡ zeros_to t (suc k) v
 unfolding filled_with
 zero_step t zero v = refl
 zero_step t (suc k) v = refl
@@ -80,7 +89,8 @@ zero_end t j v u some_content all e = e ∙ (ap (λ (k : ℕ). zeros_to t k v) a
     go (suc k) h = refl
 
 -- the content is 0 then
-pub zero_content : FilledWords → (n : ℕ) (t : Title) (v u : View) → IsWellFormed n t → length v.words ≡ n → u ≡ zeroed t v → HasContentFrom u.words t 0 0
+pub zero_content : FilledWords → (n : ℕ) (t : Title) (v u : View) → IsWellFormed n t → length v.words ≡ n → u ≡ zeroed t v →
+    HasContentFrom u.words t 0 0
 zero_content law n t v u well long e i low below =
     let a = well.start_aligned in let b = well.len_aligned in let c = well.long in let d = well.inside in
     ap (λ (x : View). slice_index x.words (content_place t i)) e ∙ (law 0 t (content_count t) v.words).0 i below (omega arith)
@@ -116,7 +126,8 @@ open_own law v t h = let a = law v t Clean in let b = law v t Dirty in omega ari
 -- an Own that was poisoned so far, in the view after it
 poisoned_there : OwnsChange → (v : View) (t : Title) (n : ℕ) → 0 < own_of v t →
     (0 < sum_by (λ (o : OwnTitle). one (same_title o.title t && (progress o.state == n))) (changed (is_own_of t) (poisoned_to n) v.owns)) ×
-    (0 < sum_by (λ (o : OwnTitle). one (same_title o.title t && same_state o.state (Poisoned n))) (changed (is_own_of t) (poisoned_to n) v.owns))
+    (0 < sum_by (λ (o : OwnTitle). one (same_title o.title t && same_state o.state (Poisoned n)))
+    (changed (is_own_of t) (poisoned_to n) v.owns))
 poisoned_there law v t n has =
     let first = law.0 t (poisoned_to n) v.owns has in
     let a = first.1.replaced (λ (o : OwnTitle). one (same_title o.title t && (progress o.state == n))) in
@@ -124,11 +135,13 @@ poisoned_there law v t n has =
     let a1 = first.1.within (λ (o : OwnTitle). one (same_title o.title t && (progress o.state == n))) in
     let b1 = first.1.within (λ (o : OwnTitle). one (same_title o.title t && same_state o.state (Poisoned n))) in
     let x : one (same_title first.0.title t && (n == n)) ≡ 1 = rw (first.1.is_own, eq-eqb n n refl) refl in
-    let y : one (same_title first.0.title t && same_state (Poisoned n) (Poisoned n)) ≡ 1 = rw (first.1.is_own, state_self (Poisoned n)) refl in
+    let y : one (same_title first.0.title t && same_state (Poisoned n) (Poisoned n)) ≡ 1 =
+    rw (first.1.is_own, state_self (Poisoned n)) refl in
     (omega arith, omega arith)
 
 -- the next word may be poisoned
-pub poison_can : StatesAreOwns → OwnsChange → (t : Title) (j : ℕ) (v u : View) → j < content_count t → 0 < own_as v t Clean + own_as v t Dirty → HasStake v →
+pub poison_can : StatesAreOwns → OwnsChange → (t : Title) (j : ℕ) (v u : View) → j < content_count t →
+    0 < own_as v t Clean + own_as v t Dirty → HasStake v →
     poisoned_owns v ≡ 0 → u ≡ poisons_to t j v → CanPoison t j u
 poison_can states law t j v u below has stake none same = subst (λ (x : View). CanPoison t j x) (sym same) (go j below)
   where
@@ -137,7 +150,8 @@ poison_can states law t j v u below has stake none same = subst (λ (x : View). 
     go (suc k) less = ((poisoned_there law v t (suc k) (open_own states v t has)).0, less, stake, refl)
 
 -- a change of the first Own that was changed
-changed_twice : (t : Title) (n m : ℕ) (os : List OwnTitle) → changed (is_own_of t) (poisoned_to m) (changed (is_own_of t) (poisoned_to n) os) ≡ changed (is_own_of t) (poisoned_to m) os
+changed_twice : (t : Title) (n m : ℕ) (os : List OwnTitle) →
+    changed (is_own_of t) (poisoned_to m) (changed (is_own_of t) (poisoned_to n) os) ≡ changed (is_own_of t) (poisoned_to m) os
 changed_twice t n m [] = refl
 changed_twice t n m (o ∷ os) = elim (cases_Bool (is_own_of t o)) [
   | inl y ↦ rw (y, y) refl
@@ -173,7 +187,8 @@ poison_end t j v u some_content all e = e ∙ (ap (λ (k : ℕ). poisons_to t k 
     go (suc k) h = refl
 
 -- the Own can be freed then
-pub poison_ready : StatesAreOwns → OwnsChange → (t : Title) (v : View) → 0 < own_as v t Clean + own_as v t Dirty → 0 < own_as (poisoned t v) t (Poisoned (content_count t))
+pub poison_ready : StatesAreOwns → OwnsChange → (t : Title) (v : View) → 0 < own_as v t Clean + own_as v t Dirty →
+    0 < own_as (poisoned t v) t (Poisoned (content_count t))
 poison_ready states law t v has = (poisoned_there law v t (content_count t) (open_own states v t has)).1
 
 -- After a look the view has the same handles and words, and a stake: so it may read.
@@ -187,7 +202,8 @@ pub look_stake : LookLeaves → (t : Title) (word : ℕ) (v u : View) → u ≡ 
 look_stake law t word v u e has = let l = (law t word v has).1.least in subst (λ (x : View). HasStake x) (sym e) (omega arith)
 
 -- the log of a view after a look ends with that look
-pub look_last : LookLeaves → (t : Title) (word : ℕ) (v u : View) → u ≡ after_look t word v → HasStake v → last_entry (least_log u.stakes) ≡ Some (Looked t word)
+pub look_last : LookLeaves → (t : Title) (word : ℕ) (v u : View) → u ≡ after_look t word v → HasStake v →
+    last_entry (least_log u.stakes) ≡ Some (Looked t word)
 look_last law t word v u e has = ap (λ (x : View). last_entry (least_log x.stakes)) e ∙ (law t word v has).1.last
 
 -- a view has its Own of the title after a look as before

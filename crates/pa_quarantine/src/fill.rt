@@ -27,8 +27,8 @@ pub fn zero_fill(region: &Region, seat: &mut Seat, title: Title)
     }
 }
 
-/// Poisons every content word of the seat's Own, in address order, so that it can be freed. It begins while no Own of the
-/// seat is poisoned.
+/// Poisons every content word of the seat's Own, in address order, so that it can be freed.
+/// It begins while no Own of the seat is poisoned.
 pub fn poison(region: &Region, seat: &mut Seat, title: Title)
     requires region { seat.old.region ≡ region.now }
     requires able { (0 < own_as seat.old.view title Clean + own_as seat.old.view title Dirty) × HasStake seat.old.view }
@@ -45,8 +45,8 @@ pub fn poison(region: &Region, seat: &mut Seat, title: Title)
     }
 }
 
-/// Writes the value to every content word of the seat's Own, in address order, if no `raw_ptr` points to it, and then
-/// records the write.
+/// Writes the value to every content word of the seat's Own, in address order,
+/// if no `raw_ptr` points to it, and then records the write.
 pub fn write(region: &Region, seat: &mut Seat, title: Title, value: u64) -> Word
     requires region { seat.old.region ≡ region.now }
     requires own { (0 < idle_of seat.old.view title) × (0 < own_as seat.old.view title Clean + own_as seat.old.view title Dirty) }

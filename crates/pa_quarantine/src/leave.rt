@@ -18,11 +18,12 @@ use pa_region::{Region, Seat, looks_leave, owns_change, states_are_owns};
 use pa_slot::{Title, Word};
 
 /// The owner frees the slot: its content is poisoned, and then it is freed in one step. `Last` if and only if no
-/// `raw_ptr` points to it: then the seat holds the title free. Else the slot is quarantined. No Own of the seat is poisoned
-/// before.
+/// `raw_ptr` points to it: then the seat holds the title free. Else the slot is quarantined.
+/// No Own of the seat is poisoned before.
 pub fn free_owned(region: &Region, seat: &mut Seat, title: Title) -> (Word, Fate)
     requires region { seat.old.region ≡ region.now }
-    requires able { (0 < own_as seat.old.view title Clean + own_as seat.old.view title Dirty) × HasStake seat.old.view × (0 < seat.old.view.budget) }
+    requires able { (0 < own_as seat.old.view title Clean + own_as seat.old.view title Dirty) × HasStake seat.old.view ×
+        (0 < seat.old.view.budget) }
     requires begins { poisoned_owns seat.old.view ≡ 0 }
     ensures made { IsStepMade Free title result.0.0 (poisoned_share title seat.old) seat.new }
     ensures fate { (result.1 ≡ Fate.Last) ↔ IsReturning Free result.0.0 }

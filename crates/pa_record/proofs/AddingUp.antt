@@ -43,11 +43,13 @@ out_is_name s name n out =
     let p = out.provisioned in
     let miss = false_from_ne_true _ (λ hit. out.out (has_some n s.free hit)) in
     let passes : not (list_any (eqb n) s.free) ≡ true = rw miss refl in
-    let member = filter_in (λ n. not (list_any (eqb n) s.free)) (numbers 0 s.provisioned) n (numbers_has 0 s.provisioned n (omega arith) (omega arith)) passes in
+    let member = filter_in (λ n. not (list_any (eqb n) s.free)) (numbers 0 s.provisioned) n
+    (numbers_has 0 s.provisioned n (omega arith) (omega arith)) passes in
     subst (λ x. Contains (names_of s) x) (sym out.named) (map_in (λ n. name_of (title_at s n)) (out_of s) n member)
 
 -- one name that is out has one span and one number
-out_once : (r : Root) (s u : Span) (n m : ℕ) (name : SlotName) → IsSound r → Contains r.spans s → Contains r.spans u → IsOutOf s name n → IsOutOf u name m → AreOne s u n m
+out_once : (r : Root) (s u : Span) (n m : ℕ) (name : SlotName) → IsSound r → Contains r.spans s → Contains r.spans u → IsOutOf s name n →
+    IsOutOf u name m → AreOne s u n m
 out_once r s u n m name sound first second out out' =
     let same = sym out.named ∙ out'.named in
     one_slot r s u n m sound first second (slot_low r s name n sound first out) (slot_low r u name m sound second out')
@@ -81,7 +83,8 @@ spans_once r sound =
 all_once : (r : Root) → IsSound r → AllPairs Differ (names_out r)
 all_once r sound =
     pairs_append Differ (flat_map names_of r.spans) (map name_of r.maps) (spans_once r sound)
-    (pairs_map (λ (t u : Title). t.born ≢ u.born) Differ name_of r.maps (λ t u p q differ same. differ (ap (λ (x : SlotName). x.born) same)) sound.alone)
+    (pairs_map (λ (t u : Title). t.born ≢ u.born) Differ name_of r.maps
+    (λ t u p q differ same. differ (ap (λ (x : SlotName). x.born) same)) sound.alone)
     (λ a b p q same.
     let (s, among, here) = flat_cases names_of r.spans a p in
     let (n, out) = name_is_out s a here in
@@ -101,8 +104,12 @@ listed_out r name among = elim (Contains-append_cases (flat_map names_of r.spans
 
 out_listed : (r : Root) (name : SlotName) → IsNameOut r name → Contains (names_out r) name
 out_listed r name out = elim (name_cases r name out) [
-  | inl (s, among, n, is) ↦ Contains-append_left (flat_map names_of r.spans) (map name_of r.maps) name (flat_in names_of r.spans s name among (out_is_name s name n is))
-  | inr (u, member, same) ↦ Contains-append_right (flat_map names_of r.spans) (map name_of r.maps) name (subst (λ x. Contains (map name_of r.maps) x) (sym same) (map_in name_of r.maps u member))
+  | inl (s, among, n, is) ↦
+      Contains-append_left (flat_map names_of r.spans) (map name_of r.maps) name
+      (flat_in names_of r.spans s name among (out_is_name s name n is))
+  | inr (u, member, same) ↦
+      Contains-append_right (flat_map names_of r.spans) (map name_of r.maps) name
+      (subst (λ x. Contains (map name_of r.maps) x) (sym same) (map_in name_of r.maps u member))
 ]
 
 -- what each span keeps and what is out of it are the slots of it that were made
@@ -129,7 +136,8 @@ counted r sound =
     let a = length-append (flat_map names_of r.spans) (map name_of r.maps) in
     let b = length-map r.maps name_of in
     let c = length-flat_map names_of r.spans in
-    let d = sums_add kept_of (λ s. length (names_of s)) (λ (s : Span). s.made) r.spans (λ s among. span_adds s (sound.spans s among).counted) in
+    let d = sums_add kept_of (λ s. length (names_of s)) (λ (s : Span). s.made) r.spans
+    (λ s among. span_adds s (sound.spans s among).counted) in
     omega arith
 
 sound_adds_up : (r : Root) → IsSound r → AddsUp r

@@ -26,7 +26,8 @@ use Rattle.pa_record.proofs.Titles.{new_sound, new_born, rise_parts, made_born, 
 abbrev HasAsked : List ℕ → Root → Type 0
 HasAsked xs r = (at : SuperPage) → Contains r.supers at → Contains xs at.born
 
-fill_asked : (pools : List PoolEntry) (class n : ℕ) (asked : Option ℕ) (r : Root) (xs : List ℕ) → IsSound r → IsBornBelow n r → AsksFrom n asked → class < 170 → HasAsked xs r →
+fill_asked : (pools : List PoolEntry) (class n : ℕ) (asked : Option ℕ) (r : Root) (xs : List ℕ) → IsSound r → IsBornBelow n r →
+    AsksFrom n asked → class < 170 → HasAsked xs r →
     HasAsked (xs ++ cons_option asked []) (takes class (fill_of class) (opened_by pools asked r)).root
 fill_asked pools class n None r xs sound old asks real h at member =
     Contains-append_left xs [] at.born (h at (subst (λ ys. Contains ys at) (takes_filled class (fill_of class) r sound real).supers member))
@@ -36,16 +37,21 @@ fill_asked pools class n (Some j) r xs sound old asks real h at member =
     let f = takes_filled class (fill_of class) (opened number j r) (opened_sound number j r sound (born_more n j r asks old)) real in
     elim (Contains-push_cases r.supers new at (subst (λ ys. Contains ys at) f.supers member)) [
       | inl before ↦ Contains-append_left xs (j ∷ []) at.born (h at before)
-      | inr e ↦ Contains-append_right xs (j ∷ []) at.born (subst (λ k. Contains (j ∷ []) k) (ap (λ (x : SuperPage). x.born) e) (first_in j []))
+      | inr e ↦ Contains-append_right xs (j ∷ []) at.born
+          (subst (λ k. Contains (j ∷ []) k) (ap (λ (x : SuperPage). x.born) e) (first_in j []))
     ]
 
-next_asked : (pools : List PoolEntry) (act : RootAct) (n : ℕ) (r : Root) (xs : List ℕ) → IsSound r → IsSettled r → IsBornBelow n r → AsksFrom n (asked_by act) → RootActFits pools act r →
+next_asked : (pools : List PoolEntry) (act : RootAct) (n : ℕ) (r : Root) (xs : List ℕ) → IsSound r → IsSettled r → IsBornBelow n r →
+    AsksFrom n (asked_by act) → RootActFits pools act r →
     HasAsked xs r → HasAsked (xs ++ cons_option (asked_by act) []) (root_next pools act r)
-next_asked pools (Fill class asked slots) n r xs sound few old asks fits h at member = fill_asked pools class n asked r xs sound old asks fits.0 h at member
-next_asked pools (Map asked slot len) n r xs sound few old asks fits h at member = Contains-append_left xs (asked ∷ []) at.born (h at member)
+next_asked pools (Fill class asked slots) n r xs sound few old asks fits h at member =
+    fill_asked pools class n asked r xs sound old asks fits.0 h at member
+next_asked pools (Map asked slot len) n r xs sound few old asks fits h at member =
+    Contains-append_left xs (asked ∷ []) at.born (h at member)
 next_asked pools (Full class asked) n r xs sound few old asks fits h at member = Contains-append_left xs (asked ∷ []) at.born (h at member)
 next_asked pools (Give slots) n r xs sound few old asks fits h at member =
-    Contains-append_left xs [] at.born (h at (subst (λ ys. Contains ys at) (all_returned_is (names slots) r sound fits.0 fits.1).kept.supers member))
+    Contains-append_left xs [] at.born
+    (h at (subst (λ ys. Contains ys at) (all_returned_is (names slots) r sound fits.0 fits.1).kept.supers member))
 next_asked pools (Unmap asked slot) n r xs sound few old asks fits h at member = Contains-append_left xs (asked ∷ []) at.born (h at member)
 next_asked pools Purge n r xs sound few old asks fits h at member =
     Contains-append_left xs [] at.born (h at (subst (λ ys. Contains ys at) (times_is (empties r) r sound).kept.supers member))
@@ -55,7 +61,8 @@ cons_parts None xs rest = ap (λ ys. ys ++ rest) (append-nil xs)
 cons_parts (Some j) xs rest = append_assoc xs (j ∷ []) rest
 
 -- the root's super pages after some entries
-all_supers : (pools : List PoolEntry) (es : List RootEntry) (n : ℕ) (r : Root) (xs : List ℕ) → IsSound r → IsSettled r → IsBornBelow n r → RootReplays pools es r →
+all_supers : (pools : List PoolEntry) (es : List RootEntry) (n : ℕ) (r : Root) (xs : List ℕ) → IsSound r → IsSettled r → IsBornBelow n r →
+    RootReplays pools es r →
     RiseFrom n (all_asked es) → HasAsked xs r → HasAsked (xs ++ all_asked es) (root_replayed pools es r)
 all_supers pools [] n r xs sound few old fits rise h = subst (λ ys. HasAsked ys r) (sym (append-nil xs)) h
 all_supers pools (e ∷ es) n r xs sound few old fits rise h =
@@ -64,7 +71,8 @@ all_supers pools (e ∷ es) n r xs sound few old fits rise h =
     let after = root_next pools e.act r in
     let ys = xs ++ cons_option (asked_by e.act) [] in
     subst (λ zs. HasAsked zs (root_replayed pools es after)) (cons_parts (asked_by e.act) xs (all_asked es))
-    (all_supers pools es (least_after n (asked_by e.act)) after ys next.sound next.settled next.born fits.1 rest (next_asked pools e.act n r xs sound few old asks fits.0 h))
+    (all_supers pools es (least_after n (asked_by e.act)) after ys next.sound next.settled next.born fits.1 rest
+    (next_asked pools e.act n r xs sound few old asks fits.0 h))
 
 -- an entry that names it
 abbrev HasNamer : List RootEntry → ℕ → Type 0
@@ -83,7 +91,8 @@ namer [] j among = absurd (not_in_none j among)
 namer (e ∷ es) j among = namer_by es e j (asked_by e.act) refl (λ rest. namer es j rest) among
 
 -- the entry that mapped a title names its entry of the pool
-map_namer : (pools : List PoolEntry) (es : List RootEntry) (r : Root) (t : Title) → RootReplays pools es r → IsMapBy es t → HasNamer es t.born
+map_namer : (pools : List PoolEntry) (es : List RootEntry) (r : Root) (t : Title) → RootReplays pools es r → IsMapBy es t →
+    HasNamer es t.born
 map_namer pools [] r t fits (e, asked, len, slot, among, act, is) = absurd (not_in_none e among)
 map_namer pools (f ∷ es) r t fits (e, asked, len, slot, among, act, is) = elim (in_cases f e es among) [
   | inl same ↦
@@ -99,7 +108,8 @@ pub titles_are_asked : TitlesAreAsked
 titles_are_asked pools journal t h (inl made) =
     let root = root_replayed pools journal new_root in
     let r = journal_replayed pools journal h.replays h.rise in
-    let supers = all_supers pools journal 0 new_root [] new_sound (omega arith) new_born h.replays h.rise (λ at member. absurd (not_in_none at member)) in
+    let supers = all_supers pools journal 0 new_root [] new_sound (omega arith) new_born h.replays h.rise
+    (λ at member. absurd (not_in_none at member)) in
     let (at, member, born) = made_born root t r.sound made in
     namer journal t.born (subst (λ k. Contains (all_asked journal) k) (sym born) (supers at member))
 titles_are_asked pools journal t h (inr mapped) = map_namer pools journal new_root t h.replays mapped

@@ -31,7 +31,8 @@ act_low (x ∷ pools) zero a e = omega arith
 act_low (x ∷ pools) (suc j) a e = let p = act_low pools j a e in omega arith
 
 -- the entry that a journal entry names is in the pool's list
-least_low : (pools : List PoolEntry) (act : RootAct) (n : ℕ) (r : Root) → RootActFits pools act r → n ≤ length pools → least_after n (asked_by act) ≤ length pools
+least_low : (pools : List PoolEntry) (act : RootAct) (n : ℕ) (r : Root) → RootActFits pools act r → n ≤ length pools →
+    least_after n (asked_by act) ≤ length pools
 least_low pools (Fill class None slots) n r fits low = low
 least_low pools (Fill class (Some j) slots) n r fits low = let p = act_low pools j _ fits.1.2 in omega arith
 least_low pools (Map asked slot len) n r fits low = let p = act_low pools asked _ fits.1 in omega arith
@@ -41,7 +42,8 @@ least_low pools (Give slots) n r fits low = low
 least_low pools (Unmap asked slot) n r fits low = let p = act_low pools asked _ fits.4 in omega arith
 least_low pools Purge n r fits low = low
 
-all_low : (pools : List PoolEntry) (es : List RootEntry) (n : ℕ) (r : Root) → RootReplays pools es r → n ≤ length pools → least_after_all n es ≤ length pools
+all_low : (pools : List PoolEntry) (es : List RootEntry) (n : ℕ) (r : Root) → RootReplays pools es r → n ≤ length pools →
+    least_after_all n es ≤ length pools
 all_low pools [] n r fits low = low
 all_low pools (e ∷ es) n r fits low =
     all_low pools es (least_after n (asked_by e.act)) (root_next pools e.act r) fits.1 (least_low pools e.act n r fits.0 low)

@@ -61,7 +61,8 @@ latest_first test s ss (Some t) e hit h = elim (cases_Bool (ltb s.turn t.turn)) 
 pub latest_is : (test : Span → Bool) (ss : List Span) (s : Span) → latest test ss ≡ Some s → IsLatest test ss s
 latest_is test [] s e = absurd (not_some s e)
 latest_is test (t ∷ ss) s e = elim (cases_Bool (test t)) [
-  | inl hit ↦ subst (λ z. IsLatest test (t ∷ ss) z) (of_some _ s (rw hit at e)) (latest_first test t ss (latest test ss) refl hit (λ u k. latest_is test ss u k))
+  | inl hit ↦ subst (λ z. IsLatest test (t ∷ ss) z) (of_some _ s (rw hit at e))
+      (latest_first test t ss (latest test ss) refl hit (λ u k. latest_is test ss u k))
   | inr miss ↦
       let rest = latest_is test ss s (rw miss at e) in
       record {
@@ -108,7 +109,8 @@ earliest_first test s ss (Some t) e hit h = elim (cases_Bool (ltb t.turn s.turn)
 pub earliest_is : (test : Span → Bool) (ss : List Span) (s : Span) → earliest test ss ≡ Some s → IsEarliest test ss s
 earliest_is test [] s e = absurd (not_some s e)
 earliest_is test (t ∷ ss) s e = elim (cases_Bool (test t)) [
-  | inl hit ↦ subst (λ z. IsEarliest test (t ∷ ss) z) (of_some _ s (rw hit at e)) (earliest_first test t ss (earliest test ss) refl hit (λ u k. earliest_is test ss u k))
+  | inl hit ↦ subst (λ z. IsEarliest test (t ∷ ss) z) (of_some _ s (rw hit at e))
+      (earliest_first test t ss (earliest test ss) refl hit (λ u k. earliest_is test ss u k))
   | inr miss ↦
       let rest = earliest_is test ss s (rw miss at e) in
       record {

@@ -45,7 +45,8 @@ like_place t s like = place_from t s like.place like.born
 pub like_bytes : (t s : Span) → IsLike t s → bytes_of t ≡ bytes_of s
 like_bytes t s like = ap (λ c. 16384 * pages_of c) like.class
 
-placed_like : (r after : Root) (s t : Span) (at : SuperPage) (page : ℕ) → after.supers ≡ r.supers → IsLike t s → IsPlaced r s at page → IsPlaced after t at page
+placed_like : (r after : Root) (s t : Span) (at : SuperPage) (page : ℕ) → after.supers ≡ r.supers → IsLike t s → IsPlaced r s at page →
+    IsPlaced after t at page
 placed_like r after s t at page e like h = record {
   among = subst (λ xs. Contains xs at) (sym e) h.among;
   born = like.born ∙ h.born;
@@ -76,7 +77,8 @@ fresh_turn : (r : Root) (s t u : Span) (turn : ℕ) → IsSound r → Contains r
 fresh_turn r s t u turn sound among (inl (same, in_one)) old far used e = sound.order s u among old far in_one used (sym same ∙ e)
 fresh_turn r s t u turn sound among (inr (next, less)) old far used e = let p = sound.turns u old used in omega arith
 
-pub put_sound : (r : Root) (s t : Span) (turn : ℕ) → IsSound r → Contains r.spans s → IsLike t s → IsSoundSpan t → HasTurn r s t turn → r.turn ≤ turn →
+pub put_sound : (r : Root) (s t : Span) (turn : ℕ) → IsSound r → Contains r.spans s → IsLike t s → IsSoundSpan t → HasTurn r s t turn →
+    r.turn ≤ turn →
     IsSound (with_spans r (put t r.spans) turn)
 put_sound r s t turn sound among like good has_turn rises =
     let cases : (u : Span) → Contains (put t r.spans) u → (u ≡ t) ⊎ (Contains r.spans u × (same_place u t ≡ false)) =
@@ -90,11 +92,19 @@ put_sound r s t turn sound among like good has_turn rises =
       ];
       placed = λ u member. elim (cases u member) [
         | inl e ↦
-            let (at, page, p) = sound.placed s among in
-            (at, page, subst (λ z. IsPlaced (with_spans r (put t r.spans) turn) z at page) (sym e) (placed_like r (with_spans r (put t r.spans) turn) s t at page refl like p))
+            let (at, page, p) = sound.placed s among in (
+              at,
+              page,
+              subst (λ z. IsPlaced (with_spans r (put t r.spans) turn) z at page) (sym e)
+                  (placed_like r (with_spans r (put t r.spans) turn) s t at page refl like p),
+            )
         | inr old ↦
-            let (at, page, p) = sound.placed u old.0 in
-            (at, page, placed_like r (with_spans r (put t r.spans) turn) u u at page refl (record { place = refl; born = refl; class = refl }) p)
+            let (at, page, p) = sound.placed u old.0 in (
+              at,
+              page,
+              placed_like r (with_spans r (put t r.spans) turn) u u at page refl
+                  (record { place = refl; born = refl; class = refl }) p,
+            )
       ];
       below = λ u at member now born. elim (cases u member) [
         | inl e ↦
@@ -116,7 +126,8 @@ put_sound r s t turn sound among like good has_turn rises =
         | inr first ↦ elim (cases v other) [
           | inl f ↦
               let near : s.born ≡ u.born = sym like.born ∙ sym (ap (λ (z : Span). z.born) f) ∙ sym born in
-              subst (λ z. AreApart u z) (sym f) (apart_sym t u (apart_like s t u like (sound.apart s u among first.0 (far_from_s u first.1) near)))
+              subst (λ z. AreApart u z) (sym f)
+              (apart_sym t u (apart_like s t u like (sound.apart s u among first.0 (far_from_s u first.1) near)))
           | inr old ↦ sound.apart u v first.0 old.0 far born
         ]
       ];
@@ -132,10 +143,12 @@ put_sound r s t turn sound among like good has_turn rises =
       order = λ u v member other far used used'. elim (cases u member) [
         | inl e ↦ elim (cases v other) [
           | inl f ↦ absurd (both_ways _ far (subst (λ z. same_place u z ≡ true) (e ∙ sym f) (place_self u)))
-          | inr old ↦ λ same. fresh_turn r s t v turn sound among has_turn old.0 (far_from_s v old.1) used' (sym (ap (λ (z : Span). z.turn) e) ∙ same)
+          | inr old ↦ λ same. fresh_turn r s t v turn sound among has_turn old.0 (far_from_s v old.1) used'
+              (sym (ap (λ (z : Span). z.turn) e) ∙ same)
         ]
         | inr first ↦ elim (cases v other) [
-          | inl f ↦ λ same. fresh_turn r s t u turn sound among has_turn first.0 (far_from_s u first.1) used (sym (ap (λ (z : Span). z.turn) f) ∙ sym same)
+          | inl f ↦ λ same. fresh_turn r s t u turn sound among has_turn first.0 (far_from_s u first.1) used
+              (sym (ap (λ (z : Span). z.turn) f) ∙ sym same)
           | inr old ↦ sound.order u v first.0 old.0 far used used'
         ]
       ];
@@ -188,7 +201,8 @@ entered_sound r s t to sound among from counted says used =
     (new_turn r s t to from used)
     (turn_rises r to t)
   where
-    new_turn : (r : Root) (s t : Span) (to : State) → IsFrom t s → same_state to state.None ≡ false → HasTurn r s (in_state to r.turn t) (turn_after to r.turn t)
+    new_turn : (r : Root) (s t : Span) (to : State) → IsFrom t s → same_state to state.None ≡ false →
+        HasTurn r s (in_state to r.turn t) (turn_after to r.turn t)
     new_turn r s t to from used = elim (cases_Bool (same_state t.state to)) [
       | inl same ↦
           let e : s.state ≡ to = sym from.state ∙ same_state-true t.state to same in
@@ -201,7 +215,8 @@ entered_sound r s t to sound among from counted says used =
 
 -- the next turn rises by at most one if a span enters a state
 pub turn_after_most : (to : State) (turn : ℕ) (t : Span) → turn_after to turn t ≤ turn + 1
-turn_after_most to turn t = elim (cases_Bool (same_state t.state to)) [ inl same ↦ rw same (omega arith) | inr other ↦ rw other (omega arith) ]
+turn_after_most to turn t =
+    elim (cases_Bool (same_state t.state to)) [ inl same ↦ rw same (omega arith) | inr other ↦ rw other (omega arith) ]
 
 -- the state that a span entered
 pub in_state_is : (to : State) (turn : ℕ) (t : Span) → (in_state to turn t).state ≡ to
@@ -220,16 +235,19 @@ entered_empties r s t to sound among like =
     let u = in_state to r.turn t in
     let near : same_place s u ≡ true = place_sym u s (like_place u s (like_trans u t s (in_state_like to r.turn t) like)) in
     let sums = put_sum (λ (x : Span). one_if (is_in state.Empty x)) u s r.spans sound.places among near in
-    let e : one_if (is_in state.Empty u) ≡ one_if (same_state to state.Empty) = ap (λ a. one_if (same_state a state.Empty)) (in_state_is to r.turn t) in
+    let e : one_if (is_in state.Empty u) ≡ one_if (same_state to state.Empty) =
+    ap (λ a. one_if (same_state a state.Empty)) (in_state_is to r.turn t) in
     omega arith
 
 -- the span is there, and the others stay
-pub entered_there : (r : Root) (s t : Span) (to : State) → Contains r.spans s → IsLike t s → Contains (entered to t r).spans (in_state to r.turn t)
+pub entered_there : (r : Root) (s t : Span) (to : State) → Contains r.spans s → IsLike t s →
+    Contains (entered to t r).spans (in_state to r.turn t)
 entered_there r s t to among like =
     let u = in_state to r.turn t in
     put_there u s r.spans among (place_sym u s (like_place u s (like_trans u t s (in_state_like to r.turn t) like)))
 
-pub entered_keeps : (r : Root) (s t u : Span) (to : State) → IsLike t s → Contains r.spans u → same_place s u ≡ false → Contains (entered to t r).spans u
+pub entered_keeps : (r : Root) (s t u : Span) (to : State) → IsLike t s → Contains r.spans u → same_place s u ≡ false →
+    Contains (entered to t r).spans u
 entered_keeps r s t u to like among far =
     let v = in_state to r.turn t in
     let near : same_place v s ≡ true = like_place v s (like_trans v t s (in_state_like to r.turn t) like) in

@@ -7,13 +7,14 @@ use Rattle.pa_text.proofs.Splitting.{split_word}
 use Rattle.pa_record.specs.declared.entry.Entry.{Entry}
 use Rattle.pa_record.specs.declared.entry.Seen.{Seen}
 use Rattle.pa_record.specs.declared.entry.Answer.{Answer}
-use Rattle.pa_record.specs.declared.entry.Answer.TheVariants.{Made, Done, Value, Dangling, SecondFree, NotOwner, StaleReset, StaleUse, Nothing, Filled, NotRef, Shared, OutOfRange, TooLarge, Full, Swapped, Purged}
+use Rattle.pa_record.specs.declared.entry.Answer.TheVariants.{Made, Done, Value, Dangling, SecondFree, NotOwner, StaleReset, StaleUse, Nothing, Filled, NotRef, Shared, OutOfRange, TooLarge, Full, Swapped, Purged, Uncounted}
 use Rattle.pa_record.specs.Bits.{Is32, Is64, SeenInBits, AnswerInBits, EntryInBits}
 use Rattle.pa_record.specs.Text.{spaced_slot as slot_part, seen_text, answer_text, entry_text}
 use Rattle.pa_record.proofs.Same.{same_seen, same_entry}
 use Rattle.pa_record.proofs.Fields.{letters, cut4, cut6, cut7, wide, same_rest, spaced_number, last_number, spaced_slot, split_seen, split_seen_if}
 
-made_cut : (s : Seen) (n : ℕ) (x : List ℕ) → answer_text (Made s n) ++ x ≡ codes "made" ++ (slot_part s ++ (codes " " ++ (decimal n ++ (codes " " ++ (hex 16 s.found.0 ++ x)))))
+made_cut : (s : Seen) (n : ℕ) (x : List ℕ) → answer_text (Made s n) ++ x ≡ codes "made" ++
+    (slot_part s ++ (codes " " ++ (decimal n ++ (codes " " ++ (hex 16 s.found.0 ++ x)))))
 made_cut s n x = cut6 (codes "made") (slot_part s) (codes " ") (decimal n) (codes " ") (hex 16 s.found.0) x
 
 split_made : (s t : Seen) (m n : ℕ) (x y : List ℕ) → SeenInBits s → Is32 m → SeenInBits t → Is32 n
@@ -29,7 +30,8 @@ split_made s t m n x y hs hm ht hn e =
 
 -- `WORD SLOT FOUND VALUE`
 split_read : (w : List ℕ) (s t : Seen) (m n : ℕ) (x y : List ℕ) → SeenInBits s → Is64 m → SeenInBits t → Is64 n
-    → (w ++ seen_text s ++ codes " " ++ hex 16 m) ++ 10 ∷ x ≡ (w ++ seen_text t ++ codes " " ++ hex 16 n) ++ 10 ∷ y → (s ≡ t) × (m ≡ n) × (x ≡ y)
+    → (w ++ seen_text s ++ codes " " ++ hex 16 m) ++ 10 ∷ x ≡ (w ++ seen_text t ++ codes " " ++ hex 16 n) ++ 10 ∷ y → (s ≡ t) × (m ≡ n) ×
+    (x ≡ y)
 split_read w s t m n x y hs hm ht hn e =
     let cut = sym (cut4 w (seen_text s) (codes " ") (hex 16 m) (10 ∷ x)) ∙ e ∙ cut4 w (seen_text t) (codes " ") (hex 16 n) (10 ∷ y) in
     let seen = split_seen s t _ _ hs ht (append_cancel_left w _ _ cut) in
@@ -42,7 +44,8 @@ split_last s t x y hs ht e =
     let p = split_seen s t (10 ∷ x) (10 ∷ y) hs ht e in
     (p.0, same_rest 10 x y p.1)
 
-split_answer : (a b : Answer) (x y : List ℕ) → AnswerInBits a → AnswerInBits b → answer_text a ++ 10 ∷ x ≡ answer_text b ++ 10 ∷ y → (a ≡ b) × (x ≡ y)
+split_answer : (a b : Answer) (x y : List ℕ) → AnswerInBits a → AnswerInBits b → answer_text a ++ 10 ∷ x ≡ answer_text b ++ 10 ∷ y →
+    (a ≡ b) × (x ≡ y)
 split_answer (Made s m) (Made t n) x y ha hb e = split_made s t m n x y ha.0 ha.1 hb.0 hb.1 e
 split_answer (Done s) (Done t) x y ha hb e =
     let p = split_last s t x y ha hb (append_cancel_left (codes "done") _ _ e) in
@@ -80,11 +83,13 @@ split_answer (Swapped m) (Swapped n) x y ha hb e =
 split_answer (Purged m) (Purged n) x y ha hb e =
     let p = last_number m n x y (wide m ha) (wide n hb) (append_cancel_left (codes "purged ") _ _ e) in
     (ap (λ (v : ℕ). Purged v) p.0, p.1)
+split_answer Uncounted Uncounted x y ha hb e = (refl, append_cancel_left (codes "uncounted\n") _ _ e)
 split_answer a b x y ha hb e =
     let l = letters (answer_text a ++ 10 ∷ x) (answer_text b ++ 10 ∷ y) e in
     absurd (omega (arith, l.first, l.second, l.fifth, l.seventh))
 
-pub entry_cut : (a : Entry) (x : List ℕ) → entry_text a ++ x ≡ codes "e " ++ (decimal a.line ++ (codes " " ++ (decimal a.thread ++ (codes " " ++ (answer_text a.answer ++ 10 ∷ x)))))
+pub entry_cut : (a : Entry) (x : List ℕ) → entry_text a ++ x ≡ codes "e " ++
+    (decimal a.line ++ (codes " " ++ (decimal a.thread ++ (codes " " ++ (answer_text a.answer ++ 10 ∷ x)))))
 entry_cut a x = cut7 (codes "e ") (decimal a.line) (codes " ") (decimal a.thread) (codes " ") (answer_text a.answer) (10 ∷ []) x
 
 pub split_entry : (a b : Entry) (x y : List ℕ) → EntryInBits a → EntryInBits b → entry_text a ++ x ≡ entry_text b ++ y → (a ≡ b) × (x ≡ y)

@@ -35,7 +35,8 @@ cut6 a b c d f g x = simp append_assoc
 pub cut7 : (a b c d f g h x : List ℕ) → (a ++ b ++ c ++ d ++ f ++ g ++ h) ++ x ≡ a ++ (b ++ (c ++ (d ++ (f ++ (g ++ (h ++ x))))))
 cut7 a b c d f g h x = simp append_assoc
 
-pub cut8 : (a b c d f g h k x : List ℕ) → (a ++ b ++ c ++ d ++ f ++ g ++ h ++ k) ++ x ≡ a ++ (b ++ (c ++ (d ++ (f ++ (g ++ (h ++ (k ++ x)))))))
+pub cut8 : (a b c d f g h k x : List ℕ) → (a ++ b ++ c ++ d ++ f ++ g ++ h ++ k) ++ x ≡ a ++
+    (b ++ (c ++ (d ++ (f ++ (g ++ (h ++ (k ++ x)))))))
 cut8 a b c d f g h k x = simp append_assoc
 
 -- ---- names, which differ in four of their letters
@@ -76,12 +77,14 @@ last_number m n x y hm hn e =
     (p.0, same_rest 10 x y p.1)
 
 -- a slot's name, and the space or the `@` after it
-pub spaced_slot : (s t : SlotName) (x y : List ℕ) → SlotFits s → SlotFits t → slot_text s ++ 32 ∷ x ≡ slot_text t ++ 32 ∷ y → (s ≡ t) × (x ≡ y)
+pub spaced_slot : (s t : SlotName) (x y : List ℕ) → SlotFits s → SlotFits t → slot_text s ++ 32 ∷ x ≡ slot_text t ++ 32 ∷ y → (s ≡ t) ×
+    (x ≡ y)
 spaced_slot s t x y hs ht e =
     let p = split_slot s t (32 ∷ x) (32 ∷ y) hs ht refl refl e in
     (p.0, same_rest 32 x y p.1)
 
-pub marked_slot : (s t : SlotName) (x y : List ℕ) → SlotFits s → SlotFits t → slot_text s ++ 64 ∷ x ≡ slot_text t ++ 64 ∷ y → (s ≡ t) × (x ≡ y)
+pub marked_slot : (s t : SlotName) (x y : List ℕ) → SlotFits s → SlotFits t → slot_text s ++ 64 ∷ x ≡ slot_text t ++ 64 ∷ y → (s ≡ t) ×
+    (x ≡ y)
 marked_slot s t x y hs ht e =
     let p = split_slot s t (64 ∷ x) (64 ∷ y) hs ht refl refl e in
     (p.0, same_rest 64 x y p.1)
@@ -93,11 +96,13 @@ seen_cut s x = cut4 (codes " ") (slot_text s.slot) (codes " ") (hex 16 s.found.0
 
 pub split_seen : (s t : Seen) (x y : List ℕ) → SeenInBits s → SeenInBits t → seen_text s ++ x ≡ seen_text t ++ y → (s ≡ t) × (x ≡ y)
 split_seen s t x y hs ht e =
-    let slot = spaced_slot s.slot t.slot (hex 16 s.found.0 ++ x) (hex 16 t.found.0 ++ y) hs.0 ht.0 (same_rest 32 _ _ (sym (seen_cut s x) ∙ e ∙ seen_cut t y)) in
+    let slot = spaced_slot s.slot t.slot (hex 16 s.found.0 ++ x) (hex 16 t.found.0 ++ y) hs.0 ht.0
+    (same_rest 32 _ _ (sym (seen_cut s x) ∙ e ∙ seen_cut t y)) in
     let found = split_word s.found.0 t.found.0 x y hs.1 ht.1 slot.1 in
     (same_seen s t slot.0 found.0, found.1)
 
-pub split_seen_if : (s t : Option Seen) (x y : List ℕ) → IfSome s SeenInBits → IfSome t SeenInBits → seen_text_if s ++ 10 ∷ x ≡ seen_text_if t ++ 10 ∷ y → (s ≡ t) × (x ≡ y)
+pub split_seen_if : (s t : Option Seen) (x y : List ℕ) → IfSome s SeenInBits → IfSome t SeenInBits → seen_text_if s ++
+    10 ∷ x ≡ seen_text_if t ++ 10 ∷ y → (s ≡ t) × (x ≡ y)
 split_seen_if None None x y hs ht e = (refl, same_rest 10 x y e)
 split_seen_if (Some s) (Some t) x y hs ht e =
     let seen = split_seen s t (10 ∷ x) (10 ∷ y) hs ht e in
@@ -106,9 +111,11 @@ split_seen_if s t x y hs ht e = absurd cc
 
 -- ---- slots with their numbers
 
-pub split_numbered : (m n : Numbered) (x y : List ℕ) → NumberedInBits m → NumberedInBits n → IsStop x → IsStop y → numbered_text m ++ x ≡ numbered_text n ++ y → (m ≡ n) × (x ≡ y)
+pub split_numbered : (m n : Numbered) (x y : List ℕ) → NumberedInBits m → NumberedInBits n → IsStop x → IsStop y → numbered_text m ++
+    x ≡ numbered_text n ++ y → (m ≡ n) × (x ≡ y)
 split_numbered m n x y hm hn sx sy e =
-    let cut = sym (cut3 (slot_text m.slot) (codes "@") (decimal m.number) x) ∙ e ∙ cut3 (slot_text n.slot) (codes "@") (decimal n.number) y in
+    let cut = sym (cut3 (slot_text m.slot) (codes "@") (decimal m.number) x) ∙ e ∙
+    cut3 (slot_text n.slot) (codes "@") (decimal n.number) y in
     let slot = marked_slot m.slot n.slot (decimal m.number ++ x) (decimal n.number ++ y) hm.0 hn.0 cut in
     let number = split_number m.number n.number x y hm.1 hn.1 sx sy slot.1 in
     (same_numbered m n slot.0 number.0, number.1)
@@ -118,13 +125,16 @@ pub slots_stop : (s : List Numbered) (x : List ℕ) → IsStop (slots_text s ++ 
 slots_stop [] x = refl
 slots_stop (m ∷ s) x = refl
 
-pub split_slots : (s t : List Numbered) (x y : List ℕ) → AllByRecursion NumberedInBits s → AllByRecursion NumberedInBits t → slots_text s ++ 10 ∷ x ≡ slots_text t ++ 10 ∷ y → (s ≡ t) × (x ≡ y)
+pub split_slots : (s t : List Numbered) (x y : List ℕ) → AllByRecursion NumberedInBits s → AllByRecursion NumberedInBits t → slots_text s ++
+    10 ∷ x ≡ slots_text t ++ 10 ∷ y → (s ≡ t) × (x ≡ y)
 split_slots [] [] x y hs ht e = (refl, same_rest 10 x y e)
 split_slots [] (n ∷ t) x y hs ht e = absurd cc
 split_slots (m ∷ s) [] x y hs ht e = absurd cc
 split_slots (m ∷ s) (n ∷ t) x y hs ht e =
-    let cut = sym (cut3 (codes " ") (numbered_text m) (slots_text s) (10 ∷ x)) ∙ e ∙ cut3 (codes " ") (numbered_text n) (slots_text t) (10 ∷ y) in
-    let head = split_numbered m n (slots_text s ++ 10 ∷ x) (slots_text t ++ 10 ∷ y) hs.0 ht.0 (slots_stop s x) (slots_stop t y) (same_rest 32 _ _ cut) in
+    let cut = sym (cut3 (codes " ") (numbered_text m) (slots_text s) (10 ∷ x)) ∙ e ∙
+    cut3 (codes " ") (numbered_text n) (slots_text t) (10 ∷ y) in
+    let head = split_numbered m n (slots_text s ++ 10 ∷ x) (slots_text t ++ 10 ∷ y) hs.0 ht.0 (slots_stop s x) (slots_stop t y)
+    (same_rest 32 _ _ cut) in
     let tail = split_slots s t x y hs.1 ht.1 head.1 in
     let one = head.0 in
     let more = tail.0 in
@@ -139,10 +149,12 @@ front_of n (d ∷ ds) c x y h e =
     let same : d ≡ c = ap (λ (w : List ℕ). get_or w 0 0) e in
     (omega (arith, h.digits.0.0), omega (arith, h.digits.0.1))
 
-pub split_number_or : (c : ℕ) (ws : List ℕ) (p q : Option ℕ) (x y : List ℕ) → (IsDigit c → ⊥) → IfSome p Is64 → IfSome q Is64 → IsStop x → IsStop y
+pub split_number_or : (c : ℕ) (ws : List ℕ) (p q : Option ℕ) (x y : List ℕ) → (IsDigit c → ⊥) → IfSome p Is64 → IfSome q Is64 → IsStop x →
+    IsStop y
     → number_or (c ∷ ws) p ++ x ≡ number_or (c ∷ ws) q ++ y → (p ≡ q) × (x ≡ y)
 split_number_or c ws None None x y other hp hq sx sy e = (refl, append_cancel_left (c ∷ ws) x y e)
-split_number_or c ws None (Some n) x y other hp hq sx sy e = absurd (other (front_of n (decimal n) c y (ws ++ x) (decimal_numeral n hq) (sym e)))
+split_number_or c ws None (Some n) x y other hp hq sx sy e =
+    absurd (other (front_of n (decimal n) c y (ws ++ x) (decimal_numeral n hq) (sym e)))
 split_number_or c ws (Some m) None x y other hp hq sx sy e = absurd (other (front_of m (decimal m) c x (ws ++ y) (decimal_numeral m hp) e))
 split_number_or c ws (Some m) (Some n) x y other hp hq sx sy e =
     let p = split_number m n x y hp hq sx sy e in
@@ -158,7 +170,8 @@ class_wide_if (Some n) h = class_wide n h
 
 -- ---- handles
 
-pub split_held : (a b : Held) (c : ℕ) (x y : List ℕ) → IsStop (c ∷ x) → IsStop (c ∷ y) → HeldInBits a → HeldInBits b → held_text a ++ c ∷ x ≡ held_text b ++ c ∷ y → (a ≡ b) × (x ≡ y)
+pub split_held : (a b : Held) (c : ℕ) (x y : List ℕ) → IsStop (c ∷ x) → IsStop (c ∷ y) → HeldInBits a → HeldInBits b → held_text a ++
+    c ∷ x ≡ held_text b ++ c ∷ y → (a ≡ b) × (x ≡ y)
 split_held handles.Nothing handles.Nothing c x y sx sy ha hb e = (refl, cc)
 split_held (handles.Own s) (handles.Own t) c x y sx sy ha hb e =
     let p = split_slot s t (c ∷ x) (c ∷ y) ha hb sx sy (append_cancel_left (codes "own:") _ _ e) in

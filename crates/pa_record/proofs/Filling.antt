@@ -64,7 +64,8 @@ listed_is class ss s e = elim (or_else_cases (latest (is_of class state.Active) 
 pub some_slots : (c : ℕ) → c < 170 → 0 < slots_of c
 some_slots c real = let b = IsRow-of c real in let p = b.some_slots in omega arith
 
-pub usable_less : (s : Span) → IsSoundSpan s → ((s.state ≡ state.Active) ⊎ ((s.state ≡ state.Empty) ⊎ (s.state ≡ state.Decommitted))) → s.allocated < slots_of s.class
+pub usable_less : (s : Span) → IsSoundSpan s → ((s.state ≡ state.Active) ⊎ ((s.state ≡ state.Empty) ⊎ (s.state ≡ state.Decommitted))) →
+    s.allocated < slots_of s.class
 usable_less s good (inl active) = (subst (λ a. StateSays a s) active good.says).1
 usable_less s good (inr (inl empty)) =
     let none : s.allocated ≡ 0 = subst (λ a. StateSays a s) empty good.says in
@@ -111,7 +112,8 @@ not_there r class at u sound now among = elim (cases_Bool (same_place u (new_spa
 same_at : (r : Root) (at other : SuperPage) → current r ≡ Some at → current r ≡ Some other → at ≡ other
 same_at r at other now then = of_some at other (sym now ∙ then)
 
-pub with_span_sound : (r : Root) (class : ℕ) (at : SuperPage) → IsSound r → class < 170 → current r ≡ Some at → r.page + pages_of class ≤ 127 →
+pub with_span_sound : (r : Root) (class : ℕ) (at : SuperPage) → IsSound r → class < 170 → current r ≡ Some at →
+    r.page + pages_of class ≤ 127 →
     IsSound (with_span (new_span class at r.page) r)
 with_span_sound r class at sound real now room =
     let s = new_span class at r.page in
@@ -145,7 +147,8 @@ with_span_sound r class at sound real now room =
           | inr e ↦ subst (λ z. AreApart u z) e (inl (old_before r class at u sound now old (born ∙ sym (ap (λ (z : Span). z.born) e))))
         ]
         | inr e ↦ elim (Contains-push_cases r.spans s v other) [
-          | inl old' ↦ subst (λ z. AreApart z v) e (inr (old_before r class at v sound now old' (sym born ∙ sym (ap (λ (z : Span). z.born) e))))
+          | inl old' ↦ subst (λ z. AreApart z v) e
+              (inr (old_before r class at v sound now old' (sym born ∙ sym (ap (λ (z : Span). z.born) e))))
           | inr e' ↦ absurd (both_ways _ far (subst (λ z. same_place z v ≡ true) e (subst (λ z. same_place s z ≡ true) e' (place_self s))))
         ]
       ];
@@ -210,7 +213,8 @@ take_at_page class r (Some at) sound real now = elim (cases_Bool (leb (r.page + 
 ]
 
 take_by : (class : ℕ) (r : Root) (o : Option Span) → IsSound r → class < 170 → listed class r.spans ≡ o →
-    ((found_or_new class r o ≡ None)) ⊎ ((is_some (found_or_new class r o) ≡ true) × IsGiven class r (taken_from (found_or_new class r o) r))
+    ((found_or_new class r o ≡ None)) ⊎
+    ((is_some (found_or_new class r o) ≡ true) × IsGiven class r (taken_from (found_or_new class r o) r))
 take_by class r None sound real e = take_at_page class r (current r) sound real refl
 take_by class r (Some s) sound real e = inr (refl, listed_ready class r s sound e)
 
@@ -294,11 +298,13 @@ takes_filled class (suc want) r sound real = elim (take_cases class r sound real
       let t = one_take class r in
       let g = given.1 in
       let f = takes_filled class want t.root g.sound real in
-      subst (λ z. IsFilled class (suc want) r z) (sym (and_then_some t (takes class want) g.title g.gives)) (more_filled class want r t g (takes class want t.root) f)
+      subst (λ z. IsFilled class (suc want) r z) (sym (and_then_some t (takes class want) g.title g.gives))
+      (more_filled class want r t g (takes class want t.root) f)
 ]
 
 -- a fill gives a slot exactly when its first take finds a span
-pub takes_some : (class want : ℕ) (r : Root) → IsSound r → class < 170 → IsSome (span_for class r) → 1 ≤ length (takes class (suc want) r).titles
+pub takes_some : (class want : ℕ) (r : Root) → IsSound r → class < 170 → IsSome (span_for class r) →
+    1 ≤ length (takes class (suc want) r).titles
 takes_some class want r sound real some = elim (take_cases class r sound real) [
   | inl none ↦ absurd (true≢false (sym some ∙ ap is_some none))
   | inr given ↦
@@ -336,8 +342,17 @@ opened_sound number born r sound old =
     record {
       spans = sound.spans;
       placed = λ s among.
-          let (at', page, p) = sound.placed s among in
-          (at', page, record { among = Contains-append_left r.supers (at ∷ []) at' p.among; born = p.born; place = p.place; first = p.first; last = p.last });
+          let (at', page, p) = sound.placed s among in (
+            at',
+            page,
+            record {
+              among = Contains-append_left r.supers (at ∷ []) at' p.among;
+              born = p.born;
+              place = p.place;
+              first = p.first;
+              last = p.last;
+            },
+          );
       below = λ s at' among now same.
           let (other, page, p) = sound.placed s among in
           let e = ap (λ (x : SuperPage). x.born) (of_some at at' (sym (opened_current number born r) ∙ now)) in

@@ -99,9 +99,11 @@ same_map (x ∷ ts) t u h among among' same = elim (in_cases x t ts among) [
 ]
 
 pub slot_low : (r : Root) (s : Span) (name : SlotName) (n : ℕ) → IsSound r → Contains r.spans s → IsOutOf s name n → n < slots_of s.class
-slot_low r s name n sound among out = let c = (sound.spans s among).counted in let p = out.provisioned in let q = c.made in let k = c.most in omega arith
+slot_low r s name n sound among out = let c = (sound.spans s among).counted in let p = out.provisioned in let q = c.made in
+    let k = c.most in omega arith
 
-pub not_mapped : (r : Root) (s : Span) (t u : Title) (n : ℕ) → IsSound r → Contains r.spans s → t ≡ title_at s n → Contains r.maps u → t.born ≡ u.born → ⊥
+pub not_mapped : (r : Root) (s : Span) (t u : Title) (n : ℕ) → IsSound r → Contains r.spans s → t ≡ title_at s n → Contains r.maps u →
+    t.born ≡ u.born → ⊥
 not_mapped r s t u n sound among e member same =
     let (at, page, p) = sound.placed s among in
     sound.mixed u at member p.among (sym same ∙ ap (λ (z : Title). z.born) e ∙ p.born)
@@ -109,11 +111,15 @@ not_mapped r s t u n sound among e member same =
 out_titles : (r : Root) (t u : Title) → IsSound r → IsTitleOut r t → IsTitleOut r u → name_of t ≡ name_of u → t ≡ u
 out_titles r t u sound (inl (s, among, n, out, e)) (inl (s', among', m, out', f)) same =
     let born : s.born ≡ s'.born = sym (ap (λ (z : Title). z.born) e) ∙ ap (λ (x : SlotName). x.born) same ∙ ap (λ (z : Title). z.born) f in
-    let start : (title_at s n).start ≡ (title_at s' m).start = sym (ap (λ (z : Title). z.start) e) ∙ ap (λ (x : SlotName). x.start) same ∙ ap (λ (z : Title). z.start) f in
-    let one = one_slot r s s' n m sound among among' (slot_low r s (name_of t) n sound among out) (slot_low r s' (name_of u) m sound among' out') born start in
+    let start : (title_at s n).start ≡ (title_at s' m).start = sym (ap (λ (z : Title). z.start) e) ∙ ap (λ (x : SlotName). x.start) same ∙
+    ap (λ (z : Title). z.start) f in
+    let one = one_slot r s s' n m sound among among' (slot_low r s (name_of t) n sound among out)
+    (slot_low r s' (name_of u) m sound among' out') born start in
     e ∙ ap (λ (z : Span). title_at z n) one.span ∙ ap (λ k. title_at s' k) one.number ∙ sym f
-out_titles r t u sound (inl (s, among, n, out, e)) (inr member) same = absurd (not_mapped r s t u n sound among e member (ap (λ (x : SlotName). x.born) same))
-out_titles r t u sound (inr member) (inl (s, among, n, out, e)) same = absurd (not_mapped r s u t n sound among e member (ap (λ (x : SlotName). x.born) (sym same)))
+out_titles r t u sound (inl (s, among, n, out, e)) (inr member) same =
+    absurd (not_mapped r s t u n sound among e member (ap (λ (x : SlotName). x.born) same))
+out_titles r t u sound (inr member) (inl (s, among, n, out, e)) same =
+    absurd (not_mapped r s u t n sound among e member (ap (λ (x : SlotName). x.born) (sym same)))
 out_titles r t u sound (inr member) (inr member') same = same_map r.maps t u sound.alone member member' (ap (λ (x : SlotName). x.born) same)
 
 titled : (r : Root) (name : SlotName) → IsOut r name → (t : Title) × IsTitleOut r t × (name ≡ name_of t)
@@ -129,7 +135,8 @@ out_is_out = record {
 }
 
 -- a new super page has room for a span of any class
-new_page_found : (class : ℕ) (r : Root) (at : SuperPage) (o : Option Span) → class < 170 → current r ≡ Some at → r.page ≡ 1 → IsSome (found_or_new class r o)
+new_page_found : (class : ℕ) (r : Root) (at : SuperPage) (o : Option Span) → class < 170 → current r ≡ Some at → r.page ≡ 1 →
+    IsSome (found_or_new class r o)
 new_page_found class r at (Some s) real now page = refl
 new_page_found class r at None real now page =
     let b = IsRow-of class real in
@@ -186,7 +193,8 @@ abbrev found_any : Option PoolAct → Bool
 found_any (Some (pool.Take count (Some first))) = true
 found_any a = false
 
-found_first : (a : Option PoolAct) (count first other : ℕ) → a ≡ Some (pool.Take count (Some first)) → a ≡ Some (pool.Take count (Some other)) → first ≡ other
+found_first : (a : Option PoolAct) (count first other : ℕ) → a ≡ Some (pool.Take count (Some first)) →
+    a ≡ Some (pool.Take count (Some other)) → first ≡ other
 found_first a count first other e f = ap super_of (sym e ∙ f)
 
 found_or_none : (a : Option PoolAct) (count first many : ℕ) → a ≡ Some (pool.Take count (Some first)) → a ≡ Some (pool.Take many None) → ⊥

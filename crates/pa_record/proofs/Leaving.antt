@@ -29,7 +29,8 @@ use Rattle.pa_record.proofs.Stepping.{next_is}
 use Rattle.pa_record.proofs.Titles.{new_sound, new_born, rise_parts}
 
 -- a name is once in a list of different names, or not at all
-pub once_or_not : (name : SlotName) (xs : List SlotName) → AllPairs ◌≢◌ xs → (Contains xs name × (times name xs ≡ 1)) ⊎ ((Contains xs name → ⊥) × (times name xs ≡ 0))
+pub once_or_not : (name : SlotName) (xs : List SlotName) → AllPairs ◌≢◌ xs → (Contains xs name × (times name xs ≡ 1)) ⊎
+    ((Contains xs name → ⊥) × (times name xs ≡ 0))
 once_or_not name [] h = inr (λ among. not_in_none name among, refl)
 once_or_not name (x ∷ xs) h =
     let R : SlotName → SlotName → Type 0 = λ a b. a ≢ b in
@@ -75,21 +76,25 @@ not_both r name u sound (s, among, n, out) member same =
     sound.mixed u at member p.among (ap (λ (x : SlotName). x.born) (sym same ∙ out.named) ∙ p.born)
 
 -- a step in which this name neither leaves nor comes back
-unchanged : (r after : Root) (name : SlotName) (a b : ℕ) → (IsNameOut r name → IsNameOut after name) → (IsNameOut after name → IsNameOut r name) →
+unchanged : (r after : Root) (name : SlotName) (a b : ℕ) → (IsNameOut r name → IsNameOut after name) →
+    (IsNameOut after name → IsNameOut r name) →
     IsOutBy r name a b → IsOutBy after name a b
 unchanged r after name a b there back (inl (out, e)) = inl (there out, e)
 unchanged r after name a b there back (inr (none, e)) = inr (λ out. none (back out), e)
 
-came_out : (r after : Root) (name : SlotName) (a b c d : ℕ) → IsNameOut after name → (IsNameOut r name → ⊥) → c ≡ a + 1 → d ≡ b → IsOutBy r name a b → IsOutBy after name c d
+came_out : (r after : Root) (name : SlotName) (a b c d : ℕ) → IsNameOut after name → (IsNameOut r name → ⊥) → c ≡ a + 1 → d ≡ b →
+    IsOutBy r name a b → IsOutBy after name c d
 came_out r after name a b c d now before p q (inl (out, e)) = absurd (before out)
 came_out r after name a b c d now before p q (inr (none, e)) = inl (now, omega arith)
 
-went_back : (r after : Root) (name : SlotName) (a b c d : ℕ) → IsNameOut r name → (IsNameOut after name → ⊥) → c ≡ a → d ≡ b + 1 → IsOutBy r name a b → IsOutBy after name c d
+went_back : (r after : Root) (name : SlotName) (a b c d : ℕ) → IsNameOut r name → (IsNameOut after name → ⊥) → c ≡ a → d ≡ b + 1 →
+    IsOutBy r name a b → IsOutBy after name c d
 went_back r after name a b c d before now p q (inl (out, e)) = inr (now, omega arith)
 went_back r after name a b c d before now p q (inr (none, e)) = absurd (none before)
 
 -- a name that is out of one root is out of another with the same maps, in which the slots that were out still are
-slots_same : (r after : Root) (name : SlotName) → after.maps ≡ r.maps → (IsOut r name → IsOut after name) → IsNameOut r name → IsNameOut after name
+slots_same : (r after : Root) (name : SlotName) → after.maps ≡ r.maps → (IsOut r name → IsOut after name) → IsNameOut r name →
+    IsNameOut after name
 slots_same r after name e further out = elim (name_cases r name out) [
   | inl slot ↦ slot_out after name (further slot)
   | inr (u, member, same) ↦ (u, inr (subst (λ xs. Contains xs u) (sym e) member), same)
@@ -151,7 +156,8 @@ pub kept_map : (slot : SlotName) (ts : List Title) (u : Title) → Contains ts u
 kept_map slot [] u among other = absurd (not_in_none u among)
 kept_map slot (t ∷ ts) u among other = elim (cases_Bool (eqb t.start slot.start && eqb t.born slot.born)) [
   | inl hit ↦ elim (in_cases t u ts among) [
-    | inl e ↦ absurd (other (same_name-true (name_of u) slot (subst (λ (z : Title). (eqb z.start slot.start && eqb z.born slot.born) ≡ true) e hit)))
+    | inl e ↦ absurd (other (same_name-true (name_of u) slot
+        (subst (λ (z : Title). (eqb z.start slot.start && eqb z.born slot.born) ≡ true) e hit)))
     | inr rest ↦ rw hit rest
   ]
   | inr miss ↦ elim (in_cases t u ts among) [
@@ -167,7 +173,8 @@ gone_map slot (t ∷ ts) u h among same = elim (cases_Bool (eqb t.start slot.sta
       let e : name_of t ≡ slot = same_name-true (name_of t) slot hit in
       pairs_head OtherBorn t u ts h (rw hit at among) (ap (λ (x : SlotName). x.born) (e ∙ same))
   | inr miss ↦ elim (in_cases t u (without_map slot ts) (rw miss at among)) [
-    | inl e ↦ both_ways _ miss (subst (λ (z : SlotName). same_name (name_of t) z ≡ true) (ap name_of e ∙ sym same) (same_name-self (name_of t)))
+    | inl e ↦ both_ways _ miss
+        (subst (λ (z : SlotName). same_name (name_of t) z ≡ true) (ap name_of e ∙ sym same) (same_name-self (name_of t)))
     | inr rest ↦ gone_map slot ts u (pairs_tail OtherBorn t ts h) rest same
   ]
 ]
@@ -175,7 +182,10 @@ gone_map slot (t ∷ ts) u h among same = elim (cases_Bool (eqb t.start slot.sta
 one_name : (name slot : SlotName) → ((name ≡ slot) × (times name (slot ∷ []) ≡ 1)) ⊎ ((name ≡ slot → ⊥) × (times name (slot ∷ []) ≡ 0))
 one_name name slot = elim (cases_Bool (same_slot name slot)) [
   | inl here ↦ inl (same_name-true name slot here, let k : one_if (same_slot name slot) ≡ 1 = ap one_if here in omega arith)
-  | inr other ↦ inr (λ e. both_ways _ other (subst (λ z. same_name name z ≡ true) e (same_name-self name)), let k : one_if (same_slot name slot) ≡ 0 = ap one_if other in omega arith)
+  | inr other ↦ inr (
+    λ e. both_ways _ other (subst (λ z. same_name name z ≡ true) e (same_name-self name)),
+    let k : one_if (same_slot name slot) ≡ 0 = ap one_if other in omega arith,
+  )
 ]
 
 -- after each entry that fits
@@ -190,8 +200,10 @@ born_low n r name sound old out = elim (name_cases r name out) [
   | inr (u, member, same) ↦ let q = old.maps u member in let e = ap (λ (x : SlotName). x.born) same in omega arith
 ]
 
-next_counts : (pools : List PoolEntry) (act : RootAct) (n : ℕ) (r : Root) (name : SlotName) (a b : ℕ) → IsSound r → IsSettled r → IsBornBelow n r → AsksFrom n (asked_by act) →
-    RootActFits pools act r → IsOutBy r name a b → IsOutBy (root_next pools act r) name (a + times name (leaves_by act)) (b + times name (comes_by act))
+next_counts : (pools : List PoolEntry) (act : RootAct) (n : ℕ) (r : Root) (name : SlotName) (a b : ℕ) → IsSound r → IsSettled r →
+    IsBornBelow n r → AsksFrom n (asked_by act) →
+    RootActFits pools act r → IsOutBy r name a b →
+    IsOutBy (root_next pools act r) name (a + times name (leaves_by act)) (b + times name (comes_by act))
 next_counts pools (Fill class None slots) n r name a b sound few old asks fits before =
     let f = takes_filled class (fill_of class) r sound fits.0 in
     let z : b + 0 ≡ b = omega arith in
@@ -202,7 +214,8 @@ next_counts pools (Fill class (Some j) slots) n r name a b sound few old asks fi
     let new = opened (super_of (act_at pools j)) j r in
     let f = takes_filled class (fill_of class) new (opened_sound (super_of (act_at pools j)) j r sound (born_more n j r asks old)) fits.0 in
     let z : b + 0 ≡ b = omega arith in
-    let same : IsOutBy new name a b = unchanged r new name a b (slots_same r new name refl (λ out. out)) (slots_same new r name refl (λ out. out)) before in
+    let same : IsOutBy new name a b =
+    unchanged r new name a b (slots_same r new name refl (λ out. out)) (slots_same new r name refl (λ out. out)) before in
     subst (λ k. IsOutBy (takes class (fill_of class) new).root name (a + times name (names slots)) k) (sym z)
     (subst (λ xs. IsOutBy (takes class (fill_of class) new).root name (a + times name xs) b) fits.2
     (fill_counts class new (takes class (fill_of class) new) (fill_of class) name a b f same))
@@ -289,10 +302,13 @@ next_counts pools Purge n r name a b sound few old asks fits before =
     let x : a + 0 ≡ a = omega arith in
     let y : b + 0 ≡ b = omega arith in
     subst (λ k. IsOutBy (purged r) name k (b + 0)) (sym x) (subst (λ k. IsOutBy (purged r) name a k) (sym y)
-    (unchanged r (purged r) name a b (slots_same r (purged r) name f.kept.maps (f.stays name)) (slots_same (purged r) r name (sym f.kept.maps) (f.kept.only name)) before))
+    (unchanged r (purged r) name a b (slots_same r (purged r) name f.kept.maps (f.stays name))
+    (slots_same (purged r) r name (sym f.kept.maps) (f.kept.only name)) before))
 
-all_counts : (pools : List PoolEntry) (es : List RootEntry) (n : ℕ) (r : Root) (name : SlotName) (a b : ℕ) → IsSound r → IsSettled r → IsBornBelow n r → RootReplays pools es r →
-    RiseFrom n (all_asked es) → IsOutBy r name a b → IsOutBy (root_replayed pools es r) name (a + times_left name es) (b + times_back name es)
+all_counts : (pools : List PoolEntry) (es : List RootEntry) (n : ℕ) (r : Root) (name : SlotName) (a b : ℕ) → IsSound r → IsSettled r →
+    IsBornBelow n r → RootReplays pools es r →
+    RiseFrom n (all_asked es) → IsOutBy r name a b →
+    IsOutBy (root_replayed pools es r) name (a + times_left name es) (b + times_back name es)
 all_counts pools [] n r name a b sound few old fits rise before =
     let x : a + 0 ≡ a = omega arith in
     let y : b + 0 ≡ b = omega arith in
@@ -301,7 +317,8 @@ all_counts pools (e ∷ es) n r name a b sound few old fits rise before =
     let (asks, rest) = rise_parts n (asked_by e.act) (all_asked es) rise in
     let next = next_is pools e.act n r sound few old asks fits.0 in
     let after = root_next pools e.act r in
-    let ih = all_counts pools es (least_after n (asked_by e.act)) after name (a + times name (leaves_by e.act)) (b + times name (comes_by e.act)) next.sound next.settled next.born fits.1 rest
+    let ih = all_counts pools es (least_after n (asked_by e.act)) after name (a + times name (leaves_by e.act))
+    (b + times name (comes_by e.act)) next.sound next.settled next.born fits.1 rest
     (next_counts pools e.act n r name a b sound few old asks fits.0 before) in
     let x : a + times name (leaves_by e.act) + times_left name es ≡ a + (times name (leaves_by e.act) + times_left name es) = omega arith in
     let y : b + times name (comes_by e.act) + times_back name es ≡ b + (times name (comes_by e.act) + times_back name es) = omega arith in

@@ -21,25 +21,33 @@ map_taken pools [] r t (e, asked, len, slot, among, act, is) = absurd (not_in_no
 map_taken pools (f ∷ es) r t (e, asked, len, slot, among, act, is) = elim (in_cases f e es among) [
   | inl same ↦
       let here : f.act ≡ Map asked slot len = ap (λ (z : RootEntry). z.act) same ∙ act in
-      let member : Contains (map_title slot len ∷ []) t = subst (λ z. Contains (map_title slot len ∷ []) z) (sym is) (first_in (map_title slot len) []) in
-      Contains-append_left (next_titles pools f.act r) (titles_taken pools es (root_next pools f.act r)) t (subst (λ a. Contains (next_titles pools a r) t) (sym here) member)
+      let member : Contains (map_title slot len ∷ []) t =
+      subst (λ z. Contains (map_title slot len ∷ []) z) (sym is) (first_in (map_title slot len) []) in
+      Contains-append_left (next_titles pools f.act r) (titles_taken pools es (root_next pools f.act r)) t
+      (subst (λ a. Contains (next_titles pools a r) t) (sym here) member)
   | inr rest ↦
-      Contains-append_right (next_titles pools f.act r) (titles_taken pools es (root_next pools f.act r)) t (map_taken pools es (root_next pools f.act r) t (e, asked, len, slot, rest, act, is))
+      Contains-append_right (next_titles pools f.act r) (titles_taken pools es (root_next pools f.act r)) t
+      (map_taken pools es (root_next pools f.act r) t (e, asked, len, slot, rest, act, is))
 ]
 
 -- a slot that was made stays made
-made_stays : (pools : List PoolEntry) (es : List RootEntry) (n : ℕ) (r : Root) (t : Title) → IsSound r → IsSettled r → IsBornBelow n r → RootReplays pools es r →
+made_stays : (pools : List PoolEntry) (es : List RootEntry) (n : ℕ) (r : Root) (t : Title) → IsSound r → IsSettled r → IsBornBelow n r →
+    RootReplays pools es r →
     RiseFrom n (all_asked es) → IsMade r t → IsMade (root_replayed pools es r) t
 made_stays pools [] n r t sound few old fits rise made = made
 made_stays pools (e ∷ es) n r t sound few old fits rise made =
     let (asks, rest) = rise_parts n (asked_by e.act) (all_asked es) rise in
     let next = next_is pools e.act n r sound few old asks fits.0 in
-    made_stays pools es (least_after n (asked_by e.act)) (root_next pools e.act r) t next.sound next.settled next.born fits.1 rest (next.keeps t made)
+    made_stays pools es (least_after n (asked_by e.act)) (root_next pools e.act r) t next.sound next.settled next.born fits.1 rest
+    (next.keeps t made)
 
 -- what an entry took or mapped is made after it, or a direct map
-next_made : (pools : List PoolEntry) (act : RootAct) (n : ℕ) (r : Root) (t : Title) → IsSound r → IsBornBelow n r → AsksFrom n (asked_by act) → RootActFits pools act r →
-    Contains (next_titles pools act r) t → IsMade (root_next pools act r) t ⊎ ((asked len : ℕ) × (slot : SlotName) × (act ≡ Map asked slot len) × (t ≡ map_title slot len))
-next_made pools (Fill class asked slots) n r t sound old asks fits among = inl (fill_made pools n class asked r sound old asks fits.0 t among)
+next_made : (pools : List PoolEntry) (act : RootAct) (n : ℕ) (r : Root) (t : Title) → IsSound r → IsBornBelow n r →
+    AsksFrom n (asked_by act) → RootActFits pools act r →
+    Contains (next_titles pools act r) t → IsMade (root_next pools act r) t ⊎
+    ((asked len : ℕ) × (slot : SlotName) × (act ≡ Map asked slot len) × (t ≡ map_title slot len))
+next_made pools (Fill class asked slots) n r t sound old asks fits among =
+    inl (fill_made pools n class asked r sound old asks fits.0 t among)
 next_made pools (Map asked slot len) n r t sound old asks fits among = elim (in_cases (map_title slot len) t [] among) [
   | inl e ↦ inr (asked, len, slot, refl, sym e)
   | inr none ↦ absurd (not_in_none t none)
@@ -49,7 +57,8 @@ next_made pools (Give slots) n r t sound old asks fits among = absurd (not_in_no
 next_made pools (Unmap asked slot) n r t sound old asks fits among = absurd (not_in_none t among)
 next_made pools Purge n r t sound old asks fits among = absurd (not_in_none t among)
 
-taken_from : (pools : List PoolEntry) (es : List RootEntry) (n : ℕ) (r : Root) (t : Title) → IsSound r → IsSettled r → IsBornBelow n r → RootReplays pools es r →
+taken_from : (pools : List PoolEntry) (es : List RootEntry) (n : ℕ) (r : Root) (t : Title) → IsSound r → IsSettled r → IsBornBelow n r →
+    RootReplays pools es r →
     RiseFrom n (all_asked es) → Contains (titles_taken pools es r) t → IsMade (root_replayed pools es r) t ⊎ IsMapBy es t
 taken_from pools [] n r t sound few old fits rise among = absurd (not_in_none t among)
 taken_from pools (e ∷ es) n r t sound few old fits rise among =
@@ -68,7 +77,8 @@ taken_from pools (e ∷ es) n r t sound few old fits rise among =
     ]
 
 -- a title that a journal takes is made by it
-pub taken_made : (pools : List PoolEntry) (journal : List RootEntry) (t : Title) → IsJournal pools journal → Contains (titles_taken pools journal new_root) t → IsMadeBy pools journal t
+pub taken_made : (pools : List PoolEntry) (journal : List RootEntry) (t : Title) → IsJournal pools journal →
+    Contains (titles_taken pools journal new_root) t → IsMadeBy pools journal t
 taken_made pools journal t h among = taken_from pools journal 0 new_root t new_sound (omega arith) new_born h.replays h.rise among
 
 module _ (pools : List PoolEntry) (journal : List RootEntry) (h : IsJournal pools journal) where
@@ -78,7 +88,8 @@ module _ (pools : List PoolEntry) (journal : List RootEntry) (h : IsJournal pool
   taken : (t : Title) → IsMapBy journal t → Contains (titles_taken pools journal new_root) t
   taken t mapped = map_taken pools journal new_root t mapped
 
-  slot_or_map : (t u : Title) → IsMade (root_replayed pools journal new_root) t → IsMapBy journal u → t.born ≡ u.born → (t ≡ u) ⊎ TitlesApart t u
+  slot_or_map : (t u : Title) → IsMade (root_replayed pools journal new_root) t → IsMapBy journal u → t.born ≡ u.born → (t ≡ u) ⊎
+      TitlesApart t u
   slot_or_map t u made mapped same = elim (left.known.each u (taken u mapped)) [
     | inl made' ↦ made_apart (root_replayed pools journal new_root) t u left.sound made made' same
     | inr old ↦ absurd (made_or_map (root_replayed pools journal new_root) (least_after_all 0 journal) t u left.sound made old same)

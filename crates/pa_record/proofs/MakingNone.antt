@@ -35,7 +35,8 @@ decommitted_makes_none : (r : Root) (o : Option Span) (title : Title) → IsSoun
 decommitted_makes_none r None title sound e made = made
 decommitted_makes_none r (Some s) title sound e made =
     let like : IsLike (without_pages s) s = record { place = refl; born = refl; class = refl } in
-    entered_makes_none r s (without_pages s) state.Decommitted title sound (earliest_is (is_in state.Empty) r.spans s e).among like refl made
+    entered_makes_none r s (without_pages s) state.Decommitted title sound
+    (earliest_is (is_in state.Empty) r.spans s e).among like refl made
 
 oldest_makes_none : (r : Root) (title : Title) → IsSound r → IsMade (oldest_decommitted r) title → IsMade r title
 oldest_makes_none r title sound made = decommitted_makes_none r (earliest (is_in state.Empty) r.spans) title sound refl made
@@ -61,7 +62,8 @@ settled_makes_none r title sound made = elim (cases_Bool (ltb 16 (empties r))) [
   | inr under ↦ rw under at made
 ]
 
-returned_makes_none : (name : SlotName) (r : Root) (title : Title) → IsSound r → IsOut r name → IsMade (returned name r) title → IsMade r title
+returned_makes_none : (name : SlotName) (r : Root) (title : Title) → IsSound r → IsOut r name → IsMade (returned name r) title →
+    IsMade r title
 returned_makes_none name r title sound out made =
     let o = find (holds name) r.spans in
     back_makes_none name o r title sound refl (settled_makes_none (put_back name o r) title (put_back_out r name sound out).kept.sound made)
@@ -74,5 +76,7 @@ all_returned_make_none (name ∷ names) r title sound outs once made =
     let next = returned name r in
     let out = All-head (IsOut r) name names outs in
     let a = returned_is r name sound out in
-    let rest : All (IsOut next) names = still_out r next name names a (All-tail (IsOut r) name names outs) (λ other among. pairs_head R name other names once among) in
-    returned_makes_none name r title sound out (all_returned_make_none names next title a.kept.sound rest (pairs_tail R name names once) made)
+    let rest : All (IsOut next) names =
+    still_out r next name names a (All-tail (IsOut r) name names outs) (λ other among. pairs_head R name other names once among) in
+    returned_makes_none name r title sound out
+    (all_returned_make_none names next title a.kept.sound rest (pairs_tail R name names once) made)

@@ -63,7 +63,8 @@ cells_avoid c r other = avoid_flat c 115 report_text r.report.items (codes "end\
 
 pool_avoids : (c : ℕ) (r : Run) → (c ≡ 99 → ⊥) → (c ≡ 115 → ⊥) → Avoids c (behind_pool r)
 unfolding behind_pool
-pool_avoids c r cells other = avoid_nested c 99 CellInBits cell_text 0 r.cells.items (behind_cells r) cells cells_known (cells_avoid c r other)
+pool_avoids c r cells other =
+    avoid_nested c 99 CellInBits cell_text 0 r.cells.items (behind_cells r) cells cells_known (cells_avoid c r other)
 
 roots_avoid : (c : ℕ) (r : Run) → (c ≡ 112 → ⊥) → (c ≡ 99 → ⊥) → (c ≡ 115 → ⊥) → Avoids c (behind_roots r)
 unfolding behind_roots
@@ -77,7 +78,8 @@ entries_avoid r =
 
 -- each kind's letter, after the lines of that kind
 roots_avoid_root : (r : Run) → Avoids 114 (behind_roots r)
-roots_avoid_root r = roots_avoid 114 r (greater_apart 114 112 (omega arith)) (greater_apart 114 99 (omega arith)) (apart 114 115 (omega arith))
+roots_avoid_root r = roots_avoid 114 r (greater_apart 114 112 (omega arith)) (greater_apart 114 99 (omega arith))
+    (apart 114 115 (omega arith))
 
 pool_avoids_pool : (r : Run) → Avoids 112 (behind_pool r)
 pool_avoids_pool r = pool_avoids 112 r (greater_apart 112 99 (omega arith)) (apart 112 115 (omega arith))
@@ -108,14 +110,16 @@ one_run a b text ha hb =
     split_line report_begins (end_avoids 115) (end_avoids 115) ha.fits.report hb.fits.report cells.1 in
     record { entries = entries.0; roots = roots.0; pool = pool.0; cells = cells.0; report = report.0 }
 
-joined : (a b b' c c' d d' f f' g g' h : List ℕ) → b ≡ b' → c ≡ c' → d ≡ d' → f ≡ f' → g ≡ g' → a ++ b ++ c ++ d ++ f ++ g ++ h ≡ a ++ b' ++ c' ++ d' ++ f' ++ g' ++ h
+joined : (a b b' c c' d d' f f' g g' h : List ℕ) → b ≡ b' → c ≡ c' → d ≡ d' → f ≡ f' → g ≡ g' → a ++ b ++ c ++ d ++ f ++ g ++ h ≡ a ++ b' ++
+    c' ++ d' ++ f' ++ g' ++ h
 joined a b b' c c' d d' f f' g g' h e1 e2 e3 e4 e5 = cc
 
 -- runs with the same contents have one text
 pub one_text : (a b : Run) (s t : List ℕ) → IsRunText a s → IsRunText b t → IsSameRun a b → s ≡ t
 one_text a b s t ha hb same =
     ha.text
-    ∙ joined (codes "run 1\n") (flat_map entry_text a.entries.items) (flat_map entry_text b.entries.items) (roots_text a.roots.items) (roots_text b.roots.items)
+    ∙ joined (codes "run 1\n") (flat_map entry_text a.entries.items) (flat_map entry_text b.entries.items) (roots_text a.roots.items)
+    (roots_text b.roots.items)
     (pools_text a.pool.items) (pools_text b.pool.items) (cells_text a.cells.items) (cells_text b.cells.items)
     (flat_map report_text a.report.items) (flat_map report_text b.report.items) (codes "end\n")
     (ap (flat_map entry_text) same.entries) (same_nested root_text 0 a.roots.items b.roots.items same.roots) (ap pools_text same.pool)

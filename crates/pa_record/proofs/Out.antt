@@ -15,21 +15,24 @@ pub name_like : (t s : Span) (n : ℕ) → IsLike t s → name_of (title_at t n)
 name_like t s n like = named t.place s.place t.born s.born t.class s.class like.place like.born like.class
   where
     named : (p q b d c e : ℕ) → p ≡ q → b ≡ d → c ≡ e →
-        (let x : SlotName = record { start = p + slot_of c * n; born = b } in let y : SlotName = record { start = q + slot_of e * n; born = d } in x ≡ y)
+        (let x : SlotName = record { start = p + slot_of c * n; born = b } in
+        let y : SlotName = record { start = q + slot_of e * n; born = d } in x ≡ y)
     named p q b d c e h k l = rw (h, k, l) refl
 
 -- the numbers that are out of s, but for those of one name, are out of t
 abbrev pub KeepsOut : SlotName → Span → Span → Type 0
 KeepsOut name s t = (n : ℕ) → IsOutOf s name n → (n < t.provisioned) × (Contains t.free n → ⊥)
 
-pub same_list : (to : State) (turn : ℕ) (t : Span) → ((in_state to turn t).free ≡ t.free) × ((in_state to turn t).provisioned ≡ t.provisioned)
+pub same_list : (to : State) (turn : ℕ) (t : Span) → ((in_state to turn t).free ≡ t.free) ×
+    ((in_state to turn t).provisioned ≡ t.provisioned)
 same_list to turn t = elim (cases_Bool (same_state t.state to)) [
   | inl same ↦ rw same (refl, refl)
   | inr other ↦ rw other (refl, refl)
 ]
 
 -- in a span that has the place of s
-pub out_in_place : (s t : Span) (to : State) (turn : ℕ) (name : SlotName) (n : ℕ) → IsLike t s → KeepsOut name s t → IsOutOf s name n → IsOutOf (in_state to turn t) name n
+pub out_in_place : (s t : Span) (to : State) (turn : ℕ) (name : SlotName) (n : ℕ) → IsLike t s → KeepsOut name s t → IsOutOf s name n →
+    IsOutOf (in_state to turn t) name n
 out_in_place s t to turn name n like keeps out =
     let u = in_state to turn t in
     let (below, away) = keeps n out in

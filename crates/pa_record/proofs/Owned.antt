@@ -24,14 +24,16 @@ use Rattle.pa_record.proofs.Stepping.{next_is}
 use Rattle.pa_record.proofs.Titles.{new_sound, new_born, rise_parts}
 
 -- a root with the super pages and direct maps of one that is taken by the pool is taken by it
-pub taken_same : (pools : List PoolEntry) (r after : Root) → after.supers ≡ r.supers → after.maps ≡ r.maps → IsTakenBy pools r → IsTakenBy pools after
+pub taken_same : (pools : List PoolEntry) (r after : Root) → after.supers ≡ r.supers → after.maps ≡ r.maps → IsTakenBy pools r →
+    IsTakenBy pools after
 taken_same pools r after e f h = record {
   supers = λ at member. h.supers at (subst (λ xs. Contains xs at) e member);
   maps = λ t among. h.maps t (subst (λ xs. Contains xs t) f among);
 }
 
 -- one with a super page more, which the entry took
-opened_taken : (pools : List PoolEntry) (j first : ℕ) (r : Root) → FoundRun pools j 1 first → IsTakenBy pools r → IsTakenBy pools (opened first j r)
+opened_taken : (pools : List PoolEntry) (j first : ℕ) (r : Root) → FoundRun pools j 1 first → IsTakenBy pools r →
+    IsTakenBy pools (opened first j r)
 opened_taken pools j first r run h = record {
   supers = λ at member. elim (Contains-push_cases r.supers (record { number = first; born = j }) at member) [
     | inl old ↦ h.supers at old
@@ -41,7 +43,8 @@ opened_taken pools j first r run h = record {
 }
 
 -- a fill, if it asked and if it didn't
-filled_taken : (pools : List PoolEntry) (class n : ℕ) (asked : Option ℕ) (r : Root) → IsSound r → IsBornBelow n r → AsksFrom n asked → class < 170 → Asked pools class asked r →
+filled_taken : (pools : List PoolEntry) (class n : ℕ) (asked : Option ℕ) (r : Root) → IsSound r → IsBornBelow n r → AsksFrom n asked →
+    class < 170 → Asked pools class asked r →
     IsTakenBy pools r → IsTakenBy pools (takes class (fill_of class) (opened_by pools asked r)).root
 filled_taken pools class n None r sound old asks real fits h =
     let f = takes_filled class (fill_of class) r sound real in
@@ -54,7 +57,8 @@ filled_taken pools class n (Some j) r sound old asks real (none, first, run) h =
     taken_same pools new (takes class (fill_of class) new).root f.supers f.maps
     (subst (λ k. IsTakenBy pools (opened k j r)) (sym e) (opened_taken pools j first r run h))
 
-pub next_taken : (pools : List PoolEntry) (act : RootAct) (n : ℕ) (r : Root) → IsSound r → IsBornBelow n r → AsksFrom n (asked_by act) → RootActFits pools act r →
+pub next_taken : (pools : List PoolEntry) (act : RootAct) (n : ℕ) (r : Root) → IsSound r → IsBornBelow n r → AsksFrom n (asked_by act) →
+    RootActFits pools act r →
     IsTakenBy pools r → IsTakenBy pools (root_next pools act r)
 next_taken pools (Fill class asked slots) n r sound old asks fits h = filled_taken pools class n asked r sound old asks fits.0 fits.1 h
 next_taken pools (Map asked slot len) n r sound old asks (first, run, start, born) h = record {
@@ -77,7 +81,8 @@ next_taken pools Purge n r sound old asks fits h =
     taken_same pools r (purged r) f.supers f.maps h
 
 -- entry by entry
-replayed_taken : (pools : List PoolEntry) (es : List RootEntry) (n : ℕ) (r : Root) → IsSound r → IsSettled r → IsBornBelow n r → RootReplays pools es r → RiseFrom n (all_asked es) →
+replayed_taken : (pools : List PoolEntry) (es : List RootEntry) (n : ℕ) (r : Root) → IsSound r → IsSettled r → IsBornBelow n r →
+    RootReplays pools es r → RiseFrom n (all_asked es) →
     IsTakenBy pools r → IsTakenBy pools (root_replayed pools es r)
 replayed_taken pools [] n r sound few old fits rise h = h
 replayed_taken pools (e ∷ es) n r sound few old fits rise h =
@@ -86,7 +91,8 @@ replayed_taken pools (e ∷ es) n r sound few old fits rise h =
     replayed_taken pools es (least_after n (asked_by e.act)) (root_next pools e.act r) next.sound next.settled next.born fits.1 rest
     (next_taken pools e.act n r sound old asks fits.0 h)
 
-pub journal_taken : (pools : List PoolEntry) (journal : List RootEntry) → IsJournal pools journal → IsTakenBy pools (root_replayed pools journal new_root)
+pub journal_taken : (pools : List PoolEntry) (journal : List RootEntry) → IsJournal pools journal →
+    IsTakenBy pools (root_replayed pools journal new_root)
 journal_taken pools journal h =
     replayed_taken pools journal 0 new_root new_sound (omega arith) new_born h.replays h.rise
     (record { supers = λ at member. absurd (not_in_none at member); maps = λ t among. absurd (not_in_none t among) })

@@ -43,7 +43,8 @@ elsewhere_sym s t k = elim (cases_Bool (same_place t s)) [
 ]
 
 -- who is in the list after it: s, or who was there elsewhere
-pub put_cases : (s u : Span) (ts : List Span) → AllPairs IsElsewhere ts → Contains (put s ts) u → (u ≡ s) ⊎ (Contains ts u × (same_place u s ≡ false))
+pub put_cases : (s u : Span) (ts : List Span) → AllPairs IsElsewhere ts → Contains (put s ts) u → (u ≡ s) ⊎
+    (Contains ts u × (same_place u s ≡ false))
 put_cases s u [] h among = absurd (not_in_none u among)
 put_cases s u (t ∷ ts) h among = elim (cases_Bool (same_place t s)) [
   | inl same ↦ elim (in_cases s u ts (rw same at among)) [

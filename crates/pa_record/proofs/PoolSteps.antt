@@ -20,7 +20,8 @@ slice_get_more [] ys i x e = absurd (not_some x e)
 slice_get_more (z ∷ xs) ys zero x e = e
 slice_get_more (z ∷ xs) ys (suc i) x e = slice_get_more xs ys i x e
 
-pub act_of : (o : Option PoolEntry) (a : PoolAct) → option_map (λ (e : PoolEntry). e.act) o ≡ Some a → (e : PoolEntry) × (o ≡ Some e) × (e.act ≡ a)
+pub act_of : (o : Option PoolEntry) (a : PoolAct) → option_map (λ (e : PoolEntry). e.act) o ≡ Some a → (e : PoolEntry) × (o ≡ Some e) ×
+    (e.act ≡ a)
 act_of None a e = absurd (not_some a e)
 act_of (Some x) a e = (x, refl, of_some x.act a e)
 
@@ -29,20 +30,25 @@ act_at_more pools more j a h =
     let (x, e, f) = act_of (slice_get pools j) a h in
     ap (λ o. option_map (λ (e : PoolEntry). e.act) o) (slice_get_more pools more j x e) ∙ ap Some f
 
-pub pool_fits_more : (pools more : List PoolEntry) (partition : ℕ) (act : PoolAct) (s : PoolState) → PoolActFits pools partition act s → PoolActFits (pools ++ more) partition act s
+pub pool_fits_more : (pools more : List PoolEntry) (partition : ℕ) (act : PoolAct) (s : PoolState) → PoolActFits pools partition act s →
+    PoolActFits (pools ++ more) partition act s
 pool_fits_more pools more partition (pool.Take count found) s h = h
-pool_fits_more pools more partition (pool.Give count first) s (t, one, (e, at, p)) = (t, one, (e, slice_get_more pools more t.entry e at, p))
+pool_fits_more pools more partition (pool.Give count first) s (t, one, (e, at, p)) =
+    (t, one, (e, slice_get_more pools more t.entry e at, p))
 
 pub pool_replays_more : (pools more es : List PoolEntry) (s : PoolState) → PoolReplays pools es s → PoolReplays (pools ++ more) es s
 pool_replays_more pools more [] s h = tt
-pool_replays_more pools more (e ∷ es) s h = (pool_fits_more pools more e.partition e.act s h.0, pool_replays_more pools more es (pool_next e.act s) h.1)
+pool_replays_more pools more (e ∷ es) s h =
+    (pool_fits_more pools more e.partition e.act s h.0, pool_replays_more pools more es (pool_next e.act s) h.1)
 
 -- one entry more
-pub pool_replayed_push : (es : List PoolEntry) (e : PoolEntry) (s : PoolState) → pool_replayed (es ++ e ∷ []) s ≡ pool_next e.act (pool_replayed es s)
+pub pool_replayed_push : (es : List PoolEntry) (e : PoolEntry) (s : PoolState) →
+    pool_replayed (es ++ e ∷ []) s ≡ pool_next e.act (pool_replayed es s)
 pool_replayed_push [] e s = refl
 pool_replayed_push (x ∷ es) e s = pool_replayed_push es e (pool_next x.act s)
 
-pub pool_replays_push : (pools es : List PoolEntry) (e : PoolEntry) (s : PoolState) → PoolReplays pools es s → PoolActFits pools e.partition e.act (pool_replayed es s) →
+pub pool_replays_push : (pools es : List PoolEntry) (e : PoolEntry) (s : PoolState) → PoolReplays pools es s →
+    PoolActFits pools e.partition e.act (pool_replayed es s) →
     PoolReplays pools (es ++ e ∷ []) s
 pool_replays_push pools [] e s h fits = (fits, tt)
 pool_replays_push pools (x ∷ es) e s h fits = (h.0, pool_replays_push pools es e (pool_next x.act s) h.1 fits)
@@ -61,7 +67,8 @@ next_counts (pool.Take count None) s = (refl, refl)
 next_counts (pool.Take count (Some first)) s = (refl, refl)
 next_counts (pool.Give count first) s = (refl, refl)
 
-replayed_counts : (es : List PoolEntry) (s : PoolState) → ((pool_replayed es s).entries ≡ s.entries + length es) × ((pool_replayed es s).supers ≡ s.supers)
+replayed_counts : (es : List PoolEntry) (s : PoolState) → ((pool_replayed es s).entries ≡ s.entries + length es) ×
+    ((pool_replayed es s).supers ≡ s.supers)
 replayed_counts [] s = (omega arith, refl)
 replayed_counts (e ∷ es) s =
     let (p, q) = next_counts e.act s in
@@ -99,7 +106,8 @@ without_pairs R first (t ∷ ts) h = elim (cases_Bool (eqb t.first first)) [
 ]
 
 -- of runs that lie apart and aren't empty, one covers a super page
-one_owner : (ts : List Taken) (t u : Taken) (x : ℕ) → AllPairs RunsApart ts → Contains ts t → Contains ts u → Covers t x → Covers u x → t ≡ u
+one_owner : (ts : List Taken) (t u : Taken) (x : ℕ) → AllPairs RunsApart ts → Contains ts t → Contains ts u → Covers t x → Covers u x →
+    t ≡ u
 one_owner [] t u x h among among' c c' = absurd (not_in_none t among)
 one_owner (y ∷ ts) t u x h among among' c c' = elim (in_cases y t ts among) [
   | inl e ↦ elim (in_cases y u ts among') [
@@ -127,7 +135,8 @@ new_sound pools supers = record {
   owned = λ t u x among. absurd (not_in_none t among);
 }
 
-next_sound : (pools : List PoolEntry) (partition : ℕ) (act : PoolAct) (s : PoolState) → IsSoundPool pools s → s.entries < length pools → act_at pools s.entries ≡ Some act →
+next_sound : (pools : List PoolEntry) (partition : ℕ) (act : PoolAct) (s : PoolState) → IsSoundPool pools s → s.entries < length pools →
+    act_at pools s.entries ≡ Some act →
     PoolActFits pools partition act s → IsSoundPool pools (pool_next act s)
 next_sound pools partition (pool.Take count None) s h below at fits = record {
   entries = omega arith;
@@ -170,12 +179,14 @@ next_sound pools partition (pool.Give count first) s h below at fits = record {
   owned = λ t u x among among' c c'. h.owned t u x (without_in first s.taken t among) (without_in first s.taken u among') c c';
 }
 
-all_sound : (pools before es : List PoolEntry) (s : PoolState) → pools ≡ before ++ es → s.entries ≡ length before → IsSoundPool pools s → PoolReplays pools es s →
+all_sound : (pools before es : List PoolEntry) (s : PoolState) → pools ≡ before ++ es → s.entries ≡ length before → IsSoundPool pools s →
+    PoolReplays pools es s →
     IsSoundPool pools (pool_replayed es s)
 all_sound pools before [] s e counts h fits = h
 all_sound pools before (x ∷ es) s e counts h fits =
     let split : pools ≡ (before ++ x ∷ []) ++ es = e ∙ sym (append_assoc before (x ∷ []) es) in
-    let here : slice_get pools s.entries ≡ Some x = ap (λ ps. slice_get ps s.entries) e ∙ ap (λ n. slice_get (before ++ x ∷ es) n) counts ∙ slice_get_at before es x in
+    let here : slice_get pools s.entries ≡ Some x = ap (λ ps. slice_get ps s.entries) e ∙ ap (λ n. slice_get (before ++ x ∷ es) n) counts ∙
+    slice_get_at before es x in
     let long = ap length e ∙ length-append before (x ∷ es) in
     let longer = length-append before (x ∷ []) in
     let (p, q) = next_counts x.act s in
@@ -198,7 +209,8 @@ lowest_one s count (Some x) None h k = absurd (k x h.0)
 lowest_one s count (Some x) (Some y) h k = let p = h.1 y k.0 in let q = k.1 x h.0 in let e : x ≡ y = omega arith in ap Some e
 
 -- without its run, the super pages are free
-without_free : (first count : ℕ) (ts : List Taken) (t : Taken) → AllPairs RunsApart ts → ((u : Taken) → Contains ts u → 1 ≤ u.count) → Contains ts t → t.first ≡ first → t.count ≡ count →
+without_free : (first count : ℕ) (ts : List Taken) (t : Taken) → AllPairs RunsApart ts → ((u : Taken) → Contains ts u → 1 ≤ u.count) →
+    Contains ts t → t.first ≡ first → t.count ≡ count →
     (u : Taken) → Contains (without_run first ts) u → IsApart first count u
 without_free first count [] t h some among e f u member = absurd (not_in_none t among)
 without_free first count (x ∷ ts) t h some among e f u member = elim (cases_Bool (eqb x.first first)) [
@@ -227,7 +239,8 @@ without_free first count (x ∷ ts) t h some among e f u member = elim (cases_Bo
     meet x t first g e m m' (inl before) = omega arith
     meet x t first g e m m' (inr after) = omega arith
 
-given_free : (pools : List PoolEntry) (s : PoolState) (first count : ℕ) (t : Taken) → IsSoundPool pools s → IsOneTake s first count t → IsFreeRun (gave first s) count first
+given_free : (pools : List PoolEntry) (s : PoolState) (first count : ℕ) (t : Taken) → IsSoundPool pools s → IsOneTake s first count t →
+    IsFreeRun (gave first s) count first
 given_free pools s first count t h one = record {
   inside = let p = h.inside t one.among in let q = one.begins in let k = one.reaches in omega arith;
   free = λ u member. without_free first count s.taken t h.apart h.some one.among one.begins one.reaches u member;

@@ -12,15 +12,18 @@ use Rattle.pa_record.specs.Sound.{AsksFrom, least_after, least_after_all}
 use Rattle.pa_record.proofs.PoolSteps.{act_at_more}
 
 -- the root that a fill opens is the same if the pool gets more entries
-opened_more : (pools more : List PoolEntry) (class : ℕ) (asked : Option ℕ) (r : Root) → Asked pools class asked r → opened_by (pools ++ more) asked r ≡ opened_by pools asked r
+opened_more : (pools more : List PoolEntry) (class : ℕ) (asked : Option ℕ) (r : Root) → Asked pools class asked r →
+    opened_by (pools ++ more) asked r ≡ opened_by pools asked r
 opened_more pools more class None r h = refl
 opened_more pools more class (Some j) r (none, first, run) = ap (λ a. opened (super_of a) j r) (act_at_more pools more j _ run ∙ sym run)
 
-asked_more : (pools more : List PoolEntry) (class : ℕ) (asked : Option ℕ) (r : Root) → Asked pools class asked r → Asked (pools ++ more) class asked r
+asked_more : (pools more : List PoolEntry) (class : ℕ) (asked : Option ℕ) (r : Root) → Asked pools class asked r →
+    Asked (pools ++ more) class asked r
 asked_more pools more class None r h = h
 asked_more pools more class (Some j) r (none, first, run) = (none, first, act_at_more pools more j _ run)
 
-full_more : (pools more : List PoolEntry) (class : Option ℕ) (asked : ℕ) (r : Root) → FullFits pools class asked r → FullFits (pools ++ more) class asked r
+full_more : (pools more : List PoolEntry) (class : Option ℕ) (asked : ℕ) (r : Root) → FullFits pools class asked r →
+    FullFits (pools ++ more) class asked r
 full_more pools more None asked r (count, run) = (count, act_at_more pools more asked _ run)
 full_more pools more (Some class) asked r (none, run) = (none, act_at_more pools more asked _ run)
 
@@ -36,8 +39,10 @@ fits_more pools more (Give slots) r h = h
 fits_more pools more (Unmap asked slot) r (len, first, among, start, run) = (len, first, among, start, act_at_more pools more asked _ run)
 fits_more pools more Purge r h = tt
 
-pub next_more : (pools more : List PoolEntry) (act : RootAct) (r : Root) → RootActFits pools act r → root_next (pools ++ more) act r ≡ root_next pools act r
-next_more pools more (Fill class asked slots) r (real, asks, same) = ap (λ s. (takes class (fill_of class) s).root) (opened_more pools more class asked r asks)
+pub next_more : (pools more : List PoolEntry) (act : RootAct) (r : Root) → RootActFits pools act r →
+    root_next (pools ++ more) act r ≡ root_next pools act r
+next_more pools more (Fill class asked slots) r (real, asks, same) =
+    ap (λ s. (takes class (fill_of class) s).root) (opened_more pools more class asked r asks)
 next_more pools more (Map asked slot len) r h = refl
 next_more pools more (Full class asked) r h = refl
 next_more pools more (Give slots) r h = refl
@@ -55,11 +60,13 @@ replays_more pools more (e ∷ es) r h =
     )
 
 -- one entry more
-pub replayed_push : (pools : List PoolEntry) (es : List RootEntry) (e : RootEntry) (r : Root) → root_replayed pools (es ++ e ∷ []) r ≡ root_next pools e.act (root_replayed pools es r)
+pub replayed_push : (pools : List PoolEntry) (es : List RootEntry) (e : RootEntry) (r : Root) →
+    root_replayed pools (es ++ e ∷ []) r ≡ root_next pools e.act (root_replayed pools es r)
 replayed_push pools [] e r = refl
 replayed_push pools (x ∷ es) e r = replayed_push pools es e (root_next pools x.act r)
 
-pub replays_push : (pools : List PoolEntry) (es : List RootEntry) (e : RootEntry) (r : Root) → RootReplays pools es r → RootActFits pools e.act (root_replayed pools es r) →
+pub replays_push : (pools : List PoolEntry) (es : List RootEntry) (e : RootEntry) (r : Root) → RootReplays pools es r →
+    RootActFits pools e.act (root_replayed pools es r) →
     RootReplays pools (es ++ e ∷ []) r
 replays_push pools [] e r h fits = (fits, tt)
 replays_push pools (x ∷ es) e r h fits = (h.0, replays_push pools es e (root_next pools x.act r) h.1 fits)
@@ -68,14 +75,19 @@ rise_one : (n : ℕ) (o : Option ℕ) → AsksFrom n o → RiseFrom n (cons_opti
 rise_one n None h = tt
 rise_one n (Some j) h = (h, tt)
 
-pub rise_push : (n : ℕ) (es : List RootEntry) (e : RootEntry) → RiseFrom n (all_asked es) → AsksFrom (least_after_all n es) (asked_by e.act) → RiseFrom n (all_asked (es ++ e ∷ []))
+pub rise_push : (n : ℕ) (es : List RootEntry) (e : RootEntry) → RiseFrom n (all_asked es) →
+    AsksFrom (least_after_all n es) (asked_by e.act) → RiseFrom n (all_asked (es ++ e ∷ []))
 rise_push n [] e h asks = rise_one n (asked_by e.act) asks
-rise_push n (x ∷ es) e h asks = by_asked n (asked_by x.act) (all_asked es) (all_asked (es ++ e ∷ [])) h (λ rest. rise_push (least_after n (asked_by x.act)) es e rest asks)
+rise_push n (x ∷ es) e h asks =
+    by_asked n (asked_by x.act) (all_asked es) (all_asked (es ++ e ∷ [])) h
+    (λ rest. rise_push (least_after n (asked_by x.act)) es e rest asks)
   where
-    by_asked : (n : ℕ) (o : Option ℕ) (xs ys : List ℕ) → RiseFrom n (cons_option o xs) → (RiseFrom (least_after n o) xs → RiseFrom (least_after n o) ys) → RiseFrom n (cons_option o ys)
+    by_asked : (n : ℕ) (o : Option ℕ) (xs ys : List ℕ) → RiseFrom n (cons_option o xs) →
+        (RiseFrom (least_after n o) xs → RiseFrom (least_after n o) ys) → RiseFrom n (cons_option o ys)
     by_asked n None xs ys h further = further h
     by_asked n (Some j) xs ys h further = (h.0, further h.1)
 
-pub replays_rest : (pools : List PoolEntry) (xs ys : List RootEntry) (r : Root) → RootReplays pools (xs ++ ys) r → RootReplays pools ys (root_replayed pools xs r)
+pub replays_rest : (pools : List PoolEntry) (xs ys : List RootEntry) (r : Root) → RootReplays pools (xs ++ ys) r →
+    RootReplays pools ys (root_replayed pools xs r)
 replays_rest pools [] ys r h = h
 replays_rest pools (x ∷ xs) ys r h = replays_rest pools xs ys (root_next pools x.act r) h.1

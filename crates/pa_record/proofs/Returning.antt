@@ -34,7 +34,14 @@ kept_trans r after last a b = record {
 }
 
 pub kept_same : (r : Root) → IsSound r → TakesNothing r r
-kept_same r sound = record { sound = sound; rises = omega arith; supers = refl; maps = refl; keeps = λ t made. made; only = λ name out. out }
+kept_same r sound = record {
+  sound = sound;
+  rises = omega arith;
+  supers = refl;
+  maps = refl;
+  keeps = λ t made. made;
+  only = λ name out. out;
+}
 
 -- if what is out of t was out of s, nothing else comes out when t enters a state in place of s
 entered_only : (r : Root) (s t : Span) (to : State) (name : SlotName) → IsSound r → Contains r.spans s → IsLike t s →
@@ -70,7 +77,8 @@ count_none test (s ∷ ss) h =
 no_page_keeps : (name : SlotName) (s : Span) → IsCounted s → s.allocated ≡ 0 → KeepsOut name s (without_pages s)
 no_page_keeps name s counted none n out = let some = some_out s n counted out.provisioned out.out in absurd (omega arith)
 
-decommitted_by : (r : Root) (o : Option Span) → IsSound r → earliest (is_in state.Empty) r.spans ≡ o → IsDecommitted r (decommitted_span o r)
+decommitted_by : (r : Root) (o : Option Span) → IsSound r → earliest (is_in state.Empty) r.spans ≡ o →
+    IsDecommitted r (decommitted_span o r)
 decommitted_by r None sound e = record {
   kept = kept_same r sound;
   turn = omega arith;
@@ -126,13 +134,15 @@ holds_slot s name n counted out =
     let to : name.start < s.place + bytes_of s = omega arith in
     and_from _ _ (eq-eqb _ _ (sym born)) (and_from _ _ (le-leb _ _ from) (lt-ltb _ _ to))
 
-holds_tells : (name : SlotName) (s : Span) → holds name s ≡ true → (s.born ≡ name.born) × (s.place ≤ name.start) × (name.start < s.place + bytes_of s)
+holds_tells : (name : SlotName) (s : Span) → holds name s ≡ true → (s.born ≡ name.born) × (s.place ≤ name.start) ×
+    (name.start < s.place + bytes_of s)
 holds_tells name s h =
     let (born, rest) = and_parts (eqb s.born name.born) (leb s.place name.start && ltb name.start (s.place + bytes_of s)) h in
     let (from, to) = and_parts (leb s.place name.start) (ltb name.start (s.place + bytes_of s)) rest in
     (eqb-true _ _ born, leb-true _ _ from, ltb-true _ _ to)
 
-holder_is : (r : Root) (s u : Span) (name : SlotName) (n : ℕ) → IsSound r → Contains r.spans s → IsOutOf s name n → Contains r.spans u → holds name u ≡ true → u ≡ s
+holder_is : (r : Root) (s u : Span) (name : SlotName) (n : ℕ) → IsSound r → Contains r.spans s → IsOutOf s name n → Contains r.spans u →
+    holds name u ≡ true → u ≡ s
 holder_is r s u name n sound among out member h =
     let (held, low, high) = holds_tells name u h in
     let counted = (sound.spans s among).counted in
@@ -154,7 +164,8 @@ number_is s name n counted out =
     let e : name.start - s.place ≡ n * slot_of s.class + 0 = omega arith in
     ap (λ k. k / slot_of s.class) e ∙ div-mul-add n (slot_of s.class) 0 some
 
-pub find_out : (r : Root) (s : Span) (name : SlotName) (n : ℕ) → IsSound r → Contains r.spans s → IsOutOf s name n → find (holds name) r.spans ≡ Some s
+pub find_out : (r : Root) (s : Span) (name : SlotName) (n : ℕ) → IsSound r → Contains r.spans s → IsOutOf s name n →
+    find (holds name) r.spans ≡ Some s
 find_out r s name n sound among out =
     let (u, e) = find_some (holds name) r.spans s among (holds_slot s name n (sound.spans s among).counted out) in
     let (member, h) = find_is (holds name) r.spans u e in
@@ -179,7 +190,8 @@ front_only : (s : Span) (number n : ℕ) → n < (with_front number s).provision
     (n < s.provisioned) × (Contains s.free n → ⊥)
 front_only s number n below away = (below, λ among. away (later_in number n s.free among))
 
-front_keeps : (s : Span) (name other : SlotName) (number : ℕ) → IsOutOf s name number → (other ≡ name → ⊥) → KeepsOut other s (with_front number s)
+front_keeps : (s : Span) (name other : SlotName) (number : ℕ) → IsOutOf s name number → (other ≡ name → ⊥) →
+    KeepsOut other s (with_front number s)
 front_keeps s name other number out differ n other_out = (
   other_out.provisioned,
   λ among. elim (in_cases number n s.free among) [
@@ -197,7 +209,8 @@ put_back_is r s name n sound among out =
     let to = state_back t in
     let from : IsFrom t s = record { like = record { place = refl; born = refl; class = refl }; state = refl; turn = refl } in
     let counted = with_front_counted s n good.counted out.provisioned out.out in
-    let less : t.allocated < slots_of t.class = let p = good.counted.listed in let q = good.counted.made in let k = good.counted.most in omega arith in
+    let less : t.allocated < slots_of t.class = let p = good.counted.listed in let q = good.counted.made in let k = good.counted.most in
+    omega arith in
     let after = entered to t r in
     let is_sound = entered_sound r s t to sound among from counted (says_back t less) (back_is_used t) in
     record {
@@ -222,7 +235,8 @@ put_back_is r s name n sound among out =
           let same : name_of (title_at v n) ≡ name_of (title_at u m) = name_like v s n like ∙ sym out.named ∙ still.named in
           let low : n < slots_of v.class = let p = out.provisioned in let q = counted_v.made in let k = counted_v.most in omega arith in
           let low' : m < slots_of u.class = let p = still.provisioned in let q = counted_u.made in let k = counted_u.most in omega arith in
-          let one = one_slot after v u n m is_sound place member low low' (ap (λ (x : SlotName). x.born) same) (ap (λ (x : SlotName). x.start) same) in
+          let one = one_slot after v u n m is_sound place member low low' (ap (λ (x : SlotName). x.born) same)
+          (ap (λ (x : SlotName). x.start) same) in
           still.out (subst (λ (z : Span). Contains z.free m) one.span (subst (λ xs. Contains xs m) (sym list)
           (subst (λ i. Contains (n ∷ s.free) i) one.number (first_in n s.free))));
     }
@@ -232,7 +246,8 @@ put_back_out r name sound (s, among, n, out) =
     let e = find_out r s name n sound among out in
     let k = number_is s name n (sound.spans s among).counted out in
     subst (λ o. IsPutBack name r (put_back name o r)) (sym e)
-    (subst (λ i. IsPutBack name r (entered (state_back (with_front i s)) (with_front i s) r)) (sym k) (put_back_is r s name n sound among out))
+    (subst (λ i. IsPutBack name r (entered (state_back (with_front i s)) (with_front i s) r)) (sym k)
+    (put_back_is r s name n sound among out))
 
 settled_is : (name : SlotName) (r after : Root) → IsPutBack name r after → IsReturned (name ∷ []) r (settled after)
 settled_is name r after h = elim (cases_Bool (ltb 16 (empties after))) [
@@ -242,7 +257,8 @@ settled_is name r after h = elim (cases_Bool (ltb 16 (empties after))) [
         kept = kept_trans r after (oldest_decommitted after) h.kept d.kept;
         turn = let p = h.turn in let q = d.turn in omega arith;
         settled = λ few. let p = h.more in let q = d.fewer in omega arith;
-        stays = λ other away out. d.stays other (h.stays other (λ e. away (subst (λ z. Contains (name ∷ []) z) (sym e) (first_in name []))) out);
+        stays = λ other away out. d.stays other
+            (h.stays other (λ e. away (subst (λ z. Contains (name ∷ []) z) (sym e) (first_in name []))) out);
         back = λ other among out. elim (in_cases name other [] among) [
           | inl e ↦ h.back (subst (λ z. IsOut after z) (sym e) (d.kept.only other out))
           | inr none ↦ not_in_none other none
@@ -276,7 +292,8 @@ still_out r next name names a outs differ k d below =
     ])
     (outs k d below)
 
-pub all_returned_is : (names : List SlotName) (r : Root) → IsSound r → All (IsOut r) names → AllPairs ◌≢◌ names → IsReturned names r (all_returned names r)
+pub all_returned_is : (names : List SlotName) (r : Root) → IsSound r → All (IsOut r) names → AllPairs ◌≢◌ names →
+    IsReturned names r (all_returned names r)
 all_returned_is [] r sound outs once = record {
   kept = kept_same r sound;
   turn = omega arith;
@@ -288,7 +305,8 @@ all_returned_is (name ∷ names) r sound outs once =
     let R : SlotName → SlotName → Type 0 = λ a b. a ≢ b in
     let next = returned name r in
     let a = returned_is r name sound (All-head (IsOut r) name names outs) in
-    let rest : All (IsOut next) names = still_out r next name names a (All-tail (IsOut r) name names outs) (λ other among. pairs_head R name other names once among) in
+    let rest : All (IsOut next) names =
+    still_out r next name names a (All-tail (IsOut r) name names outs) (λ other among. pairs_head R name other names once among) in
     let b = all_returned_is names next a.kept.sound rest (pairs_tail R name names once) in
     let last = all_returned names next in
     record {

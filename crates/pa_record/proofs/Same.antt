@@ -24,7 +24,8 @@ pub same_seen : (s t : Seen) → s.slot ≡ t.slot → s.found.0 ≡ t.found.0 �
 same_seen s t e f = both {C = Seen} (λ slot found. record { slot = slot; found = found }) _ _ _ _ e (same_word s.found t.found f)
 
 pub same_entry : (a b : Entry) → a.line ≡ b.line → a.thread ≡ b.thread → a.answer ≡ b.answer → a ≡ b
-same_entry a b e f g = all_three {D = Entry} (λ line thread answer. record { line = line; thread = thread; answer = answer }) _ _ _ _ _ _ e f g
+same_entry a b e f g = all_three {D = Entry}
+    (λ line thread answer. record { line = line; thread = thread; answer = answer }) _ _ _ _ _ _ e f g
 
 pub same_numbered : (m n : Numbered) → m.slot ≡ n.slot → m.number ≡ n.number → m ≡ n
 same_numbered m n e f = both {C = Numbered} (λ slot number. record { slot = slot; number = number }) _ _ _ _ e f
@@ -33,7 +34,8 @@ pub same_root : (a b : RootEntry) → a.line ≡ b.line → a.act ≡ b.act → 
 same_root a b e f = both {C = RootEntry} (λ line act. record { line = line; act = act }) _ _ _ _ e f
 
 pub same_pool : (a b : PoolEntry) → a.line ≡ b.line → a.partition ≡ b.partition → a.act ≡ b.act → a ≡ b
-same_pool a b e f g = all_three {D = PoolEntry} (λ line partition act. record { line = line; partition = partition; act = act }) _ _ _ _ _ _ e f g
+same_pool a b e f g = all_three {D = PoolEntry}
+    (λ line partition act. record { line = line; partition = partition; act = act }) _ _ _ _ _ _ e f g
 
 pub same_cell : (a b : CellEntry) → a.line ≡ b.line → a.gave ≡ b.gave → a.found ≡ b.found → a ≡ b
 same_cell a b e f g = all_three {D = CellEntry} (λ line gave found. record { line = line; gave = gave; found = found }) _ _ _ _ _ _ e f g
@@ -58,13 +60,17 @@ line_of phase partition live quarantined cached root committed reserved full act
   decommitted = decommitted;
 }
 
-line_is : (s : ReportLine) → line_of s.phase s.partition s.live s.quarantined s.cached s.root s.committed s.reserved s.full s.active s.empty s.decommitted ≡ s
+line_is : (s : ReportLine) →
+    line_of s.phase s.partition s.live s.quarantined s.cached s.root s.committed s.reserved s.full s.active s.empty s.decommitted ≡ s
 unfolding line_of
 line_is s = refl
 
-pub same_line : (s t : ReportLine) → s.phase ≡ t.phase → s.partition ≡ t.partition → s.live ≡ t.live → s.quarantined ≡ t.quarantined → s.cached ≡ t.cached → s.root ≡ t.root
-    → s.committed ≡ t.committed → s.reserved ≡ t.reserved → s.full ≡ t.full → s.active ≡ t.active → s.empty ≡ t.empty → s.decommitted ≡ t.decommitted → s ≡ t
+pub same_line : (s t : ReportLine) → s.phase ≡ t.phase → s.partition ≡ t.partition → s.live ≡ t.live → s.quarantined ≡ t.quarantined →
+    s.cached ≡ t.cached → s.root ≡ t.root
+    → s.committed ≡ t.committed → s.reserved ≡ t.reserved → s.full ≡ t.full → s.active ≡ t.active → s.empty ≡ t.empty →
+    s.decommitted ≡ t.decommitted → s ≡ t
 same_line s t e1 e2 e3 e4 e5 e6 e7 e8 e9 e10 e11 e12 =
-    let parts : line_of s.phase s.partition s.live s.quarantined s.cached s.root s.committed s.reserved s.full s.active s.empty s.decommitted
+    let parts : line_of s.phase s.partition s.live s.quarantined s.cached s.root s.committed s.reserved s.full s.active s.empty
+    s.decommitted
     ≡ line_of t.phase t.partition t.live t.quarantined t.cached t.root t.committed t.reserved t.full t.active t.empty t.decommitted = cc in
     sym (line_is s) ∙ parts ∙ line_is t

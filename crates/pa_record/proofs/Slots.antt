@@ -33,7 +33,8 @@ pub record AreOne (s u : Span) (n m : ℕ) : Type 0 where
   pub span : s ≡ u
   pub number : n ≡ m
 
-pub slots_apart : (r : Root) (s u : Span) (n m : ℕ) → IsSound r → Contains r.spans s → Contains r.spans u → n < slots_of s.class → m < slots_of u.class → s.born ≡ u.born →
+pub slots_apart : (r : Root) (s u : Span) (n m : ℕ) → IsSound r → Contains r.spans s → Contains r.spans u → n < slots_of s.class →
+    m < slots_of u.class → s.born ≡ u.born →
     AreOne s u n m ⊎ TitlesApart (title_at s n) (title_at u m)
 slots_apart r s u n m sound first second below below' born = elim (cases_Bool (same_place s u)) [
   | inl same ↦
@@ -59,7 +60,8 @@ slots_apart r s u n m sound first second below below' born = elim (cases_Bool (s
 ]
 
 -- two slots of a root that start at the same byte of one super page are one slot
-pub one_slot : (r : Root) (s u : Span) (n m : ℕ) → IsSound r → Contains r.spans s → Contains r.spans u → n < slots_of s.class → m < slots_of u.class → s.born ≡ u.born →
+pub one_slot : (r : Root) (s u : Span) (n m : ℕ) → IsSound r → Contains r.spans s → Contains r.spans u → n < slots_of s.class →
+    m < slots_of u.class → s.born ≡ u.born →
     (title_at s n).start ≡ (title_at u m).start → AreOne s u n m
 one_slot r s u n m sound first second below below' born start = elim (slots_apart r s u n m sound first second below below' born) [
   | inl one ↦ one

@@ -18,7 +18,8 @@ pub pages_most : (committed bytes : ℕ) → committed ≤ 240 → bytes ≤ 983
 pages_most committed bytes low less = omega arith
 
 -- as many pages as one slot more needs
-enough_pages : (size committed provisioned : ℕ) → size * (provisioned + 1) ≤ 4096 * max (committed + 1) ((size * (provisioned + 1) + 4095) / 4096)
+enough_pages : (size committed provisioned : ℕ) →
+    size * (provisioned + 1) ≤ 4096 * max (committed + 1) ((size * (provisioned + 1) + 4095) / 4096)
 enough_pages size committed provisioned = omega arith
 
 -- if not all slots are provisioned, not all pages are committed
@@ -32,7 +33,8 @@ some_pages size slots system committed provisioned some fit below is = elim (cas
 ]
 
 -- one slot more fits into the span's pages
-fits_within : (size slots system provisioned : ℕ) → slots * size ≤ 4096 * system → provisioned < slots → (size * (provisioned + 1) + 4095) / 4096 ≤ system
+fits_within : (size slots system provisioned : ℕ) → slots * size ≤ 4096 * system → provisioned < slots →
+    (size * (provisioned + 1) + 4095) / 4096 ≤ system
 fits_within size slots system provisioned fit below =
     let up : size * (provisioned + 1) ≤ size * slots = mul-le-mul_left size (omega arith) in
     let sides : slots * size ≡ size * slots = omega arith in
@@ -51,13 +53,15 @@ more_than s h below =
     let size = slot_of s.class in
     let enough = enough_pages size s.committed s.provisioned in
     let sides : (s.provisioned + 1) * size ≡ size * (s.provisioned + 1) = omega arith in
-    let fit : s.provisioned + 1 ≤ 4096 * more_pages s / size = le-div (s.provisioned + 1) (4096 * more_pages s) size (size_some s.class h.class) (omega arith) in
+    let fit : s.provisioned + 1 ≤ 4096 * more_pages s / size =
+    le-div (s.provisioned + 1) (4096 * more_pages s) size (size_some s.class h.class) (omega arith) in
     omega arith
 
 more_within : (s : Span) → IsCounted s → s.provisioned < slots_of s.class → more_pages s ≤ system_of s.class
 more_within s h below =
     let size = slot_of s.class in
-    let one = some_pages size (slots_of s.class) (system_of s.class) s.committed s.provisioned (size_some s.class h.class) (size_fits s.class h.class) below h.provisioned in
+    let one = some_pages size (slots_of s.class) (system_of s.class) s.committed s.provisioned (size_some s.class h.class)
+    (size_fits s.class h.class) below h.provisioned in
     let slot = fits_within size (slots_of s.class) (system_of s.class) s.provisioned (size_fits s.class h.class) below in
     omega arith
 
@@ -106,7 +110,8 @@ with_free_front s h below = elim (list_cases s.free) [
       subst (λ z. HasFront z) (sym p) (record { counted = h; number = x; rest = rest; free = e })
 ]
 
-pub without_front_counted : (s : Span) (number : ℕ) (rest : List ℕ) → IsCounted s → s.free ≡ number ∷ rest → IsCounted (without_front rest s)
+pub without_front_counted : (s : Span) (number : ℕ) (rest : List ℕ) → IsCounted s → s.free ≡ number ∷ rest →
+    IsCounted (without_front rest s)
 without_front_counted s number rest h e = record {
   class = h.class;
   listed = let p = h.listed in let q = ap length e in omega arith;
@@ -125,7 +130,8 @@ some_out s number h below out =
     let p = h.listed in
     omega arith
 
-pub with_front_counted : (s : Span) (number : ℕ) → IsCounted s → number < s.provisioned → (Contains s.free number → ⊥) → IsCounted (with_front number s)
+pub with_front_counted : (s : Span) (number : ℕ) → IsCounted s → number < s.provisioned → (Contains s.free number → ⊥) →
+    IsCounted (with_front number s)
 with_front_counted s number h below out =
     let some = some_out s number h below out in
     record {

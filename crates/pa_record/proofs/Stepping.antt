@@ -21,7 +21,8 @@ use Rattle.pa_record.proofs.Mapping.{unmapped_sound, unmapped_born, mapped_sound
 few_fill : (c : ℕ) → c < 170 → fill_of c ≤ 8
 few_fill c real = let b = IsRow-of c real in b.few_fill
 
-filled_next : (n class : ℕ) (slots : List Numbered) (pools : List PoolEntry) (asked : Option ℕ) (r : Root) → IsSound r → IsSettled r → IsBornBelow n r →
+filled_next : (n class : ℕ) (slots : List Numbered) (pools : List PoolEntry) (asked : Option ℕ) (r : Root) → IsSound r → IsSettled r →
+    IsBornBelow n r →
     AsksFrom n asked → class < 170 → IsNext n (Fill class asked slots) r (takes class (fill_of class) (opened_by pools asked r)).root
 filled_next n class slots pools None r sound few old asks real =
     let f = takes_filled class (fill_of class) r sound real in
@@ -57,7 +58,8 @@ filled_next n class slots pools (Some j) r sound few old asks real =
       ];
     }
 
-pub next_is : (pools : List PoolEntry) (act : RootAct) (n : ℕ) (r : Root) → IsSound r → IsSettled r → IsBornBelow n r → AsksFrom n (asked_by act) →
+pub next_is : (pools : List PoolEntry) (act : RootAct) (n : ℕ) (r : Root) → IsSound r → IsSettled r → IsBornBelow n r →
+    AsksFrom n (asked_by act) →
     RootActFits pools act r → IsNext n act r (root_next pools act r)
 next_is pools (Fill class asked slots) n r sound few old asks fits = filled_next n class slots pools asked r sound few old asks fits.0
 next_is pools (Map asked slot len) n r sound few old asks fits =

@@ -32,7 +32,8 @@ title_like t s n like = titled t.place s.place t.born s.born t.class s.class lik
         let y : Title = record { start = q + slot_of e * n; len = slot_of e; born = d } in x ≡ y)
     titled p q b d c e h k l = rw (h, k, l) refl
 
-pub entered_made : (r : Root) (s t : Span) (to : State) (title : Title) → IsSound r → Contains r.spans s → IsLike t s → s.made ≤ t.made → IsMade r title → IsMade (entered to t r) title
+pub entered_made : (r : Root) (s t : Span) (to : State) (title : Title) → IsSound r → Contains r.spans s → IsLike t s → s.made ≤ t.made →
+    IsMade r title → IsMade (entered to t r) title
 entered_made r s t to title sound among like more (u, member, n, below, is) = elim (cases_Bool (same_place s u)) [
   | inl near ↦
       let e : s ≡ u = one_span s u r.spans sound.places among member near in
@@ -104,10 +105,12 @@ in_use_is_used s = elim (cases_Bool (eqb s.allocated (slots_of s.class))) [
 ]
 
 pub turn_not_less : (to : State) (turn : ℕ) (t : Span) → turn ≤ turn_after to turn t
-turn_not_less to turn t = elim (cases_Bool (same_state t.state to)) [ inl same ↦ rw same (omega arith) | inr other ↦ rw other (omega arith) ]
+turn_not_less to turn t =
+    elim (cases_Bool (same_state t.state to)) [ inl same ↦ rw same (omega arith) | inr other ↦ rw other (omega arith) ]
 
 -- the front wasn't out
-front_fresh : (r : Root) (s : Span) (number : ℕ) → IsSound r → Contains r.spans s → s.allocated < slots_of s.class → IsCounted (with_free s) →
+front_fresh : (r : Root) (s : Span) (number : ℕ) → IsSound r → Contains r.spans s → s.allocated < slots_of s.class →
+    IsCounted (with_free s) →
     Contains (with_free s).free number → IsOut r (name_of (title_at (with_free s) number)) → ⊥
 front_fresh r s number sound among less counted listed (v, member, m, out) =
     let u = with_free s in
@@ -116,24 +119,29 @@ front_fresh r s number sound among less counted listed (v, member, m, out) =
     let good' = (sound.spans v member).counted in
     let same : name_of (title_at s number) ≡ name_of (title_at v m) = sym (name_like u s number like) ∙ out.named in
     let low : number < slots_of s.class =
-    let p = counted.numbers number listed in let q = counted.made in let k = counted.most in let e = ap slots_of like.class in omega arith in
+    let p = counted.numbers number listed in let q = counted.made in let k = counted.most in let e = ap slots_of like.class in
+    omega arith in
     let low' : m < slots_of v.class = let p = out.provisioned in let q = good'.made in let k = good'.most in omega arith in
-    let one = one_slot r s v number m sound among member low low' (ap (λ (x : SlotName). x.born) same) (ap (λ (x : SlotName). x.start) same) in
+    let one = one_slot r s v number m sound among member low low' (ap (λ (x : SlotName). x.born) same)
+    (ap (λ (x : SlotName). x.start) same) in
     let here : IsOutOf s (name_of (title_at u number)) m = subst (λ z. IsOutOf z (name_of (title_at u number)) m) (sym one.span) out in
     (free_keeps s m good less here.provisioned here.out).1 (subst (λ i. Contains u.free i) one.number listed)
 
-same_list_as : (to : State) (turn : ℕ) (t : Span) → ((in_state to turn t).free ≡ t.free) × ((in_state to turn t).provisioned ≡ t.provisioned)
+same_list_as : (to : State) (turn : ℕ) (t : Span) → ((in_state to turn t).free ≡ t.free) ×
+    ((in_state to turn t).provisioned ≡ t.provisioned)
 same_list_as to turn t = elim (cases_Bool (same_state t.state to)) [
   | inl same ↦ rw same (refl, refl)
   | inr other ↦ rw other (refl, refl)
 ]
 
 -- what is out of the span after it was provisioned was out before
-free_back : (s : Span) (n : ℕ) → IsCounted s → s.allocated < slots_of s.class → n < (with_free s).provisioned → (Contains (with_free s).free n → ⊥) →
+free_back : (s : Span) (n : ℕ) → IsCounted s → s.allocated < slots_of s.class → n < (with_free s).provisioned →
+    (Contains (with_free s).free n → ⊥) →
     (n < s.provisioned) × (Contains s.free n → ⊥)
 free_back s n counted less below away = by_list s.free refl below away
   where
-    by_list : (xs : List ℕ) → s.free ≡ xs → n < (with_list xs s).provisioned → (Contains (with_list xs s).free n → ⊥) → (n < s.provisioned) × (Contains s.free n → ⊥)
+    by_list : (xs : List ℕ) → s.free ≡ xs → n < (with_list xs s).provisioned → (Contains (with_list xs s).free n → ⊥) →
+        (n < s.provisioned) × (Contains s.free n → ⊥)
     by_list [] e below' away' =
         let all : s.allocated ≡ s.provisioned = let p = counted.listed in let q = ap length e in omega arith in
         let more = more_than s counted (omega arith) in
@@ -144,7 +152,8 @@ free_back s n counted less below away = by_list s.free refl below away
     by_list (x ∷ xs) e below' away' = (below', away')
 
 -- only the front comes out
-front_only : (r : Root) (s : Span) (number : ℕ) (rest : List ℕ) (to : State) (name : SlotName) → IsSound r → Contains r.spans s → s.allocated < slots_of s.class →
+front_only : (r : Root) (s : Span) (number : ℕ) (rest : List ℕ) (to : State) (name : SlotName) → IsSound r → Contains r.spans s →
+    s.allocated < slots_of s.class →
     (with_free s).free ≡ number ∷ rest → IsOut (entered to (without_front rest (with_free s)) r) name →
     IsOut r name ⊎ (name ≡ name_of (title_at (with_free s) number))
 front_only r s number rest to name sound among less e (v, member, n, out) =
@@ -159,14 +168,25 @@ front_only r s number rest to name sound among less e (v, member, n, out) =
           let (list, many) = same_list_as to r.turn t in
           elim (cases_eq n number) [
             | inl front ↦
-                inr (here.named ∙ name_like w u n (like_trans w t u w_like (record { place = refl; born = refl; class = refl })) ∙ ap (λ k. name_of (title_at u k)) front)
+                inr (here.named ∙ name_like w u n (like_trans w t u w_like (record { place = refl; born = refl; class = refl })) ∙
+                ap (λ k. name_of (title_at u k)) front)
             | inr other ↦
                 let away : Contains u.free n → ⊥ = λ m. elim (in_cases number n rest (subst (λ xs. Contains xs n) e m)) [
                   | inl k ↦ other (sym k)
                   | inr later ↦ here.out (subst (λ xs. Contains xs n) (sym list) later)
                 ] in
                 let (below, out_before) = free_back s n (sound.spans s among).counted less (let p = here.provisioned in omega arith) away in
-                inl (s, among, n, record { provisioned = below; named = here.named ∙ name_like w s n (like_trans w t s w_like like); out = out_before })
+                inl (
+                  s,
+                  among,
+                  n,
+                  record {
+                    provisioned = below;
+                    named = here.named ∙
+                        name_like w s n (like_trans w t s w_like like);
+                    out = out_before;
+                  },
+                )
           ]
       | inr old ↦ inl (v, old.0, n, out)
     ]
@@ -191,7 +211,8 @@ front_given r s number rest sound among less counted e =
     let below : number < u.provisioned = counted.numbers number (subst (λ xs. Contains xs number) (sym e) (first_in number rest)) in
     let lists = same_list_as to r.turn t in
     let many = same_made to r.turn t in
-    let u_like_v : title_at v number ≡ title_at u number = title_like v u number (like_trans v t u v_like (record { place = refl; born = refl; class = refl })) in
+    let u_like_v : title_at v number ≡ title_at u number =
+    title_like v u number (like_trans v t u v_like (record { place = refl; born = refl; class = refl })) in
     record {
       title = title_at u number;
       gives = refl;
@@ -220,7 +241,8 @@ front_given r s number rest sound among less counted e =
       keeps = λ title made. entered_made r s t to title sound among from.like (free_made s) made;
     }
 
-pub span_given : (r : Root) (s : Span) → IsSound r → Contains r.spans s → s.allocated < slots_of s.class → IsGiven s.class r (take_from_span s r)
+pub span_given : (r : Root) (s : Span) → IsSound r → Contains r.spans s → s.allocated < slots_of s.class →
+    IsGiven s.class r (take_from_span s r)
 span_given r s sound among less =
     let front = with_free_front s (sound.spans s among).counted less in
     subst (λ xs. IsGiven s.class r (front_taken xs (with_free s) r)) (sym front.free)

@@ -26,7 +26,8 @@ abbrev pub same_name : SlotName → SlotName → Bool
 same_name a b = eqb a.start b.start && eqb a.born b.born
 
 pub name_is : (start born : ℕ) (b : SlotName) → start ≡ b.start → born ≡ b.born → record { start = start; born = born } ≡ b
-name_is start born b e f = let same : record { start = start; born = born } ≡ record { start = b.start; born = b.born } = rw (e, f) refl in same
+name_is start born b e f = let same : record { start = start; born = born } ≡ record { start = b.start; born = b.born } = rw (e, f) refl in
+    same
 
 pub same_name-true : (a b : SlotName) → same_name a b ≡ true → a ≡ b
 same_name-true a b h = let p = and_parts _ _ h in name_is a.start a.born b (eqb-true _ _ p.0) (eqb-true _ _ p.1)
@@ -82,7 +83,8 @@ is_out-true r name h = out_of_span r name (find (holds name) r.spans) refl h
 abbrev pub are_out : Root → List SlotName → Bool
 are_out r xs = list_all (is_out r) xs
 
-all_passing : {A : Type 0} (P : A → Type 0) (test : A → Bool) → ((x : A) → test x ≡ true → P x) → (xs : List A) → list_all test xs ≡ true → All P xs
+all_passing : {A : Type 0} (P : A → Type 0) (test : A → Bool) → ((x : A) → test x ≡ true → P x) → (xs : List A) → list_all test xs ≡ true →
+    All P xs
 all_passing P test says [] h = All-nil P
 all_passing P test says (x ∷ xs) h =
     let (p, q) = and_parts _ _ h in
@@ -153,7 +155,8 @@ abbrev pub is_full : List PoolEntry → Option ℕ → ℕ → Root → Bool
 is_full pools None asked r = is_some (refused_count (act_at pools asked))
 is_full pools (Some class) asked r = not (is_some (span_for class r)) && is_refused (act_at pools asked) 1
 
-is_full-true : (pools : List PoolEntry) (class : Option ℕ) (asked : ℕ) (r : Root) → is_full pools class asked r ≡ true → FullFits pools class asked r
+is_full-true : (pools : List PoolEntry) (class : Option ℕ) (asked : ℕ) (r : Root) → is_full pools class asked r ≡ true →
+    FullFits pools class asked r
 is_full-true pools None asked r h = refused_any _ h
 is_full-true pools (Some class) asked r h =
     let (none, refused) = and_parts (not (is_some (span_for class r))) (is_refused (act_at pools asked) 1) h in
@@ -191,9 +194,11 @@ abbrev pub is_map : List PoolEntry → ℕ → SlotName → ℕ → Bool
 is_map pools asked slot len =
     is_take (act_at pools asked) && (stands_in (act_at pools asked) (supers_for len) slot.start && eqb slot.born asked)
 
-is_map-true : (pools : List PoolEntry) (asked : ℕ) (slot : SlotName) (len : ℕ) → is_map pools asked slot len ≡ true → MapFits pools asked slot len
+is_map-true : (pools : List PoolEntry) (asked : ℕ) (slot : SlotName) (len : ℕ) → is_map pools asked slot len ≡ true →
+    MapFits pools asked slot len
 is_map-true pools asked slot len h =
-    let (taken, q) = and_parts (is_take (act_at pools asked)) (stands_in (act_at pools asked) (supers_for len) slot.start && eqb slot.born asked) h in
+    let (taken, q) = and_parts (is_take (act_at pools asked))
+    (stands_in (act_at pools asked) (supers_for len) slot.start && eqb slot.born asked) h in
     let (stands, born) = and_parts (stands_in (act_at pools asked) (supers_for len) slot.start) (eqb slot.born asked) q in
     let (first, run, start) = stands-taken _ _ _ taken stands in
     (first, run, start, eqb-true _ _ born)
@@ -221,7 +226,8 @@ unmap_of pools asked slot r (Some t) e h =
 -- an entry fits
 abbrev pub fits : List PoolEntry → RootAct → Root → Bool
 fits pools (Fill class asked slots) r =
-    ltb class 170 && (asks pools class asked r && same_names (map name_of (takes class (fill_of class) (opened_by pools asked r)).titles) (names slots))
+    ltb class 170 && (asks pools class asked r &&
+    same_names (map name_of (takes class (fill_of class) (opened_by pools asked r)).titles) (names slots))
 fits pools (Map asked slot len) r = is_map pools asked slot len
 fits pools (Full class asked) r = is_full pools class asked r
 fits pools (Give slots) r = list_all (is_out r) (names slots) && all_other (names slots)
@@ -298,7 +304,8 @@ none_below s count n = agree_below (λ first. is_free s count first) (λ first. 
 
 not_below : (s : PoolState) (count n first : ℕ) → none_below s count n ≡ true → IsFreeRun s count first → n ≤ first
 not_below s count n first h free = elim (cases_lt first n) [
-  | inl below ↦ absurd (both_ways _ (agree_below_at (λ k. is_free s count k) (λ k. false) n first h below) (is_free-from s count first free))
+  | inl below ↦ absurd (both_ways _ (agree_below_at (λ k. is_free s count k) (λ k. false) n first h below)
+      (is_free-from s count first free))
   | inr above ↦ above
 ]
 
@@ -326,7 +333,8 @@ abbrev pub is_for : ℕ → Option PoolEntry → Bool
 is_for partition None = false
 is_for partition (Some e) = eqb e.partition partition
 
-is_for-true : (partition : ℕ) (o : Option PoolEntry) → is_for partition o ≡ true → (e : PoolEntry) × (o ≡ Some e) × (e.partition ≡ partition)
+is_for-true : (partition : ℕ) (o : Option PoolEntry) → is_for partition o ≡ true → (e : PoolEntry) × (o ≡ Some e) ×
+    (e.partition ≡ partition)
 is_for-true partition None h = absurd (false≢true h)
 is_for-true partition (Some e) h = (e, refl, eqb-true _ _ h)
 
@@ -334,7 +342,8 @@ abbrev pub is_given : List PoolEntry → ℕ → Option Taken → Bool
 is_given pools partition None = false
 is_given pools partition (Some t) = is_for partition (slice_get pools t.entry)
 
-given_run : (pools : List PoolEntry) (partition first count : ℕ) (s : PoolState) (o : Option Taken) → find (is_run first count) s.taken ≡ o →
+given_run : (pools : List PoolEntry) (partition first count : ℕ) (s : PoolState) (o : Option Taken) →
+    find (is_run first count) s.taken ≡ o →
     is_given pools partition o ≡ true → (t : Taken) × IsOneTake s first count t × IsPartitions pools partition t
 given_run pools partition first count s None e h = absurd (false≢true h)
 given_run pools partition first count s (Some t) e h =
@@ -346,7 +355,8 @@ abbrev pub pool_fits : List PoolEntry → ℕ → PoolAct → PoolState → Bool
 pool_fits pools partition (pool.Take count found) s = leb 1 count && is_lowest s count found
 pool_fits pools partition (pool.Give count first) s = is_given pools partition (find (is_run first count) s.taken)
 
-pool_fits-true : (pools : List PoolEntry) (partition : ℕ) (act : PoolAct) (s : PoolState) → pool_fits pools partition act s ≡ true → PoolActFits pools partition act s
+pool_fits-true : (pools : List PoolEntry) (partition : ℕ) (act : PoolAct) (s : PoolState) → pool_fits pools partition act s ≡ true →
+    PoolActFits pools partition act s
 pool_fits-true pools partition (pool.Take count found) s h =
     let (p, q) = and_parts (leb 1 count) (is_lowest s count found) h in
     (leb-true _ _ p, is_lowest-true s count found q)

@@ -99,7 +99,8 @@ known_none pools n r = record {
   titles = record { apart = λ t u among. absurd (not_in_none t among); lie = λ t among. absurd (not_in_none t among) };
 }
 
-old_map_stays : (n m : ℕ) (r after : Root) (t : Title) → n ≤ m → ((at : SuperPage) → Contains after.supers at → Contains r.supers at ⊎ (n ≤ at.born)) →
+old_map_stays : (n m : ℕ) (r after : Root) (t : Title) → n ≤ m →
+    ((at : SuperPage) → Contains after.supers at → Contains r.supers at ⊎ (n ≤ at.born)) →
     IsOldMap n r t → IsOldMap m after t
 old_map_stays n m r after t more news old = (
   let p = old.0 in omega arith,
@@ -160,7 +161,8 @@ known_after pools n m r after ts more keeps news known = record {
 }
 
 -- one direct map more
-with_map : (pools : List PoolEntry) (n : ℕ) (r : Root) (ts : List Title) (t : Title) (first : ℕ) → IsSound r → IsBornBelow n r → n ≤ t.born → IsMapped pools t first →
+with_map : (pools : List PoolEntry) (n : ℕ) (r : Root) (ts : List Title) (t : Title) (first : ℕ) → IsSound r → IsBornBelow n r →
+    n ≤ t.born → IsMapped pools t first →
     IsKnown pools n r ts → IsKnown pools (t.born + 1) r (ts ++ t ∷ [])
 with_map pools n r ts t first sound old more mapped known =
     let earlier : (u : Title) → Contains ts u → u.born < n = λ u among. elim (known.each u among) [
@@ -174,7 +176,8 @@ with_map pools n r ts t first sound old more mapped known =
           | inr map_before ↦ inr (let p = map_before.0 in omega arith, map_before.1)
         ]
         | inr new ↦ elim (in_cases t u [] new) [
-          | inl e ↦ inr (subst (λ z. IsOldMap (t.born + 1) r z) e (omega arith, λ at member same. let p = old.supers at member in omega arith))
+          | inl e ↦ inr (subst (λ z. IsOldMap (t.born + 1) r z) e
+              (omega arith, λ at member same. let p = old.supers at member in omega arith))
           | inr none ↦ absurd (not_in_none u none)
         ]
       ];
@@ -209,19 +212,24 @@ with_map pools n r ts t first sound old more mapped known =
     }
 
 -- after an entry that fits
-known_none_more : (pools : List PoolEntry) (n : ℕ) (act : RootAct) (r after : Root) (ts : List Title) → IsNext n act r after → AsksFrom n (asked_by act) →
+known_none_more : (pools : List PoolEntry) (n : ℕ) (act : RootAct) (r after : Root) (ts : List Title) → IsNext n act r after →
+    AsksFrom n (asked_by act) →
     IsKnown pools n r ts → IsKnown pools (least_after n (asked_by act)) after (ts ++ [])
 known_none_more pools n act r after ts next asks known =
     subst (λ xs. IsKnown pools (least_after n (asked_by act)) after xs) (sym (append-nil ts))
     (known_after pools n (least_after n (asked_by act)) r after ts (least_more n (asked_by act) asks) next.keeps next.supers known)
 
-pub fill_made : (pools : List PoolEntry) (n class : ℕ) (asked : Option ℕ) (r : Root) → IsSound r → IsBornBelow n r → AsksFrom n asked → class < 170 →
-    (t : Title) → Contains (takes class (fill_of class) (opened_by pools asked r)).titles t → IsMade (takes class (fill_of class) (opened_by pools asked r)).root t
+pub fill_made : (pools : List PoolEntry) (n class : ℕ) (asked : Option ℕ) (r : Root) → IsSound r → IsBornBelow n r → AsksFrom n asked →
+    class < 170 →
+    (t : Title) → Contains (takes class (fill_of class) (opened_by pools asked r)).titles t →
+    IsMade (takes class (fill_of class) (opened_by pools asked r)).root t
 fill_made pools n class None r sound old asks real t among = (takes_filled class (fill_of class) r sound real).made t among
 fill_made pools n class (Some j) r sound old asks real t among =
-    (takes_filled class (fill_of class) (opened (super_of (act_at pools j)) j r) (opened_sound (super_of (act_at pools j)) j r sound (born_more n j r asks old)) real).made t among
+    (takes_filled class (fill_of class) (opened (super_of (act_at pools j)) j r)
+    (opened_sound (super_of (act_at pools j)) j r sound (born_more n j r asks old)) real).made t among
 
-map_shape : (pools : List PoolEntry) (asked : ℕ) (slot : SlotName) (len first : ℕ) → FoundRun pools asked (supers_for len) first → slot.start ≡ page_place first 1 → slot.born ≡ asked →
+map_shape : (pools : List PoolEntry) (asked : ℕ) (slot : SlotName) (len first : ℕ) → FoundRun pools asked (supers_for len) first →
+    slot.start ≡ page_place first 1 → slot.born ≡ asked →
     IsMapped pools (map_title slot len) first
 map_shape pools asked slot len first run start born = record {
   taken = subst (λ j. FoundRun pools j (supers_for len) first) (sym born) run;
@@ -229,12 +237,15 @@ map_shape pools asked slot len first run start born = record {
   guard = omega arith;
 }
 
-known_next : (pools : List PoolEntry) (act : RootAct) (n : ℕ) (r : Root) (ts : List Title) → IsSound r → IsSettled r → IsBornBelow n r → AsksFrom n (asked_by act) →
+known_next : (pools : List PoolEntry) (act : RootAct) (n : ℕ) (r : Root) (ts : List Title) → IsSound r → IsSettled r → IsBornBelow n r →
+    AsksFrom n (asked_by act) →
     RootActFits pools act r → IsNext n act r (root_next pools act r) → IsKnown pools n r ts →
     IsKnown pools (least_after n (asked_by act)) (root_next pools act r) (ts ++ next_titles pools act r)
 known_next pools (Fill class asked slots) n r ts sound few old asks fits next known =
-    with_slots pools (least_after n asked) (root_next pools (Fill class asked slots) r) ts (next_titles pools (Fill class asked slots) r) next.sound
-    (known_after pools n (least_after n asked) r (root_next pools (Fill class asked slots) r) ts (least_more n asked asks) next.keeps next.supers known)
+    with_slots pools (least_after n asked) (root_next pools (Fill class asked slots) r) ts
+    (next_titles pools (Fill class asked slots) r) next.sound
+    (known_after pools n (least_after n asked) r (root_next pools (Fill class asked slots) r) ts
+    (least_more n asked asks) next.keeps next.supers known)
     (fill_made pools n class asked r sound old asks fits.0)
 known_next pools (Map asked slot len) n r ts sound few old asks fits next known =
     let t = map_title slot len in
@@ -243,10 +254,14 @@ known_next pools (Map asked slot len) n r ts sound few old asks fits next known 
     let grown = with_map pools n r ts t fits.0 sound old (omega arith) (map_shape pools asked slot len fits.0 fits.1 fits.2 fits.3) known in
     subst (λ k. IsKnown pools (k + 1) after (ts ++ t ∷ [])) born
     (known_after pools (t.born + 1) (t.born + 1) r after (ts ++ t ∷ []) (omega arith) (λ u made. made) (λ at member. inl member) grown)
-known_next pools (Full class asked) n r ts sound few old asks fits next known = known_none_more pools n (Full class asked) r r ts next asks known
-known_next pools (Give slots) n r ts sound few old asks fits next known = known_none_more pools n (Give slots) r (root_next pools (Give slots) r) ts next asks known
-known_next pools (Unmap asked slot) n r ts sound few old asks fits next known = known_none_more pools n (Unmap asked slot) r (root_next pools (Unmap asked slot) r) ts next asks known
-known_next pools Purge n r ts sound few old asks fits next known = known_none_more pools n Purge r (root_next pools Purge r) ts next asks known
+known_next pools (Full class asked) n r ts sound few old asks fits next known =
+    known_none_more pools n (Full class asked) r r ts next asks known
+known_next pools (Give slots) n r ts sound few old asks fits next known =
+    known_none_more pools n (Give slots) r (root_next pools (Give slots) r) ts next asks known
+known_next pools (Unmap asked slot) n r ts sound few old asks fits next known =
+    known_none_more pools n (Unmap asked slot) r (root_next pools (Unmap asked slot) r) ts next asks known
+known_next pools Purge n r ts sound few old asks fits next known =
+    known_none_more pools n Purge r (root_next pools Purge r) ts next asks known
 
 -- after a whole journal
 pub record IsReplayed (pools : List PoolEntry) (n : ℕ) (r : Root) (ts : List Title) : Type 0 where
@@ -255,7 +270,8 @@ pub record IsReplayed (pools : List PoolEntry) (n : ℕ) (r : Root) (ts : List T
   pub born : IsBornBelow n r
   pub known : IsKnown pools n r ts
 
-all_replayed : (pools : List PoolEntry) (es : List RootEntry) (n : ℕ) (r : Root) (ts : List Title) → IsReplayed pools n r ts → RootReplays pools es r → RiseFrom n (all_asked es) →
+all_replayed : (pools : List PoolEntry) (es : List RootEntry) (n : ℕ) (r : Root) (ts : List Title) → IsReplayed pools n r ts →
+    RootReplays pools es r → RiseFrom n (all_asked es) →
     IsReplayed pools (least_after_all n es) (root_replayed pools es r) (ts ++ titles_taken pools es r)
 all_replayed pools [] n r ts h fits rise = subst (λ xs. IsReplayed pools n r xs) (sym (append-nil ts)) h
 all_replayed pools (e ∷ es) n r ts h fits rise =
@@ -276,4 +292,5 @@ all_replayed pools (e ∷ es) n r ts h fits rise =
 pub journal_replayed : (pools : List PoolEntry) (es : List RootEntry) → RootReplays pools es new_root → RiseFrom 0 (all_asked es) →
     IsReplayed pools (least_after_all 0 es) (root_replayed pools es new_root) (titles_taken pools es new_root)
 journal_replayed pools es fits rise =
-    all_replayed pools es 0 new_root [] (record { sound = new_sound; settled = omega arith; born = new_born; known = known_none pools 0 new_root }) fits rise
+    all_replayed pools es 0 new_root []
+    (record { sound = new_sound; settled = omega arith; born = new_born; known = known_none pools 0 new_root }) fits rise

@@ -39,7 +39,8 @@ all_but : (r : Root) (s : Span) → IsUsed r → IsUsedBut r s
 all_but r s h u among far = h u among
 
 -- a span enters a state in place of s
-entered_used : (r : Root) (s t : Span) (to : State) → IsSound r → IsLike t s → same_state to state.None ≡ false → IsUsedBut r s → IsUsed (entered to t r)
+entered_used : (r : Root) (s t : Span) (to : State) → IsSound r → IsLike t s → same_state to state.None ≡ false → IsUsedBut r s →
+    IsUsed (entered to t r)
 entered_used r s t to sound like used h u member =
     let w = in_state to r.turn t in
     let near : same_place w s ≡ true = like_place w s (like_trans w t s (in_state_like to r.turn t) like) in
@@ -49,14 +50,16 @@ entered_used r s t to sound like used h u member =
     ]
 
 -- a take from a span
-span_used : (r : Root) (s : Span) → IsSound r → Contains r.spans s → s.allocated < slots_of s.class → IsUsedBut r s → IsUsed (take_from_span s r).root
+span_used : (r : Root) (s : Span) → IsSound r → Contains r.spans s → s.allocated < slots_of s.class → IsUsedBut r s →
+    IsUsed (take_from_span s r).root
 span_used r s sound among less h =
     let front = with_free_front s (sound.spans s among).counted less in
     let t = without_front front.rest (with_free s) in
     subst (λ xs. IsUsed (front_taken xs (with_free s) r).root) (sym front.free)
     (entered_used r s t (state_in_use t) sound (front_from s front.rest).like (in_use_is_used t).0 h)
 
-new_used : (class : ℕ) (r : Root) (at : SuperPage) → IsSound r → class < 170 → current r ≡ Some at → r.page + pages_of class ≤ 127 → IsUsed r →
+new_used : (class : ℕ) (r : Root) (at : SuperPage) → IsSound r → class < 170 → current r ≡ Some at → r.page + pages_of class ≤ 127 →
+    IsUsed r →
     IsUsed (take_from_span (new_span class at r.page) (with_span (new_span class at r.page) r)).root
 new_used class r at sound real now room h =
     let s = new_span class at r.page in
@@ -66,14 +69,16 @@ new_used class r at sound real now room h =
       | inr e ↦ absurd (both_ways _ far (subst (λ z. same_place z s ≡ true) e (place_self s)))
     ])
 
-page_used : (class : ℕ) (r : Root) (o : Option SuperPage) → IsSound r → class < 170 → current r ≡ o → IsUsed r → IsUsed (taken_from (at_page class r o) r).root
+page_used : (class : ℕ) (r : Root) (o : Option SuperPage) → IsSound r → class < 170 → current r ≡ o → IsUsed r →
+    IsUsed (taken_from (at_page class r o) r).root
 page_used class r None sound real now h = h
 page_used class r (Some at) sound real now h = elim (cases_Bool (leb (r.page + pages_of class) 127)) [
   | inl room ↦ rw room (new_used class r at sound real now (leb-true _ _ room) h)
   | inr full ↦ rw full h
 ]
 
-take_by : (class : ℕ) (r : Root) (o : Option Span) → IsSound r → class < 170 → listed class r.spans ≡ o → IsUsed r → IsUsed (taken_from (found_or_new class r o) r).root
+take_by : (class : ℕ) (r : Root) (o : Option Span) → IsSound r → class < 170 → listed class r.spans ≡ o → IsUsed r →
+    IsUsed (taken_from (found_or_new class r o) r).root
 take_by class r None sound real e h = page_used class r (current r) sound real refl h
 take_by class r (Some s) sound real e h =
     let u = listed_is class r.spans s e in
@@ -90,7 +95,8 @@ takes_used class (suc want) r sound real h =
           subst (λ (f : Filled). IsUsed f.root) (sym (ap (λ z. and_then z (takes class want)) e)) h
       | inr given ↦
           let g = given.1 in
-          subst (λ (f : Filled). IsUsed f.root) (sym (and_then_some t (takes class want) g.title g.gives)) (takes_used class want t.root g.sound real now)
+          subst (λ (f : Filled). IsUsed f.root) (sym (and_then_some t (takes class want) g.title g.gives))
+          (takes_used class want t.root g.sound real now)
     ]
 
 -- a decommit, returns and a purge
@@ -117,9 +123,11 @@ settled_used r sound h = elim (cases_Bool (ltb 16 (empties r))) [ inl over ↦ r
 
 returned_used : (r : Root) (name : SlotName) → IsSound r → IsOut r name → IsUsed r → IsUsed (returned name r)
 returned_used r name sound out h =
-    settled_used (put_back name (find (holds name) r.spans) r) (put_back_out r name sound out).kept.sound (back_used r name (find (holds name) r.spans) sound h)
+    settled_used (put_back name (find (holds name) r.spans) r) (put_back_out r name sound out).kept.sound
+    (back_used r name (find (holds name) r.spans) sound h)
 
-all_used : (names : List SlotName) (r : Root) → IsSound r → All (IsOut r) names → AllPairs ◌≢◌ names → IsUsed r → IsUsed (all_returned names r)
+all_used : (names : List SlotName) (r : Root) → IsSound r → All (IsOut r) names → AllPairs ◌≢◌ names → IsUsed r →
+    IsUsed (all_returned names r)
 all_used [] r sound outs once h = h
 all_used (name ∷ names) r sound outs once h =
     let next = returned name r in
@@ -131,7 +139,8 @@ all_used (name ∷ names) r sound outs once h =
     (returned_used r name sound (All-head (IsOut r) name names outs) h)
 
 -- an entry, and a journal
-next_used : (pools : List PoolEntry) (act : RootAct) (n : ℕ) (r : Root) → IsSound r → IsBornBelow n r → AsksFrom n (asked_by act) → RootActFits pools act r → IsUsed r →
+next_used : (pools : List PoolEntry) (act : RootAct) (n : ℕ) (r : Root) → IsSound r → IsBornBelow n r → AsksFrom n (asked_by act) →
+    RootActFits pools act r → IsUsed r →
     IsUsed (root_next pools act r)
 next_used pools (Fill class None slots) n r sound old asks fits h = takes_used class (fill_of class) r sound fits.0 h
 next_used pools (Fill class (Some j) slots) n r sound old asks fits h =
@@ -143,7 +152,8 @@ next_used pools (Give slots) n r sound old asks fits h = all_used (names slots) 
 next_used pools (Unmap asked slot) n r sound old asks fits h = h
 next_used pools Purge n r sound old asks fits h = times_used (empties r) r sound h
 
-journal_used : (pools : List PoolEntry) (es : List RootEntry) (n : ℕ) (r : Root) → IsSound r → IsSettled r → IsBornBelow n r → RootReplays pools es r → RiseFrom n (all_asked es) →
+journal_used : (pools : List PoolEntry) (es : List RootEntry) (n : ℕ) (r : Root) → IsSound r → IsSettled r → IsBornBelow n r →
+    RootReplays pools es r → RiseFrom n (all_asked es) →
     IsUsed r → IsUsed (root_replayed pools es r)
 journal_used pools [] n r sound few old fits rise h = h
 journal_used pools (e ∷ es) n r sound few old fits rise h =
@@ -154,7 +164,8 @@ journal_used pools (e ∷ es) n r sound few old fits rise h =
 
 -- each span is counted once
 one_state : (a : State) → same_state a state.None ≡ false →
-    one_if (same_state a state.Full) + one_if (same_state a state.Active) + one_if (same_state a state.Empty) + one_if (same_state a state.Decommitted) ≡ 1
+    one_if (same_state a state.Full) + one_if (same_state a state.Active) + one_if (same_state a state.Empty) + one_if
+    (same_state a state.Decommitted) ≡ 1
 one_state state.None h = absurd (true≢false h)
 one_state state.Active h = refl
 one_state state.Empty h = refl
@@ -162,7 +173,8 @@ one_state state.Decommitted h = refl
 one_state state.Full h = refl
 
 states_counted : (ss : List Span) → ((s : Span) → Contains ss s → is_in state.None s ≡ false) →
-    count_by (is_in state.Full) ss + count_by (is_in state.Active) ss + count_by (is_in state.Empty) ss + count_by (is_in state.Decommitted) ss ≡ length ss
+    count_by (is_in state.Full) ss + count_by (is_in state.Active) ss + count_by (is_in state.Empty) ss + count_by
+    (is_in state.Decommitted) ss ≡ length ss
 states_counted [] h = refl
 states_counted (s ∷ ss) h =
     let ih = states_counted ss (λ t among. h t (later_in s t ss among)) in
@@ -178,6 +190,7 @@ spans_are_used = record {
   takes_keep = takes_used;
   returns_keep = λ r xs sound outs once h. all_used xs r sound outs once h;
   purge_keeps = λ r sound h. times_used (empties r) r sound h;
-  journal = λ pools journal h. journal_used pools journal 0 new_root new_sound (omega arith) new_born h.replays h.rise (λ s among. absurd (not_in_none s among));
+  journal = λ pools journal h. journal_used pools journal 0 new_root new_sound (omega arith) new_born h.replays h.rise
+      (λ s among. absurd (not_in_none s among));
   counted = λ r h. states_counted r.spans h;
 }

@@ -22,7 +22,10 @@ short_fill_counted = refl
 pub short_fill : IsWorked 1 short_fill_pool short_fill_journal short_fill_census
 short_fill = record {
   is_pool = pool_all_fit-true short_fill_pool short_fill_pool (new_pool 1) short_fill_pool_fits;
-  is_journal = record { replays = all_fit-true short_fill_pool short_fill_journal new_root short_fill_fits; rise = rise-true 0 (all_asked short_fill_journal) refl };
+  is_journal = record {
+    replays = all_fit-true short_fill_pool short_fill_journal new_root short_fill_fits;
+    rise = rise-true 0 (all_asked short_fill_journal) refl;
+  };
   counted = short_fill_counted;
 }
 
@@ -40,7 +43,10 @@ full_region_counted = refl
 pub full_region : IsWorked 1 full_region_pool full_region_journal full_region_census
 full_region = record {
   is_pool = pool_all_fit-true full_region_pool full_region_pool (new_pool 1) full_region_pool_fits;
-  is_journal = record { replays = all_fit-true full_region_pool full_region_journal new_root full_region_fits; rise = rise-true 0 (all_asked full_region_journal) refl };
+  is_journal = record {
+    replays = all_fit-true full_region_pool full_region_journal new_root full_region_fits;
+    rise = rise-true 0 (all_asked full_region_journal) refl;
+  };
   counted = full_region_counted;
 }
 
@@ -58,7 +64,10 @@ direct_map_again_counted = refl
 pub direct_map_again : IsWorked 1 direct_map_again_pool direct_map_again_journal direct_map_again_census
 direct_map_again = record {
   is_pool = pool_all_fit-true direct_map_again_pool direct_map_again_pool (new_pool 1) direct_map_again_pool_fits;
-  is_journal = record { replays = all_fit-true direct_map_again_pool direct_map_again_journal new_root direct_map_again_fits; rise = rise-true 0 (all_asked direct_map_again_journal) refl };
+  is_journal = record {
+    replays = all_fit-true direct_map_again_pool direct_map_again_journal new_root direct_map_again_fits;
+    rise = rise-true 0 (all_asked direct_map_again_journal) refl;
+  };
   counted = direct_map_again_counted;
 }
 
@@ -76,7 +85,10 @@ cache_overflow_counted = refl
 pub cache_overflow : IsWorked 1 cache_overflow_pool cache_overflow_journal cache_overflow_census
 cache_overflow = record {
   is_pool = pool_all_fit-true cache_overflow_pool cache_overflow_pool (new_pool 1) cache_overflow_pool_fits;
-  is_journal = record { replays = all_fit-true cache_overflow_pool cache_overflow_journal new_root cache_overflow_fits; rise = rise-true 0 (all_asked cache_overflow_journal) refl };
+  is_journal = record {
+    replays = all_fit-true cache_overflow_pool cache_overflow_journal new_root cache_overflow_fits;
+    rise = rise-true 0 (all_asked cache_overflow_journal) refl;
+  };
   counted = cache_overflow_counted;
 }
 
@@ -94,7 +106,10 @@ empty_ring_counted = refl
 pub empty_ring : IsWorked 1 empty_ring_pool empty_ring_journal empty_ring_census
 empty_ring = record {
   is_pool = pool_all_fit-true empty_ring_pool empty_ring_pool (new_pool 1) empty_ring_pool_fits;
-  is_journal = record { replays = all_fit-true empty_ring_pool empty_ring_journal new_root empty_ring_fits; rise = rise-true 0 (all_asked empty_ring_journal) refl };
+  is_journal = record {
+    replays = all_fit-true empty_ring_pool empty_ring_journal new_root empty_ring_fits;
+    rise = rise-true 0 (all_asked empty_ring_journal) refl;
+  };
   counted = empty_ring_counted;
 }
 
@@ -112,7 +127,10 @@ purge_counted = refl
 pub purge : IsWorked 1 purge_pool purge_journal purge_census
 purge = record {
   is_pool = pool_all_fit-true purge_pool purge_pool (new_pool 1) purge_pool_fits;
-  is_journal = record { replays = all_fit-true purge_pool purge_journal new_root purge_fits; rise = rise-true 0 (all_asked purge_journal) refl };
+  is_journal = record {
+    replays = all_fit-true purge_pool purge_journal new_root purge_fits;
+    rise = rise-true 0 (all_asked purge_journal) refl;
+  };
   counted = purge_counted;
 }
 
@@ -130,6 +148,9 @@ span_lists_counted = refl
 pub span_lists : IsWorked 4 span_lists_pool span_lists_journal span_lists_census
 span_lists = record {
   is_pool = pool_all_fit-true span_lists_pool span_lists_pool (new_pool 4) span_lists_pool_fits;
-  is_journal = record { replays = all_fit-true span_lists_pool span_lists_journal new_root span_lists_fits; rise = rise-true 0 (all_asked span_lists_journal) refl };
+  is_journal = record {
+    replays = all_fit-true span_lists_pool span_lists_journal new_root span_lists_fits;
+    rise = rise-true 0 (all_asked span_lists_journal) refl;
+  };
   counted = span_lists_counted;
 }

@@ -6,7 +6,7 @@ use Rattle.pa_text.specs.Hex.{SlotFits}
 use Rattle.pa_record.specs.declared.entry.Entry.{Entry}
 use Rattle.pa_record.specs.declared.entry.Seen.{Seen}
 use Rattle.pa_record.specs.declared.entry.Answer.{Answer}
-use Rattle.pa_record.specs.declared.entry.Answer.TheVariants.{Made, Done, Value, Dangling, SecondFree, NotOwner, StaleReset, StaleUse, Nothing, Filled, NotRef, Shared, OutOfRange, TooLarge, Full, Swapped, Purged}
+use Rattle.pa_record.specs.declared.entry.Answer.TheVariants.{Made, Done, Value, Dangling, SecondFree, NotOwner, StaleReset, StaleUse, Nothing, Filled, NotRef, Shared, OutOfRange, TooLarge, Full, Swapped, Purged, Uncounted}
 use Rattle.pa_record.specs.declared.numbered.Numbered.{Numbered}
 use Rattle.pa_record.specs.declared.root.RootEntry.{RootEntry}
 use Rattle.pa_record.specs.declared.root.RootAct.{RootAct}
@@ -56,6 +56,7 @@ AnswerInBits TooLarge = Unit {0}
 AnswerInBits (Full entry) = Is32 entry
 AnswerInBits (Swapped entry) = Is32 entry
 AnswerInBits (Purged slots) = Is32 slots
+AnswerInBits Uncounted = Unit {0}
 
 -- a record: its line and its thread have 32 bits, and the numbers of its answer fit their types
 abbrev pub EntryInBits : Entry → Type 0

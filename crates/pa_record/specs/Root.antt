@@ -56,7 +56,18 @@ pub record Found : Type 0 where
 -- a new span of the class at the next free page of a super page: nothing of it is committed
 abbrev pub new_span : ℕ → SuperPage → ℕ → Span
 new_span class at page =
-    record { place = page_place at.number page; born = at.born; class = class; state = state.None; turn = 0; allocated = 0; provisioned = 0; committed = 0; made = 0; free = [] }
+    record {
+      place = page_place at.number page;
+      born = at.born;
+      class = class;
+      state = state.None;
+      turn = 0;
+      allocated = 0;
+      provisioned = 0;
+      committed = 0;
+      made = 0;
+      free = [];
+    }
 
 -- the root with a new span, whose pages are taken
 abbrev pub with_span : Span → Root → Root

@@ -19,7 +19,7 @@ use Rattle.pa_record.specs.declared.history.Held.TheVariants as handles
 use Rattle.pa_record.specs.declared.report.Tally.{Tally}
 use Rattle.pa_record.specs.declared.report.ReportLine.{ReportLine}
 use Rattle.pa_record.specs.declared.run.Run.{Run}
-use Rattle.pa_record.specs.declared.entry.Answer.TheVariants.{Made, Done, Value, Dangling, SecondFree, NotOwner, StaleReset, StaleUse, Nothing, Filled, NotRef, Shared, OutOfRange, TooLarge, Full, Swapped, Purged}
+use Rattle.pa_record.specs.declared.entry.Answer.TheVariants.{Made, Done, Value, Dangling, SecondFree, NotOwner, StaleReset, StaleUse, Nothing, Filled, NotRef, Shared, OutOfRange, TooLarge, Full, Swapped, Purged, Uncounted}
 
 -- ` SLOT`: a space and the slot's name
 abbrev pub spaced_slot : Seen → List ℕ
@@ -53,6 +53,7 @@ answer_text TooLarge = codes "too-large"
 answer_text (Full entry) = codes "full " ++ decimal entry
 answer_text (Swapped entry) = codes "swapped " ++ decimal entry
 answer_text (Purged slots) = codes "purged " ++ decimal slots
+answer_text Uncounted = codes "uncounted"
 
 -- `e LINE THREAD ANSWER` and an LF
 abbrev pub entry_text : Entry → List ℕ

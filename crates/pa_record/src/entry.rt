@@ -53,4 +53,6 @@ pub enum Answer {
     Swapped { entry: u32 },
     /// A purge, which gave back this many slots.
     Purged { slots: u32 },
+    /// A copy of the owner of a slot in a partition without reference counts.
+    Uncounted,
 }

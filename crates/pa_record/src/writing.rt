@@ -55,6 +55,7 @@ fn push_answer(out: &mut Text, answer: Answer) -> Result<(), OutOfMemory>
         Answer::Full { entry } => push_field(out, b"full ", u64::from(entry)),
         Answer::Swapped { entry } => push_field(out, b"swapped ", u64::from(entry)),
         Answer::Purged { slots } => push_field(out, b"purged ", u64::from(slots)),
+        Answer::Uncounted => push_bytes(out, b"uncounted"),
     }
 }
 

@@ -82,7 +82,8 @@ same_span s u class state allocated provisioned committed made head previous nex
     ∙ (ap (λ (a : State). record s { class = u.class; state = a }) state
     ∙ (ap (λ (n : ℕ). record s { class = u.class; state = u.state; allocated = n }) allocated
     ∙ (ap (λ (n : ℕ). record s { class = u.class; state = u.state; allocated = u.allocated; provisioned = n }) provisioned
-    ∙ (ap (λ (n : ℕ). record u { committed = n; made = s.made; head = s.head; previous = s.previous; next = s.next; turn = s.turn }) committed
+    ∙ (ap (λ (n : ℕ). record u { committed = n; made = s.made; head = s.head; previous = s.previous; next = s.next; turn = s.turn })
+    committed
     ∙ (ap (λ (n : ℕ). record u { made = n; head = s.head; previous = s.previous; next = s.next; turn = s.turn }) made
     ∙ (ap (λ (n : ℕ). record u { head = n; previous = s.previous; next = s.next; turn = s.turn }) head
     ∙ (ap (λ (n : ℕ). record u { previous = n; next = s.next; turn = s.turn }) previous

@@ -16,7 +16,8 @@ pub words_have : (words : List ℕ) (l : SpanListParts) (has : ℕ → Type 0) (
 words_have words l has r read stand st chains = record {
   records = λ s among.
       let (aligned, x, is) = read s.place (st.had s among) in
-      let e : x ≡ span_record r.spans s = sym (span_is words s.place x aligned is) ∙ stored_is_recorded l (spans_in words) has r.spans stand st s among in
+      let e : x ≡ span_record r.spans s = sym (span_is words s.place x aligned is) ∙
+      stored_is_recorded l (spans_in words) has r.spans stand st s among in
       subst (IsRecordAt words (record_word s.place)) e is;
   chains = chains;
 }

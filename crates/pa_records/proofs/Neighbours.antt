@@ -19,7 +19,8 @@ record AreBeside (spans : ℕ → SpanRecord) (has : ℕ → Type 0) (ss : List 
   found : (u : ℕ) → IsMember spans has s.class s.state u → (t : Span) × Contains ss t × (t.place ≡ u) × (is_beside s t ≡ true)
   turn : (t : Span) → Contains ss t → (spans t.place).turn ≡ t.turn
 
-are_beside : (spans : ℕ → SpanRecord) (has : ℕ → Type 0) (ss : List Span) (s : Span) → AreStored spans has ss → HasList s.state → AreBeside spans has ss s
+are_beside : (spans : ℕ → SpanRecord) (has : ℕ → Type 0) (ss : List Span) (s : Span) → AreStored spans has ss → HasList s.state →
+    AreBeside spans has ss s
 are_beside spans has ss s st listed = record {
   member = λ t among b. let (c, a) = and_parts _ _ b in record {
     is_had = st.had t among;
@@ -36,7 +37,8 @@ are_beside spans has ss s st listed = record {
 }
 
 next_by : (spans : ℕ → SpanRecord) (has : ℕ → Type 0) (ss : List Span) (s : Span) → AreBeside spans has ss s → Contains ss s →
-    AreInTurn (IsMember spans has s.class s.state) spans → (o : Option Span) → latest (λ t. is_beside s t && nat_lt t.turn s.turn) ss ≡ o → (n : ℕ) →
+    AreInTurn (IsMember spans has s.class s.state) spans → (o : Option Span) → latest (λ t. is_beside s t && nat_lt t.turn s.turn) ss ≡ o →
+    (n : ℕ) →
     IsNextByTurn (IsMember spans has s.class s.state) (λ v. (spans v).turn) s.place n → n ≡ start_or_zero o
 next_by spans has ss s b among is None e n (inl w) = w.0
 next_by spans has ss s b among is None e n (inr w) =
@@ -44,7 +46,8 @@ next_by spans has ss s b among is None e n (inr w) =
     let a = b.turn t inside in let c = b.turn s among in
     let same : (spans t.place).turn ≡ (spans n).turn = ap (λ v. (spans v).turn) place in
     let less = w.1 in
-    absurd (both_ways _ (latest_none (λ t. is_beside s t && nat_lt t.turn s.turn) ss e t inside) (and_from _ _ near (lt-ltb t.turn s.turn (omega arith))))
+    absurd (both_ways _ (latest_none (λ t. is_beside s t && nat_lt t.turn s.turn) ss e t inside)
+    (and_from _ _ near (lt-ltb t.turn s.turn (omega arith))))
 next_by spans has ss s b among is (Some t) e n (inl w) =
     let k = latest_is (λ t. is_beside s t && nat_lt t.turn s.turn) ss t e in
     let (near, less) = and_parts _ _ k.passes in
@@ -66,7 +69,8 @@ next_by spans has ss s b among is (Some t) e n (inr w) =
     ]
 
 previous_by : (spans : ℕ → SpanRecord) (has : ℕ → Type 0) (ss : List Span) (s : Span) → AreBeside spans has ss s → Contains ss s →
-    AreInTurn (IsMember spans has s.class s.state) spans → (o : Option Span) → earliest (λ t. is_beside s t && nat_lt s.turn t.turn) ss ≡ o → (n : ℕ) →
+    AreInTurn (IsMember spans has s.class s.state) spans → (o : Option Span) →
+    earliest (λ t. is_beside s t && nat_lt s.turn t.turn) ss ≡ o → (n : ℕ) →
     IsPreviousByTurn (IsMember spans has s.class s.state) (λ v. (spans v).turn) s.place n → n ≡ start_or_zero o
 previous_by spans has ss s b among is None e n (inl w) = w.0
 previous_by spans has ss s b among is None e n (inr w) =
@@ -74,7 +78,8 @@ previous_by spans has ss s b among is None e n (inr w) =
     let a = b.turn t inside in let c = b.turn s among in
     let same : (spans t.place).turn ≡ (spans n).turn = ap (λ v. (spans v).turn) place in
     let less = w.1 in
-    absurd (both_ways _ (earliest_none (λ t. is_beside s t && nat_lt s.turn t.turn) ss e t inside) (and_from _ _ near (lt-ltb s.turn t.turn (omega arith))))
+    absurd (both_ways _ (earliest_none (λ t. is_beside s t && nat_lt s.turn t.turn) ss e t inside)
+    (and_from _ _ near (lt-ltb s.turn t.turn (omega arith))))
 previous_by spans has ss s b among is (Some t) e n (inl w) =
     let k = earliest_is (λ t. is_beside s t && nat_lt s.turn t.turn) ss t e in
     let (near, less) = and_parts _ _ k.passes in
@@ -114,7 +119,8 @@ pub with_neighbours : (x : SpanRecord) (s : Span) → alone x ≡ record_with s 
 with_neighbours x s e = ap (λ (y : SpanRecord). record y { previous = x.previous; next = x.next }) e
 
 -- each record is that of its span
-pub stored_is_recorded : (l : SpanListParts) (spans : ℕ → SpanRecord) (has : ℕ → Type 0) (ss : List Span) → Stand l spans has → AreStored spans has ss →
+pub stored_is_recorded : (l : SpanListParts) (spans : ℕ → SpanRecord) (has : ℕ → Type 0) (ss : List Span) → Stand l spans has →
+    AreStored spans has ss →
     (s : Span) → Contains ss s → spans s.place ≡ span_record ss s
 stored_is_recorded l spans has ss stand st s among =
     let x = spans s.place in
@@ -125,7 +131,8 @@ stored_is_recorded l spans has ss stand st s among =
           let is = stand.lists s.class s.state listed in
           let b = are_beside spans has ss s st listed in
           let m = b.member s among (and_from _ _ (eq-eqb s.class s.class refl) (same_state-self s.state)) in (
-            previous_by spans has ss s b among is (previous_of ss s) refl x.previous (is.previous s.place m) ∙ sym (in_list s.state (previous_of ss s) listed),
+            previous_by spans has ss s b among is (previous_of ss s) refl x.previous (is.previous s.place m) ∙
+                sym (in_list s.state (previous_of ss s) listed),
             next_by spans has ss s b among is (next_of ss s) refl x.next (is.next s.place m) ∙ sym (in_list s.state (next_of ss s) listed),
           )
       | inr never ↦

@@ -13,19 +13,22 @@ use Rattle.pa_records.specs.Records.{record_with}
 use Rattle.pa_records.specs.Stored.{alone, AreStored, IsStoredFor}
 
 -- what the store has of a span that isn't the one which changed
-elsewhere_too : (ss : List Span) (s t u : Span) → ((a b : Span) → Contains ss a → Contains ss b → a.place ≡ b.place → a ≡ b) → t.place ≡ s.place →
+elsewhere_too : (ss : List Span) (s t u : Span) → ((a b : Span) → Contains ss a → Contains ss b → a.place ≡ b.place → a ≡ b) →
+    t.place ≡ s.place →
     t.born ≡ s.born → Contains ss s → Contains ss u → same_place u t ≡ false → u.place ≢ s.place
 elsewhere_too ss s t u one place born among inside far same =
     let e = one u s inside among same in
     both_ways _ far (place_from u t (same ∙ sym place) (ap (λ (z : Span). z.born) e ∙ sym born))
 
 -- the span t is in the place of s
-pub put_is_stored : (spans after : ℕ → SpanRecord) (has : ℕ → Type 0) (ss : List Span) (s t : Span) → AreStored spans has ss → Contains ss s →
+pub put_is_stored : (spans after : ℕ → SpanRecord) (has : ℕ → Type 0) (ss : List Span) (s t : Span) → AreStored spans has ss →
+    Contains ss s →
     IsStoredFor spans after s t → AreStored after has (put t ss)
 put_is_stored spans after has ss s t st among new =
     let here : same_place s t ≡ true = place_from s t (sym new.place) (sym new.born) in
     let there : Contains (put t ss) t = put_there t s ss among here in
-    let cases : (u : Span) → Contains (put t ss) u → (u ≡ t) ⊎ (Contains ss u × (same_place u t ≡ false)) = λ u m. put_cases t u ss st.places m in
+    let cases : (u : Span) → Contains (put t ss) u → (u ≡ t) ⊎
+    (Contains ss u × (same_place u t ≡ false)) = λ u m. put_cases t u ss st.places m in
     let away : (u : Span) → Contains ss u → same_place u t ≡ false → u.place ≢ s.place =
     λ u inside far. elsewhere_too ss s t u st.one new.place new.born among inside far in
     record {
@@ -34,7 +37,8 @@ put_is_stored spans after has ss s t st among new =
         | inr old ↦ st.had u old.0
       ];
       numbers = λ u m. elim (cases u m) [
-        | inl e ↦ subst (λ (z : Span). alone (after z.place) ≡ record_with z 0 0) (sym e) (subst (λ p. alone (after p) ≡ record_with t 0 0) (sym new.place) new.is)
+        | inl e ↦ subst (λ (z : Span). alone (after z.place) ≡ record_with z 0 0) (sym e)
+            (subst (λ p. alone (after p) ≡ record_with t 0 0) (sym new.place) new.is)
         | inr old ↦ new.others u.place (away u old.0 old.1) ∙ st.numbers u old.0
       ];
       each = λ u h used. elim (eqb_tells u s.place) [
@@ -100,7 +104,8 @@ front_others at x to head turn spans u other =
     ]
 
 -- a span that entered a state is stored as that span with the state and the turn
-pub entered_is_stored : (l : SpanListParts) (spans after : ℕ → SpanRecord) (s : Span) (to : State) → alone (spans s.place) ≡ record_with s 0 0 →
+pub entered_is_stored : (l : SpanListParts) (spans after : ℕ → SpanRecord) (s : Span) (to : State) →
+    alone (spans s.place) ≡ record_with s 0 0 →
     ((u : ℕ) → after u ≡ spans_entered s.place to l spans u) → IsStoredFor spans after s (in_state to l.turn s)
 entered_is_stored l spans after s to is moved =
     let x = spans s.place in
@@ -123,13 +128,16 @@ entered_is_stored l spans after s to is moved =
           rw moves (record {
             place = refl;
             born = refl;
-            is = ap alone (put_in s.place) ∙ (front_is s.place x to head l.turn (without x spans) ∙ ap (λ (y : SpanRecord). record y { state = to; turn = l.turn }) is);
-            others = λ u other. ap alone (put_in u) ∙ (front_others s.place x to head l.turn (without x spans) u other ∙ without_changes x spans u);
+            is = ap alone (put_in s.place) ∙
+                (front_is s.place x to head l.turn (without x spans) ∙ ap (λ (y : SpanRecord). record y { state = to; turn = l.turn }) is);
+            others = λ u other. ap alone (put_in u) ∙
+                (front_others s.place x to head l.turn (without x spans) u other ∙ without_changes x spans u);
           })
     ]
 
 -- after a span entered a state, the store has the spans of the root in which it is in that state
-pub enters_stored : (l : SpanListParts) (spans after : ℕ → SpanRecord) (has : ℕ → Type 0) (ss : List Span) (s : Span) (to : State) → AreStored spans has ss →
+pub enters_stored : (l : SpanListParts) (spans after : ℕ → SpanRecord) (has : ℕ → Type 0) (ss : List Span) (s : Span) (to : State) →
+    AreStored spans has ss →
     Contains ss s → ((u : ℕ) → after u ≡ spans_entered s.place to l spans u) → AreStored after has (put (in_state to l.turn s) ss)
 enters_stored l spans after has ss s to st among moved =
     put_is_stored spans after has ss s (in_state to l.turn s) st among (entered_is_stored l spans after s to (st.numbers s among) moved)

@@ -21,7 +21,8 @@ state_back state.Full = refl
 pub decoded : (words : List ℕ) (q : ℕ) (s : Span) → IsRecordAt words q s → decoded_span words q ≡ s
 decoded words q s is =
     let f = fields_of s (slice_index words q) (slice_index words (q + 1)) (slice_index words (q + 2)) (slice_index words (q + 3)) is in
-    same_span (decoded_span words q) s f.class (ap numbered_state f.state ∙ state_back s.state) f.allocated f.provisioned f.committed f.made f.head f.previous
+    same_span (decoded_span words q) s f.class (ap numbered_state f.state ∙
+    state_back s.state) f.allocated f.provisioned f.committed f.made f.head f.previous
     f.next f.turn
 
 -- where a page starts
@@ -29,7 +30,8 @@ pub at_page : (words : List ℕ) (place : ℕ) → place % 16384 ≡ 0 → spans
 at_page words place aligned =
     ap (λ (b : Bool). if b then decoded_span words (record_word place) else unused_span) (eq-eqb (place % 16384) 0 aligned)
 
-pub span_is : (words : List ℕ) (place : ℕ) (s : Span) → place % 16384 ≡ 0 → IsRecordAt words (record_word place) s → spans_in words place ≡ s
+pub span_is : (words : List ℕ) (place : ℕ) (s : Span) → place % 16384 ≡ 0 → IsRecordAt words (record_word place) s →
+    spans_in words place ≡ s
 span_is words place s aligned is = at_page words place aligned ∙ decoded words (record_word place) s is
 
 -- records of two pages lie apart
@@ -45,20 +47,24 @@ apart u at i j first second differ low small same =
     differ (of_u ∙ (ap (λ n. 16384 * n) equal ∙ sym of_at))
 
 -- a word that isn't the record's stays
-pub kept_word : (words : List ℕ) (q : ℕ) (s : Span) (r : ℕ) → ((j : ℕ) → j < 4 → r ≡ q + j → ⊥) → slice_index (with_record words q s) r ≡ slice_index words r
+pub kept_word : (words : List ℕ) (q : ℕ) (s : Span) (r : ℕ) → ((j : ℕ) → j < 4 → r ≡ q + j → ⊥) →
+    slice_index (with_record words q s) r ≡ slice_index words r
 kept_word words q s r away =
     let w0 = slice_set words q (counts_of s) in
     let w1 = slice_set w0 (q + 1) (slots_of_record s) in
     let w2 = slice_set w1 (q + 2) (neighbours_of s) in
-    get_or-set_other w2 (q + 3) r s.turn 0 (away 3 (omega arith)) ∙ (get_or-set_other w1 (q + 2) r (neighbours_of s) 0 (away 2 (omega arith))
-    ∙ (get_or-set_other w0 (q + 1) r (slots_of_record s) 0 (away 1 (omega arith)) ∙ get_or-set_other words q r (counts_of s) 0 (λ e. away 0 (omega arith) (omega arith))))
+    get_or-set_other w2 (q + 3) r s.turn 0 (away 3 (omega arith)) ∙
+    (get_or-set_other w1 (q + 2) r (neighbours_of s) 0 (away 2 (omega arith))
+    ∙ (get_or-set_other w0 (q + 1) r (slots_of_record s) 0 (away 1 (omega arith)) ∙
+    get_or-set_other words q r (counts_of s) 0 (λ e. away 0 (omega arith) (omega arith))))
 
 pub long_as : (words : List ℕ) (q : ℕ) (s : Span) → length (with_record words q s) ≡ length words
 long_as words q s =
     let w0 = slice_set words q (counts_of s) in
     let w1 = slice_set w0 (q + 1) (slots_of_record s) in
     let w2 = slice_set w1 (q + 2) (neighbours_of s) in
-    length-set w2 (q + 3) s.turn ∙ (length-set w1 (q + 2) (neighbours_of s) ∙ (length-set w0 (q + 1) (slots_of_record s) ∙ length-set words q (counts_of s)))
+    length-set w2 (q + 3) s.turn ∙
+    (length-set w1 (q + 2) (neighbours_of s) ∙ (length-set w0 (q + 1) (slots_of_record s) ∙ length-set words q (counts_of s)))
 
 -- the four words of another page's record
 pub record FourKept (words after : List ℕ) (q : ℕ) : Type 0 where
@@ -67,7 +73,8 @@ pub record FourKept (words after : List ℕ) (q : ℕ) : Type 0 where
   pub third : slice_index after (q + 2) ≡ slice_index words (q + 2)
   pub fourth : slice_index after (q + 3) ≡ slice_index words (q + 3)
 
-pub four_kept : (words : List ℕ) (s : Span) (u at : ℕ) → u % 16384 ≡ 0 → at % 16384 ≡ 0 → (u ≡ at → ⊥) → FourKept words (with_record words (record_word at) s) (record_word u)
+pub four_kept : (words : List ℕ) (s : Span) (u at : ℕ) → u % 16384 ≡ 0 → at % 16384 ≡ 0 → (u ≡ at → ⊥) →
+    FourKept words (with_record words (record_word at) s) (record_word u)
 four_kept words s u at first second differ =
     let q = record_word at in let r = record_word u in record {
       first = kept_word words q s r (λ j small e. apart u at 0 j first second differ (omega arith) small (omega arith));
@@ -112,15 +119,18 @@ pub back_kept : (words after : List ℕ) (q : ℕ) → FourKept words after q �
 back_kept words after q k = record { first = sym k.first; second = sym k.second; third = sym k.third; fourth = sym k.fourth }
 
 -- the spans after a record was written
-pub spans_written : (words : List ℕ) (at : ℕ) (s : Span) → at % 16384 ≡ 0 → IsRecordAt (with_record words (record_word at) s) (record_word at) s → (u : ℕ) →
+pub spans_written : (words : List ℕ) (at : ℕ) (s : Span) → at % 16384 ≡ 0 →
+    IsRecordAt (with_record words (record_word at) s) (record_word at) s → (u : ℕ) →
     spans_in (with_record words (record_word at) s) u ≡ (if u == at then s else spans_in words u)
 spans_written words at s aligned reads u =
     let after = with_record words (record_word at) s in
     elim (eqb_tells u at) [
-      | inl w ↦ (subst (λ v. spans_in after v ≡ s) (sym w.1) (span_is after at s aligned reads)) ∙ sym (ap (λ (b : Bool). if b then s else spans_in words u) w.0)
+      | inl w ↦ (subst (λ v. spans_in after v ≡ s) (sym w.1) (span_is after at s aligned reads)) ∙
+          sym (ap (λ (b : Bool). if b then s else spans_in words u) w.0)
       | inr w ↦
           let kept : spans_in after u ≡ spans_in words u = elim (eqb_tells (u % 16384) 0) [
-            | inl z ↦ at_page after u z.1 ∙ (same_decoded words after (record_word u) (four_kept words s u at z.1 aligned w.1) ∙ sym (at_page words u z.1))
+            | inl z ↦ at_page after u z.1 ∙
+                (same_decoded words after (record_word u) (four_kept words s u at z.1 aligned w.1) ∙ sym (at_page words u z.1))
             | inr z ↦ ap (λ (b : Bool). if b then decoded_span after (record_word u) else unused_span) z.0
                 ∙ sym (ap (λ (b : Bool). if b then decoded_span words (record_word u) else unused_span) z.0)
           ] in
@@ -138,10 +148,14 @@ reads_back words q s inside fits =
     let l2 : length w2 ≡ length words = length-set w1 (q + 2) (neighbours_of s) ∙ l1 in
     record {
       fits = fits;
-      counts_are = get_or-set_other w2 (q + 3) q s.turn 0 (λ e. omega arith) ∙ (get_or-set_other w1 (q + 2) q (neighbours_of s) 0 (λ e. omega arith)
-          ∙ (get_or-set_other w0 (q + 1) q (slots_of_record s) 0 (λ e. omega arith) ∙ get_or-set_same words q (counts_of s) 0 (omega arith)));
-      slots_are = get_or-set_other w2 (q + 3) (q + 1) s.turn 0 (λ e. omega arith) ∙ (get_or-set_other w1 (q + 2) (q + 1) (neighbours_of s) 0 (λ e. omega arith)
+      counts_are = get_or-set_other w2 (q + 3) q s.turn 0 (λ e. omega arith) ∙
+          (get_or-set_other w1 (q + 2) q (neighbours_of s) 0 (λ e. omega arith)
+          ∙ (get_or-set_other w0 (q + 1) q (slots_of_record s) 0 (λ e. omega arith) ∙
+          get_or-set_same words q (counts_of s) 0 (omega arith)));
+      slots_are = get_or-set_other w2 (q + 3) (q + 1) s.turn 0 (λ e. omega arith) ∙
+          (get_or-set_other w1 (q + 2) (q + 1) (neighbours_of s) 0 (λ e. omega arith)
           ∙ get_or-set_same w0 (q + 1) (slots_of_record s) 0 (omega arith));
-      neighbours_are = get_or-set_other w2 (q + 3) (q + 2) s.turn 0 (λ e. omega arith) ∙ get_or-set_same w1 (q + 2) (neighbours_of s) 0 (omega arith);
+      neighbours_are = get_or-set_other w2 (q + 3) (q + 2) s.turn 0 (λ e. omega arith) ∙
+          get_or-set_same w1 (q + 2) (neighbours_of s) 0 (omega arith);
       turn_is = get_or-set_same w2 (q + 3) s.turn 0 (omega arith);
     }

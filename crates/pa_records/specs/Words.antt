@@ -25,7 +25,8 @@ state_number state.Full = 4
 -- The state with this number. Each number above 3 is that of Full.
 abbrev pub numbered_state : ℕ → State
 numbered_state n =
-    if n == 0 then state.None else (if n == 1 then state.Active else (if n == 2 then state.Empty else (if n == 3 then state.Decommitted else state.Full)))
+    if n == 0 then state.None else (if
+    n == 1 then state.Active else (if n == 2 then state.Empty else (if n == 3 then state.Decommitted else state.Full)))
 
 -- word 0 of a record: the class in bits 0 to 7, the number of the state in bits 8 to 15, how many slots are allocated in bits 16 to
 -- 31, how many are provisioned in bits 32 to 47, and how many pages are committed in bits 48 to 63

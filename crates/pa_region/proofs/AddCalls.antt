@@ -31,20 +31,24 @@ abbrev pub AddTells : ℕ → ℕ → Me (Unit {0}) View → Me (Unit {0}) View 
 AddTells k bytes me after = (after.0 ≡ after_add k bytes me.0) × (after.1 ≡ me.1)
 
 -- where a totals word is, by a view's own list of words
-seen_place : (words : List ℕ) (views : List View) (i : ℕ) (v : View) (k : ℕ) → IsKept words views → get_elem? views i ≡ some v → length v.words + k ≡ total_place words k
+seen_place : (words : List ℕ) (views : List View) (i : ℕ) (v : View) (k : ℕ) → IsKept words views → get_elem? views i ≡ some v →
+    length v.words + k ≡ total_place words k
 seen_place words views i v k kept at_i = let l = kept.values.long i v at_i in let b = bytes_length words in omega arith
 
 -- whatever the table is, a seat that may add may add
 pub add_allowed : (k bytes slots id place : ℕ) (me : Me (Unit {0}) View) → place ≡ length me.0.words + k → CanAdd k bytes me.0 →
-    Allows (λ (s : TableState (Unit {0}) View). IsKept s.words s.views) slots id me place (λ n. (n + bytes) % 2 ^ 64) (λ word after. AddTells k bytes me after)
+    Allows (λ (s : TableState (Unit {0}) View). IsKept s.words s.views) slots id me place (λ n. (n + bytes) % 2 ^ 64)
+    (λ word after. AddTells k bytes me after)
 add_allowed k bytes slots id place me is can s kept homes at_id small =
     let here : place ≡ total_place s.words k = is ∙ seen_place s.words s.views id me.0 k kept at_id in
     let fits = total_small k bytes s.words s.views id me.0 kept at_id can in
-    let fits_here : (slice_index s.words (total_place s.words k) + bytes) % 2 ^ 64 ≡ slice_index s.words (total_place s.words k) + bytes = omega arith in (
+    let fits_here : (slice_index s.words (total_place s.words k) + bytes) % 2 ^ 64 ≡ slice_index s.words (total_place s.words k) + bytes =
+    omega arith in (
       after_add k bytes me.0,
       keeps,
       tt,
-      subst (λ (p : ℕ). IsKept (set s.words p ((slice_index s.words p + bytes) % 2 ^ 64)) (set s.views id (after_add k bytes me.0))) (sym here)
+      subst (λ (p : ℕ). IsKept (set s.words p ((slice_index s.words p + bytes) % 2 ^ 64)) (set s.views id (after_add k bytes me.0)))
+          (sym here)
           (rw fits_here (add_keeps k bytes s.words s.views id me.0 kept at_id can)),
       (refl, refl),
     )
@@ -54,23 +58,28 @@ abbrev pub TotalTells : ℕ → Me (Unit {0}) View → ℕ → Me (Unit {0}) Vie
 TotalTells k me word after = (after.0 ≡ me.0) × (after.1 ≡ me.1) × (HasEveryStake me.0 → word ≡ logged_of me.0 (added_to k))
 
 pub total_allowed : (k slots id place : ℕ) (me : Me (Unit {0}) View) → place ≡ length me.0.words + k → k < 16 →
-    Allows (λ (s : TableState (Unit {0}) View). IsKept s.words s.views) slots id me place (λ n. n) (λ word after. TotalTells k me word after)
+    Allows (λ (s : TableState (Unit {0}) View). IsKept s.words s.views) slots id me place (λ n. n)
+    (λ word after. TotalTells k me word after)
 total_allowed k slots id place me is below s kept homes at_id small =
     let here : place ≡ total_place s.words k = is ∙ seen_place s.words s.views id me.0 k kept at_id in (
       me.0,
       keeps,
       tt,
-      subst (λ (ws : List ℕ). IsKept ws (set s.views id me.0)) (sym (set-get_or s.words place 0)) (subst (λ (vs : List View). IsKept s.words vs) (sym (set_again s.views id me.0 at_id)) kept),
+      subst (λ (ws : List ℕ). IsKept ws (set s.views id me.0)) (sym (set-get_or s.words place 0))
+          (subst (λ (vs : List View). IsKept s.words vs) (sym (set_again s.views id me.0 at_id)) kept),
       (
         refl,
         refl,
-        λ every. ap (slice_index s.words) here ∙ (kept.totals.sums k below ∙ all_logs s.views id me.0 kept.history (byte_words s.words) (total_of (shown s.words s.views)) at_id kept.logs
+        λ every. ap (slice_index s.words) here ∙
+            (kept.totals.sums k below ∙
+            all_logs s.views id me.0 kept.history (byte_words s.words) (total_of (shown s.words s.views)) at_id kept.logs
             every (added_to k)),
       ),
     )
 
 -- the word that is added to, or read, is one of the region's
-pub total_inside : (region table : TableId) (k place : ℕ) (v : View) → region ≡ table → IsSeatSound region v → 16 ≤ table.words → k < 16 → place ≡ (table.words - 16) + k →
+pub total_inside : (region table : TableId) (k place : ℕ) (v : View) → region ≡ table → IsSeatSound region v → 16 ≤ table.words → k < 16 →
+    place ≡ (table.words - 16) + k →
     (place < table.words) × (place ≡ length v.words + k)
 total_inside region table k place v same sound wide small is =
     let w = ap (λ (z : TableId). z.words) same in
@@ -91,7 +100,8 @@ to_none n word bytes ne = elim (eqb_tells word n) [ inl y ↦ absurd (ne y.1) | 
 
 -- an addition to a word of a kind is one to one of the kind's four words
 of_four : (q word bytes : ℕ) → q < 4 →
-    added_to q (Added word bytes) + added_to (4 + q) (Added word bytes) + added_to (8 + q) (Added word bytes) + added_to (12 + q) (Added word bytes) ≡ added_as q (Added word bytes)
+    added_to q (Added word bytes) + added_to (4 + q) (Added word bytes) + added_to (8 + q) (Added word bytes) + added_to (12 + q)
+    (Added word bytes) ≡ added_as q (Added word bytes)
 of_four q word bytes small = elim (cases_lt word 16) [
   | inl below ↦ elim (eqb_tells (word % 4) q) [
     | inl y ↦
@@ -160,20 +170,25 @@ four_words q (Entered keeper made) small = refl
 four_words q (Uncut t) small = refl
 
 -- weights that add up
-logged_split : (views : List View) (f g h : Entry → ℕ) → ((e : Entry) → f e + g e ≡ h e) → logged_in views f + logged_in views g ≡ logged_in views h
+logged_split : (views : List View) (f g h : Entry → ℕ) → ((e : Entry) → f e + g e ≡ h e) →
+    logged_in views f + logged_in views g ≡ logged_in views h
 logged_split views f g h each =
     sum_split (λ v. logged_of v f) (λ v. logged_of v g) (λ v. logged_of v h) views
-    (λ v. sum_split (λ (s : Stake). sum_by f s.log) (λ (s : Stake). sum_by g s.log) (λ (s : Stake). sum_by h s.log) v.stakes (λ s. sum_split f g h s.log each))
+    (λ v. sum_split (λ (s : Stake). sum_by f s.log) (λ (s : Stake). sum_by g s.log) (λ (s : Stake). sum_by h s.log) v.stakes
+    (λ s. sum_split f g h s.log each))
 
 -- the four words of a kind are together what all logs added to it, which isn't above what they owe
 pub kinds_are_owed : (words : List ℕ) (views : List View) (q : ℕ) → IsKept words views → q < 4 →
-    (slice_index words (total_place words q) + slice_index words (total_place words (4 + q)) + slice_index words (total_place words (8 + q)) + slice_index words
+    (slice_index words (total_place words q) + slice_index words (total_place words (4 + q)) + slice_index words
+    (total_place words (8 + q)) + slice_index words
     (total_place words (12 + q)) ≡ logged_in views (added_as q)) ×
     (logged_in views (added_as q) ≤ logged_in views (owes_as q))
 kinds_are_owed words views q kept small =
     let a = logged_split views (added_to q) (added_to (4 + q)) (λ e. added_to q e + added_to (4 + q) e) (λ e. refl) in
-    let b = logged_split views (λ e. added_to q e + added_to (4 + q) e) (added_to (8 + q)) (λ e. added_to q e + added_to (4 + q) e + added_to (8 + q) e) (λ e. refl) in
-    let c = logged_split views (λ e. added_to q e + added_to (4 + q) e + added_to (8 + q) e) (added_to (12 + q)) (added_as q) (λ e. four_words q e small) in
+    let b = logged_split views (λ e. added_to q e + added_to (4 + q) e) (added_to (8 + q))
+    (λ e. added_to q e + added_to (4 + q) e + added_to (8 + q) e) (λ e. refl) in
+    let c = logged_split views (λ e. added_to q e + added_to (4 + q) e + added_to (8 + q) e) (added_to (12 + q)) (added_as q)
+    (λ e. four_words q e small) in
     let s0 = kept.totals.sums q (omega arith) in
     let s1 = kept.totals.sums (4 + q) (omega arith) in
     let s2 = kept.totals.sums (8 + q) (omega arith) in

@@ -78,7 +78,8 @@ few_bytes : (words : List ℕ) (views : List View) (q : ℕ) → IsKept words vi
 few_bytes words views q r = let b = r.totals.bounded q in let a = r.holders.affords in omega arith
 
 -- what the least stake's logs added is what its own log did
-add_logs : (k bytes : ℕ) (words : List ℕ) (views : List View) (i : ℕ) (v : View) → IsKept words views → get_elem? views i ≡ some v → CanAdd k bytes v → (r q : ℕ) →
+add_logs : (k bytes : ℕ) (words : List ℕ) (views : List View) (i : ℕ) (v : View) → IsKept words views → get_elem? views i ≡ some v →
+    CanAdd k bytes v → (r q : ℕ) →
     logged_by (set views i (after_add k bytes v)) r (added_as q) ≤ logged_by (set views i (after_add k bytes v)) r (owes_as q)
 add_logs k bytes words views i v kept at_i can r q =
     let stake = can.1 in
@@ -98,7 +99,8 @@ add_logs k bytes words views i v kept at_i can r q =
                 (λ (n : ℕ). logged_by views n (added_as q) ≡ sum_by (added_as q) (least_log v.stakes)) y.1 mine in
                 let owed_r : logged_by views r (owes_as q) ≡ sum_by (owes_as q) (least_log v.stakes) = subst
                 (λ (n : ℕ). logged_by views n (owes_as q) ≡ sum_by (owes_as q) (least_log v.stakes)) y.1 owed in
-                let enough = subst (λ (n : ℕ). sum_by (added_as n) (least_log v.stakes) + bytes ≤ sum_by (owes_as n) (least_log v.stakes)) z.1 can.2 in
+                let enough = subst (λ (n : ℕ). sum_by (added_as n) (least_log v.stakes) + bytes ≤ sum_by (owes_as n) (least_log v.stakes))
+                z.1 can.2 in
                 let here = subst (λ (n : ℕ). added_as n e ≡ bytes) z.1 (added_here k bytes can.0) in
                 omega arith
             | inr n ↦ let none = added_beside k q bytes n.1 in omega arith
@@ -113,14 +115,16 @@ add_logs k bytes words views i v kept at_i can r q =
         elim (one_lt (least_stake v.stakes) 16) [ inl y ↦ let z = y.0 in omega arith | inr m ↦ let z = m.1 in absurd (omega arith) ]
 
 -- the sum after an addition is small
-add_fits : (k bytes : ℕ) (words : List ℕ) (views : List View) (i : ℕ) (v : View) → IsKept words views → get_elem? views i ≡ some v → CanAdd k bytes v →
+add_fits : (k bytes : ℕ) (words : List ℕ) (views : List View) (i : ℕ) (v : View) → IsKept words views → get_elem? views i ≡ some v →
+    CanAdd k bytes v →
     logged_in views (added_to k) + bytes ≤ 8796093022208
 add_fits k bytes words views i v kept at_i can =
     let stake = can.1 in
     let w = after_add k bytes v in
     let more = logged_set views i v w (Added k bytes) at_i (λ weight. noted_logs (Added k bytes) v.stakes weight stake) in
     let all = all_most (set views i w) (added_as (k % 4)) (owes_as (k % 4))
-    (λ n. stakes_set views i v w at_i (λ m. noted_stakes (Added k bytes) v.stakes m stake) n ∙ kept.logs.each_stake n) (λ r. add_logs k bytes words views i v kept at_i can r (k % 4)) in
+    (λ n. stakes_set views i v w at_i (λ m. noted_stakes (Added k bytes) v.stakes m stake) n ∙ kept.logs.each_stake n)
+    (λ r. add_logs k bytes words views i v kept at_i can r (k % 4)) in
     let a = more (added_as (k % 4)) in
     let b = more (owes_as (k % 4)) in
     let here = added_here k bytes can.0 in
@@ -129,7 +133,8 @@ add_fits k bytes words views i v kept at_i can =
     omega arith
 
 -- no sum of additions to one word is above that of its kind
-pub total_small : (k bytes : ℕ) (words : List ℕ) (views : List View) (i : ℕ) (v : View) → IsKept words views → get_elem? views i ≡ some v → CanAdd k bytes v →
+pub total_small : (k bytes : ℕ) (words : List ℕ) (views : List View) (i : ℕ) (v : View) → IsKept words views → get_elem? views i ≡ some v →
+    CanAdd k bytes v →
     slice_index words (total_place words k) + bytes < 18446744073709551616
 total_small k bytes words views i v kept at_i can =
     let fits = add_fits k bytes words views i v kept at_i can in
@@ -137,8 +142,10 @@ total_small k bytes words views i v kept at_i can =
     omega arith
 
 -- the sixth part after it
-add_totals : (k bytes : ℕ) (words : List ℕ) (views : List View) (i : ℕ) (v : View) → IsKept words views → get_elem? views i ≡ some v → CanAdd k bytes v →
-    Totals (set words (total_place words k) (slice_index words (total_place words k) + bytes)) (logged_in (set views i (after_add k bytes v))) (logged_by (set views i (after_add k bytes v)))
+add_totals : (k bytes : ℕ) (words : List ℕ) (views : List View) (i : ℕ) (v : View) → IsKept words views → get_elem? views i ≡ some v →
+    CanAdd k bytes v →
+    Totals (set words (total_place words k) (slice_index words (total_place words k) + bytes))
+    (logged_in (set views i (after_add k bytes v))) (logged_by (set views i (after_add k bytes v)))
 add_totals k bytes words views i v kept at_i can = record {
   wide = let w = kept.totals.wide in let l = long in omega arith;
   small = let s = kept.totals.small in let l = long in omega arith;
@@ -182,24 +189,29 @@ add_totals k bytes words views i v kept at_i can = record {
         omega arith
 
 -- the core that is shown stays
-add_shown : (k bytes : ℕ) (words after : List ℕ) (views : List View) (i : ℕ) (v : View) → get_elem? views i ≡ some v → byte_words after ≡ byte_words words →
+add_shown : (k bytes : ℕ) (words after : List ℕ) (views : List View) (i : ℕ) (v : View) → get_elem? views i ≡ some v →
+    byte_words after ≡ byte_words words →
     shown after (set views i (after_add k bytes v)) ≡ shown words views
 add_shown k bytes words after views i v at_i same =
     ap (λ (ws : List ℕ). record { words = ws; holdings = map pieces_of (set views i (after_add k bytes v)) }) same
-    ∙ ap (λ (hs : List (List Piece)). record { words = byte_words words; holdings = hs }) (map_same pieces_of views i v (after_add k bytes v) at_i refl)
+    ∙ ap (λ (hs : List (List Piece)). record { words = byte_words words; holdings = hs })
+    (map_same pieces_of views i v (after_add k bytes v) at_i refl)
 
 -- an addition keeps the rule
-pub add_keeps : (k bytes : ℕ) (words : List ℕ) (views : List View) (i : ℕ) (v : View) → IsKept words views → get_elem? views i ≡ some v → CanAdd k bytes v →
+pub add_keeps : (k bytes : ℕ) (words : List ℕ) (views : List View) (i : ℕ) (v : View) → IsKept words views → get_elem? views i ≡ some v →
+    CanAdd k bytes v →
     IsKept (set words (total_place words k) (slice_index words (total_place words k) + bytes)) (set views i (after_add k bytes v))
 add_keeps k bytes words views i v r at_i can =
     let stake = can.1 in
     let w = after_add k bytes v in
     let e = Added k bytes in
     let after = set words (total_place words k) (slice_index words (total_place words k) + bytes) in
-    let beyond : byte_words after ≡ byte_words words = bytes_beyond words (total_place words k) (slice_index words (total_place words k) + bytes) (omega arith) in
+    let beyond : byte_words after ≡ byte_words words =
+    bytes_beyond words (total_place words k) (slice_index words (total_place words k) + bytes) (omega arith) in
     let logged : (weight : Entry → ℕ) → logged_of w weight ≡ logged_of v weight + weight e = λ weight. noted_logs e v.stakes weight stake in
     let more = logged_set views i v w e at_i logged in
-    let same : (x : Thing) → total_of (shown after (set views i w)) x ≡ total_of (shown words views) x = λ x. let c = total_set words after views i v w at_i x in omega arith in
+    let same : (x : Thing) → total_of (shown after (set views i w)) x ≡ total_of (shown words views) x = λ x. let c =
+    total_set words after views i v w at_i x in omega arith in
     let back : (u : Title) → IsTitleHeld (total_of (shown after (set views i w))) u → IsTitleHeld (total_of (shown words views)) u =
     λ u y. let p = same (FreeTitle u) in let q = same (OwnOf u) in let s = same (RefOf u) in omega arith in
     record {
@@ -207,37 +219,54 @@ add_keeps k bytes words views i v r at_i can =
       list = r.list;
       all = ending e v r.all;
       steps = logging e v ∷ r.steps;
-      holders = rw beyond (holders_same (byte_words words) (total_of (shown words views)) (total_of (shown after (set views i w))) (idle_in views) (idle_in (set views i w))
+      holders = rw beyond (holders_same (byte_words words) (total_of (shown words views)) (total_of (shown after (set views i w)))
+          (idle_in views) (idle_in (set views i w))
           (budget_in views) (budget_in (set views i w))
           (logged_in views counted) (logged_in (set views i w) counted) r.holders same
           (λ u some_idle. let c = sum_set (λ (z : View). idle_of z u) views i v w at_i in r.holders.known u (omega arith))
           (let b = sum_set (λ (u : View). u.budget) views i v w at_i in omega arith)
           (let m = more counted in omega arith));
       values = rw beyond (values_same (byte_words words) views i v w at_i r.values refl (λ q knows. knows));
-      reservations = reservations_same (total_of (shown words views)) (total_of (shown after (set views i w))) (low_in views) (low_in (set views i w)) _ _ (uncut_in views)
+      reservations = reservations_same (total_of (shown words views)) (total_of (shown after (set views i w))) (low_in views)
+          (low_in (set views i w)) _ _ (uncut_in views)
           (uncut_in (set views i w))
-          r.reservations back (low_set views i v w at_i refl) (λ u. let m = more (names u) in omega arith) (λ u. let m = more (uncuts u) in omega arith);
-      named = rw beyond (named_same (length (byte_words words)) (length (byte_words words)) (total_of (shown words views)) (total_of (shown after (set views i w))) _ _ (uncut_in views)
+          r.reservations back (low_set views i v w at_i refl) (λ u. let m = more (names u) in omega arith)
+          (λ u. let m = more (uncuts u) in omega arith);
+      named = rw beyond (named_same (length (byte_words words)) (length (byte_words words)) (total_of (shown words views))
+          (total_of (shown after (set views i w))) _ _ (uncut_in views)
           (uncut_in (set views i w))
           r.named refl (λ u y. let p = same (FreeTitle u) in let q = same (OwnOf u) in let s = same (RefOf u) in omega arith)
           (λ u. let m = more (names u) in omega arith) (λ u. let m = more (uncuts u) in omega arith));
       logs = rw beyond (record {
-        chain = λ u. chain_other (logged_in views) (logged_in (set views i w)) e u (r.history u) (r.logs.chain u) more refl (λ n. refl) (λ p found written. refl)
+        chain = λ u. chain_other (logged_in views) (logged_in (set views i w)) e u (r.history u) (r.logs.chain u) more refl (λ n. refl)
+            (λ p found written. refl)
             (λ found some_look. absurd (omega arith));
         last = λ u y. r.logs.last u (back u y);
         each_stake = λ n. stakes_set views i v w at_i (λ m. noted_stakes e v.stakes m stake) n ∙ r.logs.each_stake n;
       });
       content = rw (add_shown k bytes words after views i v at_i beyond) r.content;
-      reads = rw beyond (entry_reads r.history words views i v w e at_i r.reads refl refl stake refl (λ u found look. absurd (cc)) (λ u n. refl));
-      seen = seen_same (logged_in views) (logged_in (set views i w)) (ahead_in views) (ahead_in (set views i w)) (unseen_in views) (unseen_in (set views i w)) r.seen
+      reads = rw beyond (entry_reads r.history words views i v w e at_i r.reads refl refl stake refl (λ u found look. absurd (cc))
+          (λ u n. refl));
+      seen = seen_same (logged_in views) (logged_in (set views i w)) (ahead_in views) (ahead_in (set views i w)) (unseen_in views)
+          (unseen_in (set views i w)) r.seen
           (λ u. let m = more (counted_on u) in omega arith)
           (λ u n. let c = sum_set (λ z. ahead_of z u n) views i v w at_i in omega arith)
           (let c = sum_set unseen_of views i v w at_i in let d = logged (unseen_by v.seen) in omega arith);
       lists = lists_grown r.list views i v w at_i r.lists
-          (record { keepers = refl; leases = refl; lists = refl; stakes = inr (e, refl, λ n. refl); seen = λ u. omega arith; handles = λ u has. inl has }) (r.lists.free_seen i v at_i);
+          (record {
+            keepers = refl;
+            leases = refl;
+            lists = refl;
+            stakes = inr (e, refl, λ n. refl);
+            seen = λ u. omega arith;
+            handles = λ u has. inl has;
+          }) (r.lists.free_seen i v at_i);
       undone = undone_set views i v w at_i refl (λ u. let m = more (uncuts u) in omega arith) r.undone;
       totals = add_totals k bytes words views i v r at_i can;
-      ordered = order_plain r.all r.list views i v w e at_i refl stake r.logs.each_stake (λ n. refl) (λ u word touch. absurd touch) r.ordered;
-      filled = filled_entry r.steps r.all r.history (total_of (shown words views)) (total_of (shown after (set views i w))) views i v w e at_i refl refl
-          (record { frees = λ u. refl; keeps = λ u x. refl; fills = λ u. tt }) tt (others_apart words views i v r at_i stake) (eased_same _ _ same) r.filled;
+      ordered = order_plain r.all r.list views i v w e at_i refl stake r.logs.each_stake (λ n. refl)
+          (λ u word touch. absurd touch) r.ordered;
+      filled = filled_entry r.steps r.all r.history (total_of (shown words views))
+          (total_of (shown after (set views i w))) views i v w e at_i refl refl
+          (record { frees = λ u. refl; keeps = λ u x. refl; fills = λ u. tt }) tt (others_apart words views i v r at_i stake)
+          (eased_same _ _ same) r.filled;
     }

@@ -1,5 +1,5 @@
 -- Sums over a list in which one member changes, is left out or is found.
-use Rattle.std.proofs.Common.{◌≡◌, ℕ, zero, suc, ◌+◌, ◌<◌, ◌≤◌, Bool, true, false, ◌&&◌, List, [], ◌∷◌, map, set, refl, sym, ap, arith, ◌⊎◌, inl, inr, eqb, ltb, cond}
+use Rattle.std.proofs.Common.{◌≡◌, ℕ, zero, suc, ◌+◌, ◌<◌, ◌≤◌, Bool, true, false, ◌&&◌, ◌||◌, List, [], ◌∷◌, map, set, refl, sym, ap, arith, ◌⊎◌, inl, inr, eqb, ltb, cond}
 use Rattle.std.specs.List.{sum_by}
 use Rattle.std.proofs.lemmas.List.Sums.{sum_by-cons}
 use Rattle.std.proofs.lemmas.Bool.{cases_Bool, cases_lt, lt-ltb, le-ltb}
@@ -31,7 +31,8 @@ module _ {A : Type 0} where
       omega (arith, sum_by-cons f z zs)
 
   -- two members are within the sum
-  pub sum_pair : (f : A → ℕ) (xs : List A) (i j : ℕ) (v x : A) → get_elem? xs i ≡ some v → get_elem? xs j ≡ some x → (j ≡ i → ⊥) → f v + f x ≤ sum_by f xs
+  pub sum_pair : (f : A → ℕ) (xs : List A) (i j : ℕ) (v x : A) → get_elem? xs i ≡ some v → get_elem? xs j ≡ some x → (j ≡ i → ⊥) →
+      f v + f x ≤ sum_by f xs
   sum_pair f [] i j v x e g ne = absurd (some-ne-none v (sym e))
   sum_pair f (y ∷ ys) zero zero v x e g ne = absurd (ne refl)
   sum_pair f (y ∷ ys) zero (suc j) v x e g ne =
@@ -115,7 +116,8 @@ module _ {A : Type 0} where
       ]
 
   -- a change that leaves each member's amount leaves the sum
-  pub changed_sum : (test : A → Bool) (change : A → A) (f : A → ℕ) (xs : List A) → ((x : A) → f (change x) ≡ f x) → sum_by f (changed test change xs) ≡ sum_by f xs
+  pub changed_sum : (test : A → Bool) (change : A → A) (f : A → ℕ) (xs : List A) → ((x : A) → f (change x) ≡ f x) →
+      sum_by f (changed test change xs) ≡ sum_by f xs
   changed_sum test change f [] same = refl
   changed_sum test change f (x ∷ xs) same =
       let again = changed_sum test change f xs same in
@@ -126,7 +128,8 @@ module _ {A : Type 0} where
       ]
 
   -- two tests that agree on each member change the same one
-  pub changed_agree : (test other : A → Bool) (change : A → A) (xs : List A) → ((j : ℕ) (x : A) → get_elem? xs j ≡ some x → test x ≡ other x) →
+  pub changed_agree : (test other : A → Bool) (change : A → A) (xs : List A) →
+      ((j : ℕ) (x : A) → get_elem? xs j ≡ some x → test x ≡ other x) →
       changed test change xs ≡ changed other change xs
   changed_agree test other change [] same = refl
   changed_agree test other change (x ∷ xs) same =
@@ -147,7 +150,8 @@ module _ {A : Type 0} where
       omega arith
 
   -- a sum in which all others count nothing
-  pub sum_alone : (f : A → ℕ) (xs : List A) (i : ℕ) (v : A) → get_elem? xs i ≡ some v → ((j : ℕ) (x : A) → get_elem? xs j ≡ some x → (j ≡ i → ⊥) → f x ≡ 0) → sum_by f xs ≡ f v
+  pub sum_alone : (f : A → ℕ) (xs : List A) (i : ℕ) (v : A) → get_elem? xs i ≡ some v →
+      ((j : ℕ) (x : A) → get_elem? xs j ≡ some x → (j ≡ i → ⊥) → f x ≡ 0) → sum_by f xs ≡ f v
   sum_alone f [] i v e h = absurd (some-ne-none v (sym e))
   sum_alone f (x ∷ xs) zero v e h =
       let c = sum_by-cons f x xs in
@@ -184,6 +188,12 @@ one_and false b = omega arith
 pub one_small : (b : Bool) → one b ≤ 1
 one_small true = omega arith
 one_small false = omega arith
+
+-- to forget one of two tests counts no more
+pub one_less : (b c d : Bool) → one (b && d) ≤ one (b && (c || d))
+one_less true true d = one_small d
+one_less true false d = omega arith
+one_less false c d = omega arith
 
 -- a test that is split by another counts once
 pub one_split : (a b : Bool) → one (a && b) + one (a && cond b false true) ≡ one a

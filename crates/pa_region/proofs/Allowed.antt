@@ -30,7 +30,7 @@ use Rattle.pa_region.proofs.CountValues.{moved_long}
 use Rattle.pa_region.proofs.LookStep.{look_holds}
 
 -- the sum is the next word
-adds_stepped : (step : Step) (word : ℕ) → CanStep step word → (word + adds step) % 2 ^ 64 ≡ stepped step word
+pub adds_stepped : (step : Step) (word : ℕ) → CanStep step word → (word + adds step) % 2 ^ 64 ≡ stepped step word
 adds_stepped Issue word can = omega arith
 adds_stepped Copy word can = omega arith
 adds_stepped Reset word can = omega arith
@@ -38,19 +38,24 @@ adds_stepped Free word can = omega arith
 adds_stepped Write word can = omega arith
 
 -- whatever the table is, a seat that can make the counted step may make it
-pub count_allowed : (step : Step) (t : Title) (slots id place : ℕ) (me : Me (Unit {0}) View) → place ≡ count_place t → CanCount step t me.0 →
-    Allows (λ (s : TableState (Unit {0}) View). IsKept s.words s.views) slots id me place (λ n. (n + adds step) % 2 ^ 64) (λ word after. CountTells step t me word after)
+pub count_allowed : (step : Step) (t : Title) (slots id place : ℕ) (me : Me (Unit {0}) View) → place ≡ count_place t →
+    CanCount step t me.0 →
+    Allows (λ (s : TableState (Unit {0}) View). IsKept s.words s.views) slots id me place (λ n. (n + adds step) % 2 ^ 64)
+    (λ word after. CountTells step t me word after)
 count_allowed step t slots id place me at_place can s k homes at_id small =
     let mine = handle_held step t me.0 can.0 in
     let held = held_in_all s.words s.views id me.0 t at_id mine in
     let word = count_word (byte_words s.words) t in
     let enabled = count_can step t s.words s.views id me.0 k at_id can in
-    let found : slice_index s.words place ≡ word = ap (λ p. get_or s.words p 0) at_place ∙ bytes_word s.words (count_place t) (place_below s.words s.views t k held) in
-    let left : (slice_index s.words place + adds step) % 2 ^ 64 ≡ stepped step word = ap (λ n. (n + adds step) % 2 ^ 64) found ∙ adds_stepped step word enabled in (
+    let found : slice_index s.words place ≡ word = ap (λ p. get_or s.words p 0) at_place ∙
+    bytes_word s.words (count_place t) (place_below s.words s.views t k held) in
+    let left : (slice_index s.words place + adds step) % 2 ^ 64 ≡ stepped step word = ap (λ n. (n + adds step) % 2 ^ 64) found ∙
+    adds_stepped step word enabled in (
       after_count step t (slice_index s.words place) me.0,
       keeps,
       tt,
-      subst (λ (n : ℕ). IsKept (set s.words place ((slice_index s.words place + adds step) % 2 ^ 64)) (set s.views id (after_count step t n me.0))) (sym found)
+      subst (λ (n : ℕ). IsKept (set s.words place ((slice_index s.words place + adds step) % 2 ^ 64))
+          (set s.views id (after_count step t n me.0))) (sym found)
           (subst (λ (n : ℕ). IsKept (set s.words place n) (set s.views id (after_count step t word me.0))) (sym left)
           (subst (λ (p : ℕ). IsKept (set s.words p (stepped step word)) (set s.views id (after_count step t word me.0))) (sym at_place)
           (count_keeps step t s.words s.views id me.0 k at_id can))),
@@ -91,14 +96,16 @@ free_alone t words views i v k at_i mine has =
     absurd (omega arith)
 
 -- what a seat's type keeps goes on: the view's titles lie in the region
-pub count_sound : (region : TableId) (step : Step) (t : Title) (word : ℕ) (v : View) → CanCount step t v → IsSeatSound region v → IsSeatSound region (after_count step t word v)
+pub count_sound : (region : TableId) (step : Step) (t : Title) (word : ℕ) (v : View) → CanCount step t v → IsSeatSound region v →
+    IsSeatSound region (after_count step t word v)
 count_sound region step t word v can sound = record {
   small = sound.small;
   well = λ u held. well u held;
   raw = λ b held.
-      let m = (moved_changes step t word v (handle_piece step t v can.0)).1 (RawByte b) in
-      let lost = lost_raw step t (moved_changes step t word v (handle_piece step t v can.0)).0 b in
-      let gained = gained_raw step t (stepped step word) b in
+      let moves = moved_changes step t word v (handle_piece step t v can.0) in
+      let m = moves.changes (RawByte b) in
+      let lost = lost_raw step t moves.sealed moves.state b in
+      let gained = gained_raw step t moves.sealed (stepped step word) b in
       let now : 0 < held_of_view (moved step t word v) (RawByte b) = held in
       sound.raw b (omega arith);
   long = moved_long step t word v ∙ sound.long;
@@ -108,11 +115,12 @@ count_sound region step t word v can sound = record {
     well u has =
         let held = title_held (after_count step t word v) u has in
         elim (title_tells t u) [
-          | inl y ↦ subst (λ (z : Title). IsWellFormed (byte_word_count region) z) y.1 (sound.well t (held_title v t (handle_held step t v can.0)))
+          | inl y ↦ subst (λ (z : Title). IsWellFormed (byte_word_count region) z) y.1
+              (sound.well t (held_title v t (handle_held step t v can.0)))
           | inr n ↦
-              let moves = (moved_changes step t word v (handle_piece step t v can.0)).1 in
-              let a = moves (FreeTitle u) in let b = moves (OwnOf u) in let c = moves (RefOf u) in
-              let p = gained_here step t (stepped step word) u n.1 in
+              let moves = moved_changes step t word v (handle_piece step t v can.0) in
+              let a = moves.changes (FreeTitle u) in let b = moves.changes (OwnOf u) in let c = moves.changes (RefOf u) in
+              let p = gained_here step t moves.sealed (stepped step word) u n.1 in
               let f = p.free in let o = p.own in let r = p.ref in
               let now : IsTitleHeld (held_of_view (moved step t word v)) u = held in
               sound.well u (held_title v u (omega arith))
@@ -134,14 +142,18 @@ look_sound region t word v sound = record {
         sound.well u (held_title v u (omega arith))
 
 -- a counted step is allowed, given by the number that is added
-pub count_allowed_by : (step : Step) (t : Title) (slots id place added : ℕ) (me : Me (Unit {0}) View) → place ≡ count_place t → added ≡ adds step → CanCount step t me.0 →
-    Allows (λ (s : TableState (Unit {0}) View). IsKept s.words s.views) slots id me place (λ n. (n + added) % 2 ^ 64) (λ word after. CountTells step t me word after)
+pub count_allowed_by : (step : Step) (t : Title) (slots id place added : ℕ) (me : Me (Unit {0}) View) → place ≡ count_place t →
+    added ≡ adds step → CanCount step t me.0 →
+    Allows (λ (s : TableState (Unit {0}) View). IsKept s.words s.views) slots id me place (λ n. (n + added) % 2 ^ 64)
+    (λ word after. CountTells step t me word after)
 count_allowed_by step t slots id place added me at_place e can =
-    subst (λ (k : ℕ). Allows (λ (s : TableState (Unit {0}) View). IsKept s.words s.views) slots id me place (λ n. (n + k) % 2 ^ 64) (λ word after. CountTells step t me word after)) (sym e)
+    subst (λ (k : ℕ). Allows (λ (s : TableState (Unit {0}) View). IsKept s.words s.views) slots id me place (λ n. (n + k) % 2 ^ 64)
+    (λ word after. CountTells step t me word after)) (sym e)
     (count_allowed step t slots id place me at_place can)
 
 -- a title's count word is one of the table's words
-pub place_inside : (region table : TableId) (t : Title) (place : ℕ) → region ≡ table → IsWellFormed (byte_word_count region) t → place ≡ count_place t → place < table.words
+pub place_inside : (region table : TableId) (t : Title) (place : ℕ) → region ≡ table → IsWellFormed (byte_word_count region) t →
+    place ≡ count_place t → place < table.words
 place_inside region table t place same well e =
     let a = well.start_aligned in let b = well.len_aligned in let c = well.long in let d = well.inside in
     let f : region.words ≡ table.words = ap (λ (z : TableId). z.words) same in

@@ -39,7 +39,8 @@ record IsShareOf (v w : View) : Type 0 where
   logs : (weight : Entry → ℕ) → logged_of w weight ≤ logged_of v weight
   some_stakes : (test : ℕ → Bool) × (w.stakes ≡ filter (λ (s : Stake). test s.number) v.stakes)
   some_keepers : (test : ℕ → Bool) × (w.keepers ≡ filter (λ (q : Keeper). test q.number) v.keepers)
-  covered : (r q : ℕ) → logged_of_by v r (added_as q) ≤ logged_of_by v r (owes_as q) → logged_of_by w r (added_as q) ≤ logged_of_by w r (owes_as q)
+  covered : (r q : ℕ) → logged_of_by v r (added_as q) ≤ logged_of_by v r (owes_as q) →
+      logged_of_by w r (added_as q) ≤ logged_of_by w r (owes_as q)
   whole : HasEveryStake w → w.stakes ≡ v.stakes
   words : w.words ≡ v.words
   seen : w.seen ≡ v.seen
@@ -51,17 +52,21 @@ record IsShareOf (v w : View) : Type 0 where
 same_logs : (v w : View) → w.stakes ≡ v.stakes → w.words ≡ v.words → HasAllLogs v → HasAllLogs w
 same_logs v w e f a = record {
   history = a.history;
-  chain = λ t. subst (λ (ss : List Stake). IsChained (λ weight. sum_by (λ (s : Stake). sum_by weight s.log) ss) t (a.history t)) (sym e) (a.chain t);
+  chain = λ t. subst (λ (ss : List Stake). IsChained (λ weight. sum_by (λ (s : Stake). sum_by weight s.log) ss) t (a.history t)) (sym e)
+      (a.chain t);
   well = λ t mine. subst (λ (ws : List ℕ). IsWellFormed (length ws) t) (sym f) (a.well t (named t mine));
   one_name = λ t u mine other. a.one_name t u (named t mine) (named u other);
   reads = record {
     freed = subst (λ (ss : List Stake). sum_by (λ (s : Stake). pairs gave_no_poison s.log) ss ≡ 0) (sym e) a.reads.freed;
     own = λ t found value bit has.
-        a.reads.own t found value bit (subst (λ (ss : List Stake). 0 < sum_by (λ (s : Stake). pairs (quiet_read true t found value) s.log) ss) e has);
+        a.reads.own t found value bit
+        (subst (λ (ss : List Stake). 0 < sum_by (λ (s : Stake). pairs (quiet_read true t found value) s.log) ss) e has);
     ref = λ r t found value bit has.
         subst (λ (ss : List Stake). (value ≡ content_at_number (number_of found) (a.history t))
-        ⊎ ((value ≡ poison) × IsFreedElsewhere (λ k weight. sum_by (amount_by k (sum_by weight)) ss) (a.history t) t r (number_of found))) (sym e)
-        (a.reads.ref r t found value bit (subst (λ (ss : List Stake). 0 < sum_by (amount_by r (pairs (quiet_read false t found value))) ss) e has));
+        ⊎ ((value ≡ poison) × IsFreedElsewhere (λ k weight. sum_by (amount_by k (sum_by weight)) ss) (a.history t) t r (number_of found)))
+        (sym e)
+        (a.reads.ref r t found value bit
+        (subst (λ (ss : List Stake). 0 < sum_by (amount_by r (pairs (quiet_read false t found value))) ss) e has));
   };
 }
   where
@@ -69,7 +74,8 @@ same_logs v w e f a = record {
     named t mine = subst (λ (ss : List Stake). 0 < sum_by (λ (s : Stake). sum_by (names t) s.log) ss) e mine
 
 -- two views with the same stakes that have seen the same of the lists know the same order
-same_order : (v w : View) → w.stakes ≡ v.stakes → w.seen_lists ≡ v.seen_lists → ((t : Title) → poisoned_of v t ≤ poisoned_of w t) → HasOneOrder v → HasOneOrder w
+same_order : (v w : View) → w.stakes ≡ v.stakes → w.seen_lists ≡ v.seen_lists → ((t : Title) → poisoned_of v t ≤ poisoned_of w t) →
+    HasOneOrder v → HasOneOrder w
 same_order v w stakes lists poisoned o = record {
   all = o.all;
   ordered = order_of_view o.all v w stakes lists o.ordered;
@@ -97,9 +103,11 @@ share_aware v w h a = record {
   own_logs = let e = h.logs (unseen_by v.seen) in let z = a.own_logs in rw h.seen (omega arith);
   free_seen = λ t free. rw (h.words, h.seen) (a.free_seen t (let f = frees t in omega arith));
   notes = rw h.lists a.notes;
-  own_lists = rw (h.lists, h.some_keepers.1) (each_filter (λ (q : Keeper). q.entries ≡ list_of q.number v) (λ (q : Keeper). h.some_keepers.0 q.number) v.keepers a.own_lists);
+  own_lists = rw (h.lists, h.some_keepers.1)
+      (each_filter (λ (q : Keeper). q.entries ≡ list_of q.number v) (λ (q : Keeper). h.some_keepers.0 q.number) v.keepers a.own_lists);
   entered = λ k. rw (h.lists, h.some_stakes.1)
-      (each_filter (λ (s : Stake). made_with s.number (list_of k v) ≡ entered_in k s.log) (λ (s : Stake). h.some_stakes.0 s.number) v.stakes (a.entered k));
+      (each_filter (λ (s : Stake). made_with s.number (list_of k v) ≡ entered_in k s.log) (λ (s : Stake). h.some_stakes.0 s.number) v.stakes
+      (a.entered k));
   rises = λ k. rw h.lists (a.rises k);
   makers = λ k. rw h.lists (a.makers k);
   follows = λ k. rw (h.lists, h.seen) (a.follows k);
@@ -126,11 +134,14 @@ share_aware v w h a = record {
     back every k small = let e = h.stakes k in let o = every k small in omega arith
 
 -- all members of a list pass a test if none passes the other
-filter_all : (test other : Stake → Bool) (ss : List Stake) → ((s : Stake) → other s ≡ not (test s)) → filter other ss ≡ [] → filter test ss ≡ ss
+filter_all : (test other : Stake → Bool) (ss : List Stake) → ((s : Stake) → other s ≡ not (test s)) → filter other ss ≡ [] →
+    filter test ss ≡ ss
 filter_all test other [] flips none = refl
-filter_all test other (s ∷ ss) flips none = go (test s) (filter_all test other ss flips) (subst (λ (b : Bool). cond b (s ∷ filter other ss) (filter other ss) ≡ []) (flips s) none)
+filter_all test other (s ∷ ss) flips none =
+    go (test s) (filter_all test other ss flips) (subst (λ (b : Bool). cond b (s ∷ filter other ss) (filter other ss) ≡ []) (flips s) none)
   where
-    go : (b : Bool) → (filter other ss ≡ [] → filter test ss ≡ ss) → cond (not b) (s ∷ filter other ss) (filter other ss) ≡ [] → cond b (s ∷ filter test ss) (filter test ss) ≡ s ∷ ss
+    go : (b : Bool) → (filter other ss ≡ [] → filter test ss ≡ ss) → cond (not b) (s ∷ filter other ss) (filter other ss) ≡ [] →
+        cond b (s ∷ filter test ss) (filter test ss) ≡ s ∷ ss
     go true again e = ap (λ xs. s ∷ xs) (again e)
     go false again e = let l : length (s ∷ filter other ss) ≡ 0 = ap (λ (xs : List Stake). length xs) e in absurd (omega arith)
 
@@ -156,19 +167,24 @@ filter_by test amount r [] = go (test r)
     go true = refl
     go false = refl
 filter_by test amount r (s ∷ ss) = elim (eqb_tells s.number r) [
-  | inl y ↦ subst (λ (n : ℕ). sum_by (amount_by n amount) (filter (λ (x : Stake). test x.number) (s ∷ ss)) ≡ (if test n then sum_by (amount_by n amount) (s ∷ ss) else 0)) y.1
+  | inl y ↦ subst (λ (n : ℕ). sum_by (amount_by n amount)
+      (filter (λ (x : Stake). test x.number) (s ∷ ss)) ≡ (if test n then sum_by (amount_by n amount) (s ∷ ss) else 0)) y.1
       (here (test s.number)
-      (subst (λ (n : ℕ). sum_by (amount_by n amount) (filter (λ (x : Stake). test x.number) ss) ≡ (if test n then sum_by (amount_by n amount) ss else 0)) (sym y.1)
+      (subst (λ (n : ℕ). sum_by (amount_by n amount)
+      (filter (λ (x : Stake). test x.number) ss) ≡ (if test n then sum_by (amount_by n amount) ss else 0)) (sym y.1)
       (filter_by test amount r ss)))
   | inr n ↦
       let zero : amount_by r amount s ≡ 0 = rw n.0 refl in
-      let rest : sum_by (amount_by r amount) (s ∷ ss) ≡ sum_by (amount_by r amount) ss = let c = sum_by-cons (amount_by r amount) s ss in omega arith in
+      let rest : sum_by (amount_by r amount) (s ∷ ss) ≡ sum_by (amount_by r amount) ss = let c = sum_by-cons (amount_by r amount) s ss in
+      omega arith in
       left_out (test s.number) zero ∙ (filter_by test amount r ss ∙ ap (λ (n : ℕ). if test r then n else 0) (sym rest))
 ]
   where
     here : (b : Bool) →
-        sum_by (amount_by s.number amount) (filter (λ (x : Stake). test x.number) ss) ≡ (if b then sum_by (amount_by s.number amount) ss else 0) →
-        sum_by (amount_by s.number amount) (cond b (s ∷ filter (λ (x : Stake). test x.number) ss) (filter (λ (x : Stake). test x.number) ss))
+        sum_by (amount_by s.number amount)
+        (filter (λ (x : Stake). test x.number) ss) ≡ (if b then sum_by (amount_by s.number amount) ss else 0) →
+        sum_by (amount_by s.number amount)
+        (cond b (s ∷ filter (λ (x : Stake). test x.number) ss) (filter (λ (x : Stake). test x.number) ss))
         ≡ (if b then sum_by (amount_by s.number amount) (s ∷ ss) else 0)
     here true e =
         let f = sum_by-cons (amount_by s.number amount) s (filter (λ (x : Stake). test x.number) ss) in
@@ -189,7 +205,8 @@ part_covered : (test : ℕ → Bool) (ss : List Stake) (r q : ℕ) →
     ≤ sum_by (amount_by r (sum_by (owes_as q))) (filter (λ (s : Stake). test s.number) ss)
 part_covered test ss r q less = rw (filter_by test (sum_by (added_as q)) r ss, filter_by test (sum_by (owes_as q)) r ss) (go (test r))
   where
-    go : (b : Bool) → (if b then sum_by (amount_by r (sum_by (added_as q))) ss else 0) ≤ (if b then sum_by (amount_by r (sum_by (owes_as q))) ss else 0)
+    go : (b : Bool) → (if b then sum_by (amount_by r (sum_by (added_as q))) ss else 0) ≤ (if b then sum_by
+        (amount_by r (sum_by (owes_as q))) ss else 0)
     go true = less
     go false = omega arith
 
@@ -210,17 +227,20 @@ left_aware p v can a =
       some_stakes = ((λ k. not (p.stakes k)), refl);
       some_keepers = ((λ k. not (p.keepers k)), refl);
       covered = λ r q. part_covered (λ k. not (p.stakes k)) v.stakes r q;
-      whole = λ every. filter_all (λ (s : Stake). not (p.stakes s.number)) (λ (s : Stake). p.stakes s.number) v.stakes (λ s. not_twice (p.stakes s.number))
+      whole = λ every. filter_all (λ (s : Stake). not (p.stakes s.number)) (λ (s : Stake). p.stakes s.number) v.stakes
+          (λ s. not_twice (p.stakes s.number))
           (others_none v (left_after p v) (given_after p v) a (λ k. parts.stakes k) every);
       words = refl;
       seen = refl;
       lists = refl;
       undone = λ t. let e = parts.undone t in omega arith;
-      poisoned = λ every t. let e = parts.poisoned t in let z = given_clean p v in let l = poisoned_unclean (given_after p v) t in omega arith;
+      poisoned = λ every t. let e = parts.poisoned t in let z = given_clean p v in let l = poisoned_unclean (given_after p v) t in
+          omega arith;
     }) a
 
 -- a stake that is given is in the parcel
-given_stake : (p : Parcel) (k : ℕ) (ss : List Stake) → 0 < sum_by (λ (s : Stake). one (eqb s.number k)) (filter (λ (s : Stake). p.stakes s.number) ss) → p.stakes k ≡ true
+given_stake : (p : Parcel) (k : ℕ) (ss : List Stake) →
+    0 < sum_by (λ (s : Stake). one (eqb s.number k)) (filter (λ (s : Stake). p.stakes s.number) ss) → p.stakes k ≡ true
 given_stake p k [] has = absurd (omega arith)
 given_stake p k (s ∷ ss) has = elim (cases_Bool (p.stakes s.number)) [
   | inl y ↦ elim (eqb_tells s.number k) [

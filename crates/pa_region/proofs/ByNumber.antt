@@ -45,7 +45,8 @@ amount_one : (amount : List Entry → ℕ) (n : ℕ) (s : Stake) → s.number < 
 amount_one amount n s small =
     let e = up_one n s.number (λ r. amount_by r amount s) small
     (λ r ne. elim (eqb_tells s.number r) [ inl y ↦ absurd (ne y.1) | inr m ↦ rw m.0 refl ]) in
-    let here : amount_by s.number amount s ≡ amount s.log = elim (eqb_tells s.number s.number) [ inl y ↦ rw y.0 refl | inr m ↦ absurd (m.1 refl) ] in
+    let here : amount_by s.number amount s ≡ amount s.log =
+    elim (eqb_tells s.number s.number) [ inl y ↦ rw y.0 refl | inr m ↦ absurd (m.1 refl) ] in
     omega arith
 
 -- the amounts by number are those of all stakes together, if each number is below n
@@ -53,9 +54,11 @@ amounts : (amount : List Entry → ℕ) (n : ℕ) (ss : List Stake) → ((k : �
     up_to n (λ r. sum_by (amount_by r amount) ss) ≡ sum_by (λ (s : Stake). amount s.log) ss
 amounts amount n [] none = up_none n (λ r. 0) (λ r small. refl)
 amounts amount n (s ∷ ss) none =
-    let again = amounts amount n ss (λ k big. let z = none k big in let c = sum_by-cons (λ (x : Stake). one (eqb x.number k)) s ss in omega arith) in
+    let again = amounts amount n ss (λ k big. let z = none k big in let c = sum_by-cons (λ (x : Stake). one (eqb x.number k)) s ss in
+    omega arith) in
     let here = amount_one amount n s small in
-    let split = up_sum n (λ r. amount_by r amount s) (λ r. sum_by (amount_by r amount) ss) (λ r. sum_by (amount_by r amount) (s ∷ ss)) (λ r. sum_by-cons (amount_by r amount) s ss) in
+    let split = up_sum n (λ r. amount_by r amount s) (λ r. sum_by (amount_by r amount) ss) (λ r. sum_by (amount_by r amount) (s ∷ ss))
+    (λ r. sum_by-cons (amount_by r amount) s ss) in
     let c = sum_by-cons (λ (x : Stake). amount x.log) s ss in
     omega arith
   where
@@ -85,7 +88,8 @@ all_amounts weight n (v ∷ vs) none =
 pub all_most : (views : List View) (f g : Entry → ℕ) → ((k : ℕ) → stakes_in views k ≡ one (ltb k 16)) →
     ((r : ℕ) → logged_by views r f ≤ logged_by views r g) → logged_in views f ≤ logged_in views g
 all_most views f g each most =
-    let none : (k : ℕ) → 16 ≤ k → stakes_in views k ≡ 0 = λ k big. let e = each k in elim (one_lt k 16) [ inl y ↦ let z = y.1 in absurd (omega arith) | inr m ↦ let z = m.0 in omega arith ] in
+    let none : (k : ℕ) → 16 ≤ k → stakes_in views k ≡ 0 = λ k big. let e = each k in
+    elim (one_lt k 16) [ inl y ↦ let z = y.1 in absurd (omega arith) | inr m ↦ let z = m.0 in omega arith ] in
     let a = all_amounts f 16 views none in
     let b = all_amounts g 16 views none in
     let m = up_most 16 (λ r. logged_by views r f) (λ r. logged_by views r g) most in

@@ -52,7 +52,8 @@ and_second true b = omega arith
 and_second false b = omega arith
 
 -- if a view has every stake, and no unclean Own of the title, each Own of the title is clean
-owned_clean : (words : List ℕ) (views : List View) (i : ℕ) (v : View) (t : Title) → IsKept words views → get_elem? views i ≡ some v → HasEveryStake v → has_unclean v t ≡ false →
+owned_clean : (words : List ℕ) (views : List View) (i : ℕ) (v : View) (t : Title) → IsKept words views → get_elem? views i ≡ some v →
+    HasEveryStake v → has_unclean v t ≡ false →
     total_of (shown words views) (OwnAs t Clean) ≡ total_of (shown words views) (OwnOf t)
 owned_clean words views i v t k at_i every clean =
     let a = total_sum words views (OwnAs t Clean) in
@@ -72,18 +73,22 @@ owned_clean words views i v t k at_i every clean =
 
     none : (j : ℕ) (u : View) → get_elem? views j ≡ some u → unclean_by t u ≡ 0
     none j u at_j = elim (eqb_tells j i) [
-      | inl y ↦ subst (λ (x : View). unclean_by t x ≡ 0) (some-injective v u (sym at_i ∙ subst (λ (n : ℕ). get_elem? views n ≡ some u) y.1 at_j)) (none_of (unclean_by t v) clean)
+      | inl y ↦ subst (λ (x : View). unclean_by t x ≡ 0)
+          (some-injective v u (sym at_i ∙ subst (λ (n : ℕ). get_elem? views n ≡ some u) y.1 at_j)) (none_of (unclean_by t v) clean)
       | inr n ↦
-          let l = sum_by-le-sum_by (λ (o : OwnTitle). one (same_title o.title t && is_unclean o.state)) (λ (o : OwnTitle). one (is_unclean o.state)) u.owns
+          let l = sum_by-le-sum_by (λ (o : OwnTitle). one (same_title o.title t && is_unclean o.state))
+          (λ (o : OwnTitle). one (is_unclean o.state)) u.owns
           (λ o. and_second (same_title o.title t) (is_unclean o.state)) in
           elim (cases_lt 0 (unclean_of u)) [
-            | inl some_own ↦ absurd (no_least u (others_none views i v at_i every k.logs.each_stake j u at_j n.1) ((k.reads.each_view j u at_j).stake some_own))
+            | inl some_own ↦ absurd (no_least u (others_none views i v at_i every k.logs.each_stake j u at_j n.1)
+                ((k.reads.each_view j u at_j).stake some_own))
             | inr m ↦ omega arith
           ]
     ]
 
 -- what the words say of a held title
-ends_with : (words : List ℕ) (views : List View) (i : ℕ) (v : View) (t : Title) (k : IsKept words views) → get_elem? views i ≡ some v → HasEveryStake v →
+ends_with : (words : List ℕ) (views : List View) (i : ℕ) (v : View) (t : Title) (k : IsKept words views) → get_elem? views i ≡ some v →
+    HasEveryStake v →
     IsTitleHeld (total_of (shown words views)) t → EndsWith (byte_words words) v t (k.history t)
 ends_with words views i v t k at_i every held = record {
   last = k.logs.last t held;
@@ -95,7 +100,8 @@ ends_with words views i v t k at_i every held = record {
 }
 
 -- the end, if the rule holds for these words
-end_of : (words : List ℕ) (views : List View) (i : ℕ) (v : View) → IsKept words views → get_elem? views i ≡ some v → HasEveryStake v → IsEnd (byte_words words) v
+end_of : (words : List ℕ) (views : List View) (i : ℕ) (v : View) → IsKept words views → get_elem? views i ≡ some v → HasEveryStake v →
+    IsEnd (byte_words words) v
 unfolding knows_logs
 end_of words views i v k at_i every = record {
   aware = aware_of words views i v k at_i;
@@ -114,7 +120,8 @@ pub ends : (id : ℕ) (v : View) (words : List ℕ) (slots : List (Unit {0})) �
 ends id v words slots every f = subst (λ (ws : List ℕ). IsEnd (byte_words ws) v) f.2 (end_of f.0.words f.0.views id v f.1.0 f.1.1 every)
 
 -- a title that no log names has made no step
-pub unnamed_ends_new : (words : List ℕ) (v : View) (t : Title) → IsEnd words v → HasTitle v t → logged_of v (names t) ≡ 0 → count_word words t ≡ 0
+pub unnamed_ends_new : (words : List ℕ) (v : View) (t : Title) → IsEnd words v → HasTitle v t → logged_of v (names t) ≡ 0 →
+    count_word words t ≡ 0
 unnamed_ends_new words v t e has none =
     let less = logged_mono v (counted_on t) (names t) (counted_names t) in
     (e.held t has).last ∙ unstepped (logged_of v) t (e.logs.history t) (e.logs.chain t) (omega arith)

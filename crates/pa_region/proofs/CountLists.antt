@@ -32,7 +32,8 @@ use Rattle.pa_slot.proofs.Runs.{number_stepped}
 
 -- a counted step leaves keepers, leases, lists, stakes and what was seen to the entry
 pub moved_rest : (step : Step) (t : Title) (word : ℕ) (v : View) →
-    ((moved step t word v).keepers ≡ v.keepers) × ((moved step t word v).leases ≡ v.leases) × ((moved step t word v).seen_lists ≡ v.seen_lists)
+    ((moved step t word v).keepers ≡ v.keepers) × ((moved step t word v).leases ≡ v.leases) ×
+    ((moved step t word v).seen_lists ≡ v.seen_lists)
     × ((moved step t word v).stakes ≡ v.stakes) × ((moved step t word v).seen ≡ v.seen)
 moved_rest Issue t word v = (refl, refl, refl, refl, refl)
 moved_rest Copy t word v = (refl, refl, refl, refl, refl)
@@ -45,9 +46,9 @@ other_handles : (step : Step) (t : Title) (word : ℕ) (v : View) (u : Title) �
     0 < own_of (after_count step t word v) u + ref_of (after_count step t word v) u → 0 < own_of v u + ref_of v u
 other_handles step t word v u can ne has =
     let w = after_count step t word v in
-    let moves = (moved_changes step t word v (handle_piece step t v can)).1 in
-    let gained = gained_here step t (stepped step word) u ne in
-    let o = moves (OwnOf u) in let r = moves (RefOf u) in
+    let moves = moved_changes step t word v (handle_piece step t v can) in
+    let gained = gained_here step t moves.sealed (stepped step word) u ne in
+    let o = moves.changes (OwnOf u) in let r = moves.changes (RefOf u) in
     let go = gained.own in let gr = gained.ref in
     let held_own : held_of_view w (OwnOf u) ≡ held_of_view (moved step t word v) (OwnOf u) = refl in
     let held_ref : held_of_view w (RefOf u) ≡ held_of_view (moved step t word v) (RefOf u) = refl in
@@ -64,7 +65,8 @@ count_grown step t word v can =
       leases = m.1;
       lists = m.2;
       stakes = inr (Counted t step word (value_of step t v), ap (λ ss. noted (Counted t step word (value_of step t v)) ss) m.3, λ k. refl);
-      seen = λ u. subst (λ ss. seen_of v u ≤ seen_of (record v { seen = note t (number_of word + 1) ∷ ss }) u) (sym m.4) (note_grows t (number_of word + 1) v.seen u);
+      seen = λ u. subst (λ ss. seen_of v u ≤ seen_of (record v { seen = note t (number_of word + 1) ∷ ss }) u) (sym m.4)
+          (note_grows t (number_of word + 1) v.seen u);
       handles = λ u has. elim (title_tells t u) [
         | inl y ↦
             let s = note_here t (number_of word + 1) (moved step t word v).seen in
@@ -74,17 +76,21 @@ count_grown step t word v can =
     }
 
 -- of a title that a view holds free it knows the word
-pub free_word_known : (words : List ℕ) (views : List View) (i : ℕ) (v : View) (u : Title) → ShownGood words views → Values (byte_words words) views →
+pub free_word_known : (words : List ℕ) (views : List View) (i : ℕ) (v : View) (u : Title) → ShownGood words views →
+    Values (byte_words words) views →
     get_elem? views i ≡ some v → 0 < free_of v u → count_word v.words u ≡ count_word (byte_words words) u
 free_word_known words views i v u g vals at_i free =
     let f = frees_have v u in
     let held = held_in_all words views i v u at_i (omega arith) in
-    vals.known i (count_place u) v at_i (inr (inl (u, free, word_covered (length (byte_words words)) u (count_place u) (g.divided.well u held) (omega arith, omega arith))))
+    vals.known i (count_place u) v at_i
+    (inr (inl (u, free, word_covered (length (byte_words words)) u (count_place u) (g.divided.well u held) (omega arith, omega arith))))
 
 -- after a counted step its view has seen the number of each title that it holds free
-count_free : (step : Step) (t : Title) (a : OwnState) (words after : List ℕ) (views : List View) (i : ℕ) (v : View) (k : IsKept words views) → get_elem? views i ≡ some v →
+count_free : (step : Step) (t : Title) (a : OwnState) (words after : List ℕ) (views : List View) (i : ℕ) (v : View)
+    (k : IsKept words views) → get_elem? views i ≡ some v →
     CanCount step t v →
-    IsCountStep step t a (byte_words words) (total_of (shown words views)) (total_of (shown after (set views i (after_count step t (count_word (byte_words words) t) v)))) →
+    IsCountStep step t a (byte_words words) (total_of (shown words views))
+    (total_of (shown after (set views i (after_count step t (count_word (byte_words words) t) v)))) →
     ShownGood after (set views i (after_count step t (count_word (byte_words words) t) v)) →
     Values (byte_words after) (set views i (after_count step t (count_word (byte_words words) t) v)) →
     byte_words after ≡ words_by step t (byte_words words) → HasSeenFree (after_count step t (count_word (byte_words words) t) v)
@@ -98,13 +104,15 @@ count_free step t a words after views i v k at_i can x good vals at_place u free
           ∙ word_here step t a (byte_words words) (total_of (shown words views)) _ _ _ _ k.holders x in
           let n = number_stepped step word x.can in
           let s = note_here t (number_of word + 1) (moved step t word v).seen in
-          let e : number_of (count_word w.words u) ≡ number_of word + 1 = ap number_of (known ∙ (ap (λ z. count_word (byte_words after) z) (sym y.1) ∙ here)) ∙ n in
+          let e : number_of (count_word w.words u) ≡ number_of word + 1 =
+          ap number_of (known ∙ (ap (λ z. count_word (byte_words after) z) (sym y.1) ∙ here)) ∙ n in
           let s2 : number_of word + 1 ≤ seen_of w u = subst (λ (z : Title). number_of word + 1 ≤ seen_of w z) y.1 s in
           omega arith
       | inr n ↦
-          let m = (moved_changes step t word v (handle_piece step t v can.0)).1 (FreeTitle u) in
-          let lost = (lost_here step t (moved_changes step t word v (handle_piece step t v can.0)).0 u n.1).free in
-          let gained = (gained_here step t (stepped step word) u n.1).free in
+          let moves = moved_changes step t word v (handle_piece step t v can.0) in
+          let m = moves.changes (FreeTitle u) in
+          let lost = (lost_here step t moves.sealed moves.state u n.1).free in
+          let gained = (gained_here step t moves.sealed (stepped step word) u n.1).free in
           let now = frees_have w u in
           let held_now : held_of_view w (FreeTitle u) ≡ held_of_view (moved step t word v) (FreeTitle u) = refl in
           let was = frees_have v u in
@@ -120,14 +128,18 @@ count_free step t a words after views i v k at_i can x good vals at_place u free
     ]
 
 -- a counted step keeps the part
-pub count_lists : (step : Step) (t : Title) (a : OwnState) (words after : List ℕ) (views : List View) (i : ℕ) (v : View) (k : IsKept words views) → get_elem? views i ≡ some v →
+pub count_lists : (step : Step) (t : Title) (a : OwnState) (words after : List ℕ) (views : List View) (i : ℕ) (v : View)
+    (k : IsKept words views) → get_elem? views i ≡ some v →
     CanCount step t v →
-    IsCountStep step t a (byte_words words) (total_of (shown words views)) (total_of (shown after (set views i (after_count step t (count_word (byte_words words) t) v)))) →
+    IsCountStep step t a (byte_words words) (total_of (shown words views))
+    (total_of (shown after (set views i (after_count step t (count_word (byte_words words) t) v)))) →
     ShownGood after (set views i (after_count step t (count_word (byte_words words) t) v)) →
     Values (byte_words after) (set views i (after_count step t (count_word (byte_words words) t) v)) →
-    byte_words after ≡ words_by step t (byte_words words) → Lists k.list (set views i (after_count step t (count_word (byte_words words) t) v))
+    byte_words after ≡ words_by step t (byte_words words) →
+    Lists k.list (set views i (after_count step t (count_word (byte_words words) t) v))
 count_lists step t a words after views i v k at_i can x good vals at_place =
-    lists_grown k.list views i v (after_count step t (count_word (byte_words words) t) v) at_i k.lists (count_grown step t (count_word (byte_words words) t) v can.0)
+    lists_grown k.list views i v (after_count step t (count_word (byte_words words) t) v) at_i k.lists
+    (count_grown step t (count_word (byte_words words) t) v can.0)
     (count_free step t a words after views i v k at_i can x good vals at_place)
 
 -- an Own that may have become idle is of the same title
@@ -147,11 +159,13 @@ look_grown t word v = record {
   stakes = inr (Looked t word, refl, λ k. refl);
   seen = λ u. note_grows t (number_of word) v.seen u;
   handles = λ u has.
-      let o = changed_sum (is_own_of t) (idle_if word) (λ (x : OwnTitle). one (same_title x.title u)) v.owns (λ x. ap (λ z. one (same_title z u)) (idle_title word x)) in
+      let o = changed_sum (is_own_of t) (idle_if word) (λ (x : OwnTitle). one (same_title x.title u)) v.owns
+      (λ x. ap (λ z. one (same_title z u)) (idle_title word x)) in
       inl (omega arith);
 }
 
-pub look_lists : (t : Title) (word : ℕ) (words : List ℕ) (views : List View) (i : ℕ) (v : View) (k : IsKept words views) → get_elem? views i ≡ some v →
+pub look_lists : (t : Title) (word : ℕ) (words : List ℕ) (views : List View) (i : ℕ) (v : View) (k : IsKept words views) →
+    get_elem? views i ≡ some v →
     Lists k.list (set views i (after_look t word v))
 look_lists t word words views i v k at_i =
     lists_grown k.list views i v (after_look t word v) at_i k.lists (look_grown t word v)

@@ -1,5 +1,5 @@
 -- A counted step keeps the rule.
-use Rattle.std.proofs.Common.{◌≡◌, ℕ, ◌+◌, ◌<◌, ◌≤◌, ◌&&◌, List, ◌∷◌, set, length, refl, ◌∙◌, ap, subst, arith, ◌⊎◌, inl, inr, ltb}
+use Rattle.std.proofs.Common.{◌≡◌, ℕ, ◌+◌, ◌<◌, ◌≤◌, ◌&&◌, ◌||◌, Bool, List, ◌∷◌, set, length, refl, ◌∙◌, ap, subst, arith, ◌⊎◌, inl, inr, ltb}
 use Rattle.std.proofs.lemmas.List.{length-set}
 use Rattle.std.specs.List.{sum_by}
 use Rattle.std.proofs.lemmas.Bool.{cases_lt}
@@ -24,10 +24,10 @@ use Rattle.pa_machine.proofs.Happening.{happens_good}
 use Rattle.pa_region.specs.declared.view.OwnTitle.{OwnTitle}
 use Rattle.pa_region.specs.declared.view.Entry.{Entry}
 use Rattle.pa_region.specs.declared.view.View.{View}
-use Rattle.pa_region.specs.Views.{held_of_view, byte_words, shown, idle_of, idle_in, budget_in, low_in, uncut_in, stake_of, stakes_in, logged_of, logged_in, counted, counted_on, names, uncuts, seen_among, least_stake, HasStake}
+use Rattle.pa_region.specs.Views.{held_of_view, byte_words, shown, unsealed_as, idle_of, idle_in, budget_in, low_in, uncut_in, stake_of, stakes_in, logged_of, logged_in, counted, counted_on, names, uncuts, seen_among, least_stake, HasStake}
 use Rattle.pa_region.specs.History.{reached}
 use Rattle.pa_region.specs.Rule.{IsKept}
-use Rattle.pa_region.specs.Moves.{without, is_own_of, CanCount, moved, value_of, after_count}
+use Rattle.pa_region.specs.Moves.{without, is_own_of, HasHandle, CanCount, moved, value_of, after_count}
 use Rattle.pa_region.proofs.Adding.{sum_set, one_lt, first_of}
 use Rattle.pa_region.proofs.Pieces.{HasPiece, handle_piece, total_set, held_within, lost_by, gained_by, moved_changes, TakesOwn, owns_have, refs_have}
 use Rattle.pa_region.proofs.HolderPart.{IsCountStep, change_of, holders_count, held_after}
@@ -53,36 +53,42 @@ use Rattle.pa_region.proofs.CountReady.{count_ready, count_steady}
 use Rattle.pa_region.proofs.StepsPart.{logging}
 
 -- the step over all views
-count_step_of : (step : Step) (t : Title) (words : List ℕ) (views : List View) (i : ℕ) (v : View) → IsKept words views → get_elem? views i ≡ some v → CanCount step t v →
+count_step_of : (step : Step) (t : Title) (words : List ℕ) (views : List View) (i : ℕ) (v : View) → IsKept words views →
+    get_elem? views i ≡ some v → CanCount step t v →
     (a : OwnState) × IsCountStep step t a (byte_words words) (total_of (shown words views))
-    (total_of (shown (set words (count_place t) (stepped step (count_word (byte_words words) t))) (set views i (after_count step t (count_word (byte_words words) t) v))))
+    (total_of (shown (set words (count_place t) (stepped step (count_word (byte_words words) t)))
+    (set views i (after_count step t (count_word (byte_words words) t) v))))
     × TakesOwn step t a v
 count_step_of step t words views i v k at_i can =
     let word = count_word (byte_words words) t in
     let moves = moved_changes step t word v (handle_piece step t v can.0) in (
-      moves.0,
+      moves.state,
       record {
+        sealed = moves.sealed;
         held = held_in_all words views i v t at_i (handle_held step t v can.0);
         can = count_can step t words views i v k at_i can;
         changes = λ x.
             let s = total_set words (set words (count_place t) (stepped step word)) views i v (after_count step t word v) at_i x in
-            let m = moves.1 x in
+            let m = moves.changes x in
             let same : held_of_view (after_count step t word v) x ≡ held_of_view (moved step t word v) x = refl in
             omega arith;
       },
-      moves.2,
+      moves.takes,
     )
 
 -- if a count is known to be 0 after the step on its title, it is
-idle_here : (step : Step) (t : Title) (words after : List ℕ) (views : List View) (i : ℕ) (v w : View) → IsKept words views → get_elem? views i ≡ some v →
-    HasPiece step t v → CanStep step (count_word (byte_words words) t) → w.owns ≡ (moved step t (count_word (byte_words words) t) v).owns →
+idle_here : (step : Step) (t : Title) (words after : List ℕ) (views : List View) (i : ℕ) (v w : View) → IsKept words views →
+    get_elem? views i ≡ some v →
+    HasPiece step t v → HasHandle step t v → CanStep step (count_word (byte_words words) t) →
+    w.owns ≡ (moved step t (count_word (byte_words words) t) v).owns →
     total_of (shown after (set views i w)) (OwnOf t) ≤ total_of (shown words views) (OwnOf t) ⊎ (step ≡ Issue) →
     IsTitleHeld (total_of (shown words views)) t →
     0 < idle_in (set views i w) t → refs_of (stepped step (count_word (byte_words words) t)) ≡ 0
-idle_here Issue t words after views i v w k at_i has can owns few held some_idle = (stepped_is Issue (count_word (byte_words words) t) can).0
-idle_here Write t words after views i v w k at_i has can owns few held some_idle =
+idle_here Issue t words after views i v w k at_i has handle can owns few held some_idle =
+    (stepped_is Issue (count_word (byte_words words) t) can).0
+idle_here Write t words after views i v w k at_i has handle can owns few held some_idle =
     let s = stepped_is Write (count_word (byte_words words) t) can in s.0 ∙ s.3
-idle_here Reset t words after views i v w k at_i has can owns few held some_idle =
+idle_here Reset t words after views i v w k at_i has handle can owns few held some_idle =
     let word = count_word (byte_words words) t in
     let s = stepped_is Reset word can in
     let c = sum_set (λ u. idle_of u t) views i v w at_i in
@@ -90,29 +96,38 @@ idle_here Reset t words after views i v w k at_i has can owns few held some_idle
     let z = k.holders.known t (omega arith) in
     let p = s.0 in
     absurd (omega arith)
-idle_here Free t words after views i v w k at_i has can owns few held some_idle =
+idle_here Free t words after views i v w k at_i has handle can owns few held some_idle =
     let word = count_word (byte_words words) t in
     let s = stepped_is Free word can in
     let c = sum_set (λ u. idle_of u t) views i v w at_i in
     let e = owns_have v t in
     let first = first_of (is_own_of t) v.owns (omega arith) in
-    let less = first.1.left_out (λ (o : OwnTitle). one (same_title o.title t && o.idle)) in
-    let same : idle_of w t ≡ sum_by (λ (o : OwnTitle). one (same_title o.title t && o.idle)) (without (is_own_of t) v.owns) = rw owns refl in
+    let less = first.1.left_out (λ (o : OwnTitle). one (same_title o.title t && (o.idle || o.sealed))) in
+    let same : idle_of w t ≡ sum_by (λ (o : OwnTitle). one (same_title o.title t && (o.idle || o.sealed)))
+    (without (is_own_of t) v.owns) =
+    rw owns refl in
     let z = k.holders.known t (omega arith) in
     s.0 ∙ z
-idle_here Copy t words after views i v w k at_i has can owns few held some_idle =
+idle_here Copy t words after views i v w k at_i has handle can owns few held some_idle =
     let word = k.holders.good.counted t held in
     let p = word.owns in
     let q = word.refs in
     let small = held_small (count_word (byte_words words) t) in
     let within = held_within words views i v at_i (RefOf t) in
-    let z = copy_idle after views i t (count_word (byte_words words) t) v w at_i owns (elim few [ inl y ↦ omega arith | inr n ↦ absurd (cc) ])
-    (λ no_own. elim (cases_lt 0 (idle_in views t)) [
-      | inl y ↦
-          let known = k.holders.known t y in
-          let rn = refs_have v t in let on = owns_have v t in
-          absurd (omega arith)
-      | inr n ↦ omega arith
+    let own_within = held_within words views i v at_i (OwnOf t) in
+    let on = owns_have v t in
+    let z = copy_idle after views i t (count_word (byte_words words) t) v w at_i owns
+    (elim few [ inl y ↦ omega arith | inr n ↦ absurd (cc) ])
+    (omega arith)
+    (elim (cases_lt 0 (unsealed_as v t Clean)) [
+      | inl y ↦ inl y
+      | inr none ↦ inr (elim (cases_lt 0 (idle_in views t)) [
+        | inl y ↦
+            let known = k.holders.known t y in
+            let rn = refs_have v t in
+            absurd (omega arith)
+        | inr n ↦ omega arith
+      ])
     ]) in
     absurd (omega arith)
 
@@ -123,12 +138,15 @@ count_logged step t word v has weight =
     rw (moved_stakes step t word v) (noted_logs (entry_of step t word v) v.stakes weight has)
 
 -- a counted step leaves the stakes
-pub count_stakes : (step : Step) (t : Title) (word : ℕ) (v : View) → HasStake v → (k : ℕ) → stake_of (after_count step t word v) k ≡ stake_of v k
+pub count_stakes : (step : Step) (t : Title) (word : ℕ) (v : View) → HasStake v → (k : ℕ) →
+    stake_of (after_count step t word v) k ≡ stake_of v k
 count_stakes step t word v has k = rw (moved_stakes step t word v) (noted_stakes (entry_of step t word v) v.stakes k has)
 
 -- a counted step keeps the rule
-pub count_keeps : (step : Step) (t : Title) (words : List ℕ) (views : List View) (i : ℕ) (v : View) → IsKept words views → get_elem? views i ≡ some v → CanCount step t v →
-    IsKept (set words (count_place t) (stepped step (count_word (byte_words words) t))) (set views i (after_count step t (count_word (byte_words words) t) v))
+pub count_keeps : (step : Step) (t : Title) (words : List ℕ) (views : List View) (i : ℕ) (v : View) → IsKept words views →
+    get_elem? views i ≡ some v → CanCount step t v →
+    IsKept (set words (count_place t) (stepped step (count_word (byte_words words) t)))
+    (set views i (after_count step t (count_word (byte_words words) t) v))
 count_keeps step t words views i v k at_i can =
     let word = count_word (byte_words words) t in
     let w = after_count step t word v in
@@ -138,40 +156,46 @@ count_keeps step t words views i v k at_i can =
     let held = held_in_all words views i v t at_i (handle_held step t v can.0) in
     let more = logged_set views i v w (entry_of step t word v) at_i (count_logged step t word v can.1) in
     let at_place = bytes_set words (count_place t) (stepped step word) (place_below words views t k held) in
-    let back = held_after step t x.0 (byte_words words) (total_of (shown words views)) _ (idle_in views) (budget_in views) (logged_in views counted) k.holders x.1 in
+    let back = held_after step t x.0 (byte_words words) (total_of (shown words views)) _ (idle_in views) (budget_in views)
+    (logged_in views counted) k.holders x.1 in
     record {
       history = history_by step t (value_of step t v) k.history;
       list = k.list;
       all = ending (entry_of step t word v) v k.all;
       steps = logging (entry_of step t word v) v ∷ k.steps;
       holders = rw (at_place, more counted) (
-          holders_count step t x.0 (byte_words words) (total_of (shown words views)) _ (idle_in views) (idle_in (set views i w)) (budget_in views) (budget_in (set views i w)) (logged_in views counted)
+          holders_count step t x.0 (byte_words words) (total_of (shown words views)) _ (idle_in views) (idle_in (set views i w))
+          (budget_in views) (budget_in (set views i w)) (logged_in views counted)
           k.holders x.1
           (subst (λ (ws : List ℕ). IsGood ws (total_of (shown (set words (count_place t) (stepped step word)) (set views i w)))) at_place
-          (happens_good (CountEvent i t step) (shown words views) (shown (set words (count_place t) (stepped step word)) (set views i w)) k.holders.good event.0 event.1))
+          (happens_good (CountEvent i t step) (shown words views)
+          (shown (set words (count_place t) (stepped step word)) (set views i w)) k.holders.good event.0 event.1))
           (let b = sum_set (λ (u : View). u.budget) views i v w at_i in let c = can.2 in omega arith)
           (λ u ne.
           let b = sum_set (λ (z : View). idle_of z u) views i v w at_i in
           let same = moved_idle_other step t u word v ne piece in
           let now : idle_of w u ≡ idle_of (moved step t word v) u = refl in
           omega arith)
-          (idle_here step t words (set words (count_place t) (stepped step word)) views i v w k at_i piece x.1.can refl
-          (own_grows step x.0 (total_of (shown words views))
+          (idle_here step t words (set words (count_place t) (stepped step word)) views i v w k at_i piece can.0 x.1.can refl
+          (own_grows step x.1.sealed x.0 (total_of (shown words views))
           (total_of (shown (set words (count_place t) (stepped step word)) (set views i w))) (stepped step word)
           (x.1.changes (OwnOf t))) held)
           (λ u some_idle. let z = idle_within words views u in omega arith));
       values = rw at_place (count_values step t words views i v k at_i can);
-      reservations = reservations_count t (byte_words words) (total_of (shown words views)) _ (idle_in views) (budget_in views) (logged_in views counted)
+      reservations = reservations_count t (byte_words words) (total_of (shown words views)) _ (idle_in views) (budget_in views)
+          (logged_in views counted)
           (low_in views) (low_in (set views i w)) _ _ (uncut_in views) (uncut_in (set views i w))
           k.reservations k.holders held (λ u y. (back u).1 y) (low_set views i v w at_i (moved_raws step t word v)) (low_raw words views)
           (λ u. more (names u)) (λ u. let m = more (uncuts u) in omega arith);
       named = named_more t (length (byte_words words)) (length (byte_words (set words (count_place t) (stepped step word))))
           (total_of (shown words views)) (total_of (shown (set words (count_place t) (stepped step word)) (set views i w))) (low_in views)
           _ _ (uncut_in views) (uncut_in (set views i w))
-          k.named k.reservations k.holders.good.divided held (rw at_place (length-set (byte_words words) (count_place t) (stepped step word))) (λ u none y. (back u).0 y)
+          k.named k.reservations k.holders.good.divided held
+          (rw at_place (length-set (byte_words words) (count_place t) (stepped step word))) (λ u none y. (back u).0 y)
           (λ u. more (names u)) (λ u. let m = more (uncuts u) in omega arith);
       logs = rw at_place (
-          logs_count step t x.0 (value_of step t v) (byte_words words) (total_of (shown words views)) _ (idle_in views) (budget_in views) (logged_in views counted)
+          logs_count step t x.0 (value_of step t v) (byte_words words) (total_of (shown words views)) _ (idle_in views) (budget_in views)
+          (logged_in views counted)
           k.history (logged_in views) (logged_in (set views i w)) (stakes_in views) (stakes_in (set views i w)) k.logs k.holders x.1
           (logged_grows views) more (stakes_set views i v w at_i (count_stakes step t word v can.1)));
       content = count_content step t words views i v k at_i can;
@@ -188,20 +212,26 @@ count_keeps step t words views i v k at_i can =
           (fresh (number_of word + 1) (seen_among t (note t (number_of word + 1) ∷ v.seen)) (note_here t (number_of word + 1) v.seen))
           k.seen;
       lists = count_lists step t x.0 words (set words (count_place t) (stepped step word)) views i v k at_i can x.1
-          (happens_good (CountEvent i t step) (shown words views) (shown (set words (count_place t) (stepped step word)) (set views i w)) k.holders.good event.0 event.1)
+          (happens_good (CountEvent i t step) (shown words views)
+          (shown (set words (count_place t) (stepped step word)) (set views i w)) k.holders.good event.0 event.1)
           (rw at_place (count_values step t words views i v k at_i can)) at_place;
       undone = undone_set views i v w at_i (moved_uncut step t word v) (λ u. let m = more (uncuts u) in omega arith) k.undone;
       totals = totals_other words (set words (count_place t) (stepped step word)) views i v w (entry_of step t word v) at_i
           (rw (moved_stakes step t word v) refl) can.1 k.totals
           (bytes_stay words (count_place t) (stepped step word) (place_below words views t k held)) more (λ n. refl) (λ q. refl)
           (owes_few words t step word (value_of step t v) (k.holders.good.divided.well t held) k.totals.small);
-      ordered = order_plain k.all k.list views i v w (entry_of step t word v) at_i (rw (moved_stakes step t word v) refl) can.1 k.logs.each_stake (λ n. refl)
+      ordered = order_plain k.all k.list views i v w (entry_of step t word v) at_i
+          (rw (moved_stakes step t word v) refl) can.1 k.logs.each_stake (λ n. refl)
           (touched_now words views t k held) k.ordered;
       filled =
-          let change = change_of step t x.0 (byte_words words) (total_of (shown words views)) (total_of (shown (set words (count_place t) (stepped step word)) (set views i w))) x.1 in
-          filled_counted t word (value_of step t v) (stepped step word) x.0 (record { stake = least_stake v.stakes; entry = entry_of step t word v }) k.steps k.all k.history
+          let change = change_of step t x.0 (byte_words words) (total_of (shown words views))
+          (total_of (shown (set words (count_place t) (stepped step word)) (set views i w))) x.1 in
+          filled_counted t word (value_of step t v) (stepped step word) x.1.sealed x.0
+          (record { stake = least_stake v.stakes; entry = entry_of step t word v }) k.steps k.all k.history
           (total_of (shown words views)) (total_of (shown (set words (count_place t) (stepped step word)) (set views i w))) views k.filled
-          (tally_of (shown words views).holdings) (tally_of (shown (set words (count_place t) (stepped step word)) (set views i w)).holdings) step (least_stake v.stakes) (set views i w) refl
+          (tally_of (shown words views).holdings)
+          (tally_of (shown (set words (count_place t) (stepped step word)) (set views i w)).holdings) step (least_stake v.stakes)
+          (set views i w) refl
           (count_ready step t words views i v k at_i can x.0 x.2) x.1.changes change.lost_here change.gained_here
           (count_steady step t words views i v k at_i can);
     }
@@ -212,11 +242,12 @@ count_keeps step t words views i v k at_i can =
     none_given : (left : ℕ) → held_in (returned_at left t) (OwnOf t) ≡ 0
     none_given left = elim (returned_cases left t) [ inl y ↦ rw y.1 refl | inr n ↦ rw n.1 refl ]
 
-    own_grows : (step : Step) (a : OwnState) (before now : Thing → ℕ) (left : ℕ) →
-        now (OwnOf t) + held_in (lost_by step t a) (OwnOf t) ≡ before (OwnOf t) + held_in (gained_by step t left) (OwnOf t) →
+    own_grows : (step : Step) (sealed : Bool) (a : OwnState) (before now : Thing → ℕ) (left : ℕ) →
+        now (OwnOf t) + held_in (lost_by step t sealed a) (OwnOf t) ≡ before (OwnOf t) + held_in (gained_by step t sealed left) (OwnOf t) →
         (now (OwnOf t) ≤ before (OwnOf t)) ⊎ (step ≡ Issue)
-    own_grows Issue a before now left e = inr refl
-    own_grows Copy a before now left e = inl (omega arith)
-    own_grows Reset a before now left e = inl (let z = none_given left in omega arith)
-    own_grows Free a before now left e = inl (let z = none_given left in omega arith)
-    own_grows Write a before now left e = inl (let p = own_self t a in let q = own_self t Clean in omega arith)
+    own_grows Issue sealed a before now left e = inr refl
+    own_grows Copy sealed a before now left e = inl (omega arith)
+    own_grows Reset sealed a before now left e = inl (let z = none_given left in omega arith)
+    own_grows Free sealed a before now left e = inl (let z = none_given left in omega arith)
+    own_grows Write sealed a before now left e =
+        inl (let p = own_self sealed t a in let q = own_self sealed t Clean in omega arith)

@@ -48,8 +48,10 @@ moved_long Issue t word v = refl
 moved_long Copy t word v = refl
 moved_long Reset t word v = go (is_back (stepped Reset word))
   where
-    go : (b : Bool) → length (if b then set (filled_with poison t (content_count t) v.words) (count_place t) (stepped Reset word) else v.words) ≡ length v.words
-    go true = length-set (filled_with poison t (content_count t) v.words) (count_place t) (stepped Reset word) ∙ filled_long poison t (content_count t) v.words
+    go : (b : Bool) → length
+        (if b then set (filled_with poison t (content_count t) v.words) (count_place t) (stepped Reset word) else v.words) ≡ length v.words
+    go true = length-set (filled_with poison t (content_count t) v.words) (count_place t) (stepped Reset word) ∙
+        filled_long poison t (content_count t) v.words
     go false = refl
 moved_long Free t word v = go (is_back (stepped Free word))
   where
@@ -59,7 +61,8 @@ moved_long Free t word v = go (is_back (stepped Free word))
 moved_long Write t word v = refl
 
 -- a counted step leaves what is known beside the title's own words
-moved_beside : (step : Step) (t : Title) (word : ℕ) (v : View) (q : ℕ) → (IsWordOf t q → ⊥) → slice_index (moved step t word v).words q ≡ slice_index v.words q
+moved_beside : (step : Step) (t : Title) (word : ℕ) (v : View) (q : ℕ) → (IsWordOf t q → ⊥) →
+    slice_index (moved step t word v).words q ≡ slice_index v.words q
 moved_beside Issue t word v q out = refl
 moved_beside Copy t word v q out = refl
 moved_beside Reset t word v q out = go (is_back (stepped Reset word))
@@ -70,9 +73,12 @@ moved_beside Reset t word v q out = go (is_back (stepped Reset word))
       | inr n ↦ elim (cases_lt q (count_place t)) [ inl y ↦ absurd (out (n, omega arith)) | inr m ↦ inr m ]
     ]
 
-    go : (b : Bool) → get_or (if b then set (filled_with poison t (content_count t) v.words) (count_place t) (stepped Reset word) else v.words) q 0 ≡ get_or v.words q 0
+    go : (b : Bool) → get_or
+        (if b then set (filled_with poison t (content_count t) v.words) (count_place t) (stepped Reset word) else v.words) q 0 ≡ get_or
+        v.words q 0
     go true =
-        get_or-set_other (filled_with poison t (content_count t) v.words) (count_place t) q (stepped Reset word) 0 (λ e. out (omega arith, omega arith))
+        get_or-set_other (filled_with poison t (content_count t) v.words) (count_place t) q (stepped Reset word) 0
+        (λ e. out (omega arith, omega arith))
         ∙ filled_beside poison t (content_count t) v.words q place
     go false = refl
 moved_beside Free t word v q out = go (is_back (stepped Free word))
@@ -83,7 +89,8 @@ moved_beside Free t word v q out = go (is_back (stepped Free word))
 moved_beside Write t word v q out = refl
 
 -- a word of a title is its count word, or one of its content
-pub word_cases : (n : ℕ) (t : Title) (q : ℕ) → IsWellFormed n t → IsWordOf t q → (q ≡ count_place t) ⊎ ((i : ℕ) × (i < content_count t) × (q ≡ content_place t i))
+pub word_cases : (n : ℕ) (t : Title) (q : ℕ) → IsWellFormed n t → IsWordOf t q → (q ≡ count_place t) ⊎
+    ((i : ℕ) × (i < content_count t) × (q ≡ content_place t i))
 word_cases n t q well within =
     let low = within.0 in let high = within.1 in
     elim (cases_eq q (count_place t)) [
@@ -96,17 +103,18 @@ not_returned left t other = elim (returned_cases left t) [ inl y ↦ absurd (oth
 
 -- what the view holds of the title after the step, by what the step moves
 moved_holds : (step : Step) (t : Title) (word : ℕ) (v : View) (can : CanCount step t v) (x : Thing) →
-    held_of_view (after_count step t word v) x + held_in (lost_by step t (moved_changes step t word v (handle_piece step t v can.0)).0) x
-    ≡ held_of_view v x + held_in (gained_by step t (stepped step word)) x
-moved_holds step t word v can x = (moved_changes step t word v (handle_piece step t v can.0)).1 x
+    let m = moved_changes step t word v (handle_piece step t v can.0) in
+    held_of_view (after_count step t word v) x + held_in (lost_by step t m.sealed m.state) x
+    ≡ held_of_view v x + held_in (gained_by step t m.sealed (stepped step word)) x
+moved_holds step t word v can x = (moved_changes step t word v (handle_piece step t v can.0)).changes x
 
 -- of another title it holds what it held
 other_holds : (step : Step) (t u : Title) (word : ℕ) (v : View) (can : CanCount step t v) → (t ≡ u → ⊥) →
     (free_of (after_count step t word v) u ≡ free_of v u) × (own_of (after_count step t word v) u ≡ own_of v u)
 other_holds step t u word v can ne =
-    let a = (moved_changes step t word v (handle_piece step t v can.0)).0 in
-    let l = lost_here step t a u ne in
-    let g = gained_here step t (stepped step word) u ne in
+    let moves = moved_changes step t word v (handle_piece step t v can.0) in
+    let l = lost_here step t moves.sealed moves.state u ne in
+    let g = gained_here step t moves.sealed (stepped step word) u ne in
     let f = moved_holds step t word v can (FreeTitle u) in
     let o = moved_holds step t word v can (OwnOf u) in
     let f1 = frees_have v u in let f2 = frees_have (after_count step t word v) u in
@@ -117,10 +125,13 @@ other_holds step t u word v can ne =
 -- What holding the step's own title afterwards says. A view that holds it free got it back by the step. One that has its Own
 -- had it before, or held the title free before an issue.
 record IsHeldBy (step : Step) (t : Title) (word : ℕ) (v : View) : Type 0 where
-  free : 0 < free_of (after_count step t word v) t → (is_back (stepped step word) ≡ true) × ((step ≡ Reset) ⊎ ((step ≡ Free) × (0 < own_of v t)))
-  own : 0 < own_of (after_count step t word v) t → ((step ≡ Issue) × (0 < free_of v t)) ⊎ ((0 < own_of v t) × ((moved step t word v).words ≡ v.words))
+  free : 0 < free_of (after_count step t word v) t → (is_back (stepped step word) ≡ true) ×
+      ((step ≡ Reset) ⊎ ((step ≡ Free) × (0 < own_of v t)))
+  own : 0 < own_of (after_count step t word v) t → ((step ≡ Issue) × (0 < free_of v t)) ⊎
+      ((0 < own_of v t) × ((moved step t word v).words ≡ v.words))
 
-held_by_count : (step : Step) (t : Title) (words : List ℕ) (views : List View) (i : ℕ) (v : View) → IsKept words views → get_elem? views i ≡ some v →
+held_by_count : (step : Step) (t : Title) (words : List ℕ) (views : List View) (i : ℕ) (v : View) → IsKept words views →
+    get_elem? views i ≡ some v →
     CanCount step t v → IsHeldBy step t (count_word (byte_words words) t) v
 held_by_count Issue t words views i v k at_i can =
     let word = count_word (byte_words words) t in
@@ -177,7 +188,8 @@ held_by_count Free t words views i v k at_i can =
     let f1 = frees_have v t in let f2 = frees_have (after_count Free t word v) t in
     let o1 = owns_have v t in let o2 = owns_have (after_count Free t word v) t in
     let no_own = returned_owns (stepped Free word) t in
-    let z = own_self t (moved_changes Free t word v (handle_piece Free t v can.0)).0 in
+    let moves = moved_changes Free t word v (handle_piece Free t v can.0) in
+    let z = own_self moves.sealed t moves.state in
     record {
       free = λ h. elim (back_cases (stepped Free word)) [
         | inl y ↦ (y.1, inr (refl, handle_piece Free t v can.0))
@@ -195,18 +207,19 @@ held_by_count Write t words views i v k at_i can =
     let o = moved_holds Write t word v can (OwnOf t) in
     let f1 = frees_have v t in let f2 = frees_have (after_count Write t word v) t in
     let o1 = owns_have v t in let o2 = owns_have (after_count Write t word v) t in
-    let z = own_self t (moved_changes Write t word v (handle_piece Write t v can.0)).0 in
-    let z1 = own_self t Clean in
+    let moves = moved_changes Write t word v (handle_piece Write t v can.0) in
+    let z = own_self moves.sealed t moves.state in
+    let z1 = own_self moves.sealed t Clean in
     record { free = λ h. absurd (omega arith); own = λ h. inr (omega arith, refl) }
 
 -- a known word beside the title's was known before
 known_before : (step : Step) (t : Title) (word : ℕ) (v : View) (can : CanCount step t v) (n q : ℕ) → IsWellFormed n t → (IsWordOf t q → ⊥) →
     Knows (after_count step t word v) q → Knows v q
 known_before step t word v can n q well out (inl raw) =
-    let a = (moved_changes step t word v (handle_piece step t v can.0)).0 in
+    let moves = moved_changes step t word v (handle_piece step t v can.0) in
     let m = moved_holds step t word v can (RawByte (8 * q)) in
-    let l = lost_raw step t a (8 * q) in
-    let g = gained_raw step t (stepped step word) (8 * q) in
+    let l = lost_raw step t moves.sealed moves.state (8 * q) in
+    let g = gained_raw step t moves.sealed (stepped step word) (8 * q) in
     inl (omega arith)
 known_before step t word v can n q well out (inr (inl free)) = elim (title_tells t free.0) [
   | inl y ↦
@@ -235,12 +248,16 @@ abbrev after_words : Step → Title → List ℕ → List ℕ
 after_words step t words = set (byte_words words) (count_place t) (stepped step (count_word (byte_words words) t))
 
 -- what a view knows of the title that it got back
-free_here : (step : Step) (t : Title) (words : List ℕ) (views : List View) (i : ℕ) (v : View) → IsKept words views → get_elem? views i ≡ some v →
+free_here : (step : Step) (t : Title) (words : List ℕ) (views : List View) (i : ℕ) (v : View) → IsKept words views →
+    get_elem? views i ≡ some v →
     CanCount step t v → (q : ℕ) → IsWordOf t q → 0 < free_of (after_count step t (count_word (byte_words words) t) v) t →
     slice_index (moved step t (count_word (byte_words words) t) v).words q ≡ slice_index (after_words step t words) q
-free_here Issue t words views i v k at_i can q within has = elim ((held_by_count Issue t words views i v k at_i can).free has).1 [ inl e ↦ absurd (cc) | inr e ↦ let z = e.0 in absurd (cc) ]
-free_here Copy t words views i v k at_i can q within has = elim ((held_by_count Copy t words views i v k at_i can).free has).1 [ inl e ↦ absurd (cc) | inr e ↦ let z = e.0 in absurd (cc) ]
-free_here Write t words views i v k at_i can q within has = elim ((held_by_count Write t words views i v k at_i can).free has).1 [ inl e ↦ absurd (cc) | inr e ↦ let z = e.0 in absurd (cc) ]
+free_here Issue t words views i v k at_i can q within has =
+    elim ((held_by_count Issue t words views i v k at_i can).free has).1 [ inl e ↦ absurd (cc) | inr e ↦ let z = e.0 in absurd (cc) ]
+free_here Copy t words views i v k at_i can q within has =
+    elim ((held_by_count Copy t words views i v k at_i can).free has).1 [ inl e ↦ absurd (cc) | inr e ↦ let z = e.0 in absurd (cc) ]
+free_here Write t words views i v k at_i can q within has =
+    elim ((held_by_count Write t words views i v k at_i can).free has).1 [ inl e ↦ absurd (cc) | inr e ↦ let z = e.0 in absurd (cc) ]
 free_here Reset t words views i v k at_i can q within has =
     let word = count_word (byte_words words) t in
     let held = held_in_all words views i v t at_i (handle_held Reset t v can.0) in
@@ -249,7 +266,8 @@ free_here Reset t words views i v k at_i can q within has =
     let legal = count_can Reset t words views i v k at_i can in
     let st = stepped_is Reset word legal in
     let st0 = st.0 in let st1 = st.1 in
-    let is_free : IsFree (stepped Reset word) = elim (back_cases (stepped Reset word)) [ inl y ↦ y.0 | inr n ↦ absurd (true≢false (sym back ∙ n.1)) ] in
+    let is_free : IsFree (stepped Reset word) =
+    elim (back_cases (stepped Reset word)) [ inl y ↦ y.0 | inr n ↦ absurd (true≢false (sym back ∙ n.1)) ] in
     let a = is_free.0 in let b = is_free.1 in
     let poisoned = (k.holders.good.poison_kept t held).quarantine (omega arith, omega arith) in
     let long = k.values.long i v at_i in
@@ -261,9 +279,11 @@ free_here Reset t words views i v k at_i can q within has =
           ∙ sym (get_or-set_same (byte_words words) (count_place t) (stepped Reset word) 0 (omega arith)))
       | inr c ↦
           let below = c.1 in
-          rw c.2 (get_or-set_other (filled_with poison t (content_count t) v.words) (count_place t) (content_place t c.0) (stepped Reset word) 0 (λ e. omega arith)
+          rw c.2 (get_or-set_other (filled_with poison t (content_count t) v.words) (count_place t) (content_place t c.0)
+          (stepped Reset word) 0 (λ e. omega arith)
           ∙ (filled_here poison t (content_count t) v.words c.0 c.1 (omega arith)
-          ∙ (sym (poisoned c.0 c.1) ∙ sym (get_or-set_other (byte_words words) (count_place t) (content_place t c.0) (stepped Reset word) 0 (λ e. omega arith)))))
+          ∙ (sym (poisoned c.0 c.1) ∙
+          sym (get_or-set_other (byte_words words) (count_place t) (content_place t c.0) (stepped Reset word) 0 (λ e. omega arith)))))
     ])
 free_here Free t words views i v k at_i can q within has =
     let word = count_word (byte_words words) t in
@@ -284,7 +304,8 @@ free_here Free t words views i v k at_i can q within has =
     ])
 
 -- what a view knows of its Own
-own_here : (step : Step) (t : Title) (words : List ℕ) (views : List View) (i : ℕ) (v : View) → IsKept words views → get_elem? views i ≡ some v →
+own_here : (step : Step) (t : Title) (words : List ℕ) (views : List View) (i : ℕ) (v : View) → IsKept words views →
+    get_elem? views i ≡ some v →
     CanCount step t v → (q : ℕ) → IsContentOf t (8 * q) → 0 < own_of (after_count step t (count_word (byte_words words) t) v) t →
     slice_index (moved step t (count_word (byte_words words) t) v).words q ≡ slice_index (after_words step t words) q
 own_here step t words views i v k at_i can q inside has =
@@ -308,22 +329,28 @@ own_here step t words views i v k at_i can q inside has =
     issue_words Write e = refl
 
 -- what the views know after a counted step
-pub count_values : (step : Step) (t : Title) (words : List ℕ) (views : List View) (i : ℕ) (v : View) → IsKept words views → get_elem? views i ≡ some v →
+pub count_values : (step : Step) (t : Title) (words : List ℕ) (views : List View) (i : ℕ) (v : View) → IsKept words views →
+    get_elem? views i ≡ some v →
     CanCount step t v →
     Values (after_words step t words) (set views i (after_count step t (count_word (byte_words words) t) v))
 count_values step t words views i v k at_i can =
-    values_step (byte_words words) (after_words step t words) views i v (after_count step t (count_word (byte_words words) t) v) at_i k.values
-    (length-set (byte_words words) (count_place t) (stepped step (count_word (byte_words words) t))) (moved_long step t (count_word (byte_words words) t) v)
+    values_step (byte_words words) (after_words step t words) views i v
+    (after_count step t (count_word (byte_words words) t) v) at_i k.values
+    (length-set (byte_words words) (count_place t) (stepped step (count_word (byte_words words) t)))
+    (moved_long step t (count_word (byte_words words) t) v)
     (λ j q u at_j ne knows. elim (cases_eq q (count_place t)) [
-      | inl y ↦ absurd (place_unknown words views i j v u t k.holders.good at_i at_j ne (handle_held step t v can.0) (subst (λ (p : ℕ). Knows u p) y knows))
+      | inl y ↦ absurd (place_unknown words views i j v u t k.holders.good at_i at_j ne (handle_held step t v can.0)
+          (subst (λ (p : ℕ). Knows u p) y knows))
       | inr n ↦ get_or-set_other (byte_words words) (count_place t) q (stepped step (count_word (byte_words words) t)) 0 n
     ])
     (λ q knows. elim (word_or t q) [
       | inl within ↦ here q within knows
       | inr out ↦
           moved_beside step t (count_word (byte_words words) t) v q out
-          ∙ (k.values.known i q v at_i (known_before step t (count_word (byte_words words) t) v can (length (byte_words words)) q well out knows)
-          ∙ sym (get_or-set_other (byte_words words) (count_place t) q (stepped step (count_word (byte_words words) t)) 0 (λ e. out (omega arith, omega arith))))
+          ∙ (k.values.known i q v at_i
+          (known_before step t (count_word (byte_words words) t) v can (length (byte_words words)) q well out knows)
+          ∙ sym (get_or-set_other (byte_words words) (count_place t) q (stepped step (count_word (byte_words words) t)) 0
+          (λ e. out (omega arith, omega arith))))
     ])
   where
     held : IsTitleHeld (total_of (shown words views)) t
@@ -336,21 +363,24 @@ count_values step t words views i v k at_i can =
         slice_index (moved step t (count_word (byte_words words) t) v).words q ≡ slice_index (after_words step t words) q
     here q within (inl raw) =
         let word = count_word (byte_words words) t in
-        let a = (moved_changes step t word v (handle_piece step t v can.0)).0 in
+        let moves = moved_changes step t word v (handle_piece step t v can.0) in
         let m = moved_holds step t word v can (RawByte (8 * q)) in
-        let l = lost_raw step t a (8 * q) in
-        let g = gained_raw step t (stepped step word) (8 * q) in
+        let l = lost_raw step t moves.sealed moves.state (8 * q) in
+        let g = gained_raw step t moves.sealed (stepped step word) (8 * q) in
         let all = held_within words views i v at_i (RawByte (8 * q)) in
-        let none = raw_outside (byte_words words) (total_of (shown words views)) (8 * q) t k.holders.good held (word_covered (length (byte_words words)) t q well within) in
+        let none = raw_outside (byte_words words) (total_of (shown words views)) (8 * q) t k.holders.good held
+        (word_covered (length (byte_words words)) t q well within) in
         absurd (omega arith)
     here q within (inr (inl free)) = elim (title_tells t free.0) [
-      | inl y ↦ free_here step t words views i v k at_i can q within (subst (λ (z : Title). 0 < free_of (after_count step t (count_word (byte_words words) t) v) z) (sym y.1) free.1)
+      | inl y ↦ free_here step t words views i v k at_i can q within
+          (subst (λ (z : Title). 0 < free_of (after_count step t (count_word (byte_words words) t) v) z) (sym y.1) free.1)
       | inr m ↦
           let e = (other_holds step t free.0 (count_word (byte_words words) t) v can m.1).0 in
           let has = free.1 in
           let f = frees_have v free.0 in
           let all = held_within words views i v at_i (FreeTitle free.0) in
-          absurd (m.1 (k.holders.good.divided.apart t free.0 (8 * q) held (omega arith) (word_covered (length (byte_words words)) t q well within) free.2))
+          absurd (m.1 (k.holders.good.divided.apart t free.0 (8 * q) held (omega arith)
+          (word_covered (length (byte_words words)) t q well within) free.2))
     ]
     here q within (inr (inr own)) = elim (title_tells t own.0) [
       | inl y ↦ own_here step t words views i v k at_i can q (subst (λ (z : Title). IsContentOf z (8 * q)) (sym y.1) own.2)
@@ -361,5 +391,6 @@ count_values step t words views i v k at_i can =
           let f = owns_have v own.0 in
           let all = held_within words views i v at_i (OwnOf own.0) in
           let high = own.2.1 in
-          absurd (m.1 (k.holders.good.divided.apart t own.0 (8 * q) held (omega arith) (word_covered (length (byte_words words)) t q well within) (own.2.0, omega arith)))
+          absurd (m.1 (k.holders.good.divided.apart t own.0 (8 * q) held (omega arith)
+          (word_covered (length (byte_words words)) t q well within) (own.2.0, omega arith)))
     ]

@@ -26,7 +26,8 @@ low_here r b n low high floor = elim (range_cases r b) [
 low_far : (r : RawRange) (b n : ℕ) → ((r.start ≤ b) × (b < r.start + r.len) → ⊥) → one (has_byte r b && leb r.floor n) ≡ 0
 low_far r b n far = elim (range_cases r b) [ inl y ↦ absurd (far (y.0, y.1)) | inr m ↦ rw m.1 refl ]
 
-pub first_can_cut : (words budget : ℕ) (t : Title) → t.start % 8 ≡ 0 → t.len % 8 ≡ 0 → 16 ≤ t.len → t.start + t.len ≤ 8 * words → CanCut t (first_view words budget)
+pub first_can_cut : (words budget : ℕ) (t : Title) → t.start % 8 ≡ 0 → t.len % 8 ≡ 0 → 16 ≤ t.len → t.start + t.len ≤ 8 * words →
+    CanCut t (first_view words budget)
 first_can_cut words budget t start len long inside = record {
   start_aligned = start;
   len_aligned = len;
@@ -44,7 +45,8 @@ cut_leaves_others t v b n far =
     elim (covers_or t b) [ inl y ↦ absurd (far y) | inr m ↦ let z = inside_low t.start (t.start + t.len) b n v.raws m in omega arith ]
 
 pub uncut_gives_back : (t : Title) (v : View) →
-    ((b n : ℕ) → Covers t b → t.born < n → 0 < low_of (after_uncut t v) b n) × ((b n : ℕ) → (Covers t b → ⊥) → low_of (after_uncut t v) b n ≡ low_of v b n)
+    ((b n : ℕ) → Covers t b → t.born < n → 0 < low_of (after_uncut t v) b n) ×
+    ((b n : ℕ) → (Covers t b → ⊥) → low_of (after_uncut t v) b n ≡ low_of v b n)
 uncut_gives_back t v = (
   λ b n covers later.
       let h = low_here (raw_again t) b n covers.0 covers.1 (omega arith) in
@@ -71,12 +73,14 @@ cut_next t u v can far = record {
   floors = λ b covers.
       let f = can.floors b covers in
       let low = covers.0 in let high = covers.1 in
-      let e = cut_leaves_others t v b u.born (λ other. let a = other.0 in let c = other.1 in elim far [ inl y ↦ omega arith | inr m ↦ omega arith ]) in
+      let e = cut_leaves_others t v b u.born (λ other. let a = other.0 in let c = other.1 in
+      elim far [ inl y ↦ omega arith | inr m ↦ omega arith ]) in
       omega arith;
 }
 
 -- the bytes of a title that was uncut can be cut again, for a title that is born later
-pub cut_again : (t u : Title) (v : View) → u.start ≡ t.start → u.len ≡ t.len → t.born < u.born → u.start % 8 ≡ 0 → u.len % 8 ≡ 0 → 16 ≤ u.len → CanCut u (after_uncut t v)
+pub cut_again : (t u : Title) (v : View) → u.start ≡ t.start → u.len ≡ t.len → t.born < u.born → u.start % 8 ≡ 0 → u.len % 8 ≡ 0 →
+    16 ≤ u.len → CanCut u (after_uncut t v)
 cut_again t u v start len later start_aligned len_aligned long = record {
   start_aligned = start_aligned;
   len_aligned = len_aligned;

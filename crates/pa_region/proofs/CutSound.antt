@@ -45,7 +45,8 @@ cut_store t v can =
 pub cut_still : (t : Title) (v : View) → CanCut t v → CanCut t (after_store (count_offset t) 0 v)
 cut_still t v can = record { start_aligned = can.start_aligned; len_aligned = can.len_aligned; long = can.long; floors = can.floors }
 
-pub cut_zero : (region : TableId) (t : Title) (v : View) → IsSeatSound region v → CanCut t v → count_word (after_store (count_offset t) 0 v).words t ≡ 0
+pub cut_zero : (region : TableId) (t : Title) (v : View) → IsSeatSound region v → CanCut t v →
+    count_word (after_store (count_offset t) 0 v).words t ≡ 0
 cut_zero region t v sound can =
     let well = cut_well region t v sound can in
     let a = well.start_aligned in let b = well.len_aligned in let c = well.long in let d = well.inside in let e = sound.long in
@@ -53,38 +54,45 @@ cut_zero region t v sound can =
     rw place (get_or-set_same v.words (count_place t) 0 0 (omega arith))
 
 -- the two together are a cut
-pub cut_is : (t : Title) (v : View) → CanCut t v → StoreTells (count_offset t) v (after_store (count_offset t) 0 v) → titled t (after_store (count_offset t) 0 v) ≡ after_cut t v
+pub cut_is : (t : Title) (v : View) → CanCut t v → StoreTells (count_offset t) v (after_store (count_offset t) 0 v) →
+    titled t (after_store (count_offset t) 0 v) ≡ after_cut t v
 cut_is t v can told =
     let a = can.start_aligned in let b = can.len_aligned in let c = can.long in
     let place : count_offset t / 8 ≡ count_place t = omega arith in
-    let raw : HasRawWord v (count_offset t) = λ byte low high. let f = can.floors byte (omega arith, omega arith) in let r = low_held v byte t.born in omega arith in
+    let raw : HasRawWord v (count_offset t) = λ byte low high. let f = can.floors byte (omega arith, omega arith) in
+    let r = low_held v byte t.born in omega arith in
     ap (λ os. record (titled t (after_store (count_offset t) 0 v)) { owns = os }) (told.plain (inl raw))
     ∙ ap (λ (p : ℕ). record (after_cut t v) { words = set v.words p 0 }) place
 
 -- whatever the table is, a seat that can cut the title may cut it
 pub cut_allowed : (t : Title) (slots id place : ℕ) (me : Me (Unit {0}) View) → CanCut t me.0 → count_word me.0.words t ≡ 0 →
-    Allows (λ (s : TableState (Unit {0}) View). IsKept s.words s.views) slots id me place (λ n. n) (λ word after. Leaves (titled t me.0) me after × (seen_of me.0 t ≡ 0))
+    Allows (λ (s : TableState (Unit {0}) View). IsKept s.words s.views) slots id me place (λ n. n)
+    (λ word after. Leaves (titled t me.0) me after × (seen_of me.0 t ≡ 0))
 cut_allowed t slots id place me can zero s k homes at_id small = (
   titled t me.0,
   keeps,
   tt,
-  subst (λ (ws : List ℕ). IsKept ws (set s.views id (titled t me.0))) (sym (set-get_or s.words place 0)) (cut_keeps t s.words s.views id me.0 k at_id can zero),
+  subst (λ (ws : List ℕ). IsKept ws (set s.views id (titled t me.0))) (sym (set-get_or s.words place 0))
+      (cut_keeps t s.words s.views id me.0 k at_id can zero),
   ((refl, refl), (cut_unseen t s.words s.views id me.0 k at_id can).1),
 )
 
 -- a seat that can uncut a title may do so
 pub uncut_allowed : (t : Title) (slots id place : ℕ) (me : Me (Unit {0}) View) → CanUncut t me.0 →
-    Allows (λ (s : TableState (Unit {0}) View). IsKept s.words s.views) slots id me place (λ n. n) (λ word after. Leaves (after_uncut t me.0) me after)
+    Allows (λ (s : TableState (Unit {0}) View). IsKept s.words s.views) slots id me place (λ n. n)
+    (λ word after. Leaves (after_uncut t me.0) me after)
 uncut_allowed t slots id place me can s k homes at_id small = (
   after_uncut t me.0,
   keeps,
   tt,
-  subst (λ (ws : List ℕ). IsKept ws (set s.views id (after_uncut t me.0))) (sym (set-get_or s.words place 0)) (uncut_keeps t s.words s.views id me.0 k at_id can),
+  subst (λ (ws : List ℕ). IsKept ws (set s.views id (after_uncut t me.0))) (sym (set-get_or s.words place 0))
+      (uncut_keeps t s.words s.views id me.0 k at_id can),
   (refl, refl),
 )
 
 -- the word that is loaded is one of the region's
-pub title_inside : (region table : TableId) (t : Title) (place at_byte : ℕ) → region ≡ table → IsWellFormed (byte_word_count region) t → at_byte ≡ count_offset t → place ≡ at_byte / 8 →
+pub title_inside : (region table : TableId) (t : Title) (place at_byte : ℕ) → region ≡ table → IsWellFormed (byte_word_count region) t →
+    at_byte ≡ count_offset t → place ≡ at_byte / 8 →
     place < table.words
 title_inside region table t place at_byte same well at_is e =
     let words_are : region.words ≡ table.words = ap (λ (z : TableId). z.words) same in

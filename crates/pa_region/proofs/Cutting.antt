@@ -45,10 +45,12 @@ inside_none a e b (r ∷ rs) far =
     ]
 
 -- nor one with a low floor
-pub inside_low : (a e b n : ℕ) (rs : List RawRange) → (b < a) ⊎ (e ≤ b) → sum_by (λ r. one (has_byte r b && leb r.floor n)) (inside a e rs) ≡ 0
+pub inside_low : (a e b n : ℕ) (rs : List RawRange) → (b < a) ⊎ (e ≤ b) →
+    sum_by (λ r. one (has_byte r b && leb r.floor n)) (inside a e rs) ≡ 0
 inside_low a e b n rs far =
     let z = inside_none a e b rs far in
-    let l = sum_by-le-sum_by (λ r. one (has_byte r b && leb r.floor n)) (λ r. one (has_byte r b)) (inside a e rs) (λ r. one_and (has_byte r b) (leb r.floor n)) in
+    let l = sum_by-le-sum_by (λ r. one (has_byte r b && leb r.floor n)) (λ r. one (has_byte r b)) (inside a e rs)
+    (λ r. one_and (has_byte r b) (leb r.floor n)) in
     omega arith
 
 -- a cut raises no floor's count
@@ -61,7 +63,8 @@ titled_low t v b n =
 pub low_more : (views : List View) (b m n : ℕ) → m ≤ n → low_in views b m ≤ low_in views b n
 low_more views b m n less =
     sum_by-le-sum_by (λ v. low_of v b m) (λ v. low_of v b n) views
-    (λ v. sum_by-le-sum_by (λ r. one (has_byte r b && leb r.floor m)) (λ r. one (has_byte r b && leb r.floor n)) v.raws (λ r. each (has_byte r b) r.floor))
+    (λ v. sum_by-le-sum_by (λ r. one (has_byte r b && leb r.floor m)) (λ r. one (has_byte r b && leb r.floor n)) v.raws
+    (λ r. each (has_byte r b) r.floor))
   where
     each : (x : Bool) (floor : ℕ) → one (x && leb floor m) ≤ one (x && leb floor n)
     each false floor = omega arith

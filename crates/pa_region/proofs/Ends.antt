@@ -20,21 +20,26 @@ use Rattle.pa_region.specs.Views.{HasEveryStake}
 use Rattle.pa_region.specs.History.{IsChained}
 
 -- the logs of all views are those of the one that has every stake
-pub all_logs : (views : List View) (i : ℕ) (v : View) (history : Title → List Done) (words : List ℕ) (total : Thing → ℕ) → get_elem? views i ≡ some v →
-    Logs history words total (logged_in views) (stakes_in views) → HasEveryStake v → (weight : Entry → ℕ) → logged_in views weight ≡ logged_of v weight
+pub all_logs : (views : List View) (i : ℕ) (v : View) (history : Title → List Done) (words : List ℕ) (total : Thing → ℕ) →
+    get_elem? views i ≡ some v →
+    Logs history words total (logged_in views) (stakes_in views) → HasEveryStake v → (weight : Entry → ℕ) →
+    logged_in views weight ≡ logged_of v weight
 all_logs views i v history words total at_i l every weight =
     all_of (λ (s : Stake). sum_by weight s.log) views i v at_i every l.each_stake (λ u none. any_none (sum_by weight) u.stakes none)
 
 -- a view that has every stake knows all logs
-unfoldable pub knows_logs : (words : List ℕ) (views : List View) (i : ℕ) (v : View) → IsKept words views → get_elem? views i ≡ some v → HasEveryStake v → HasAllLogs v
+unfoldable pub knows_logs : (words : List ℕ) (views : List View) (i : ℕ) (v : View) → IsKept words views → get_elem? views i ≡ some v →
+    HasEveryStake v → HasAllLogs v
 knows_logs words views i v k at_i every =
-    let own_logs : (weight : Entry → ℕ) → logged_in views weight ≡ logged_of v weight = all_logs views i v k.history (byte_words words) (total_of (shown words views)) at_i k.logs every in
+    let own_logs : (weight : Entry → ℕ) → logged_in views weight ≡ logged_of v weight =
+    all_logs views i v k.history (byte_words words) (total_of (shown words views)) at_i k.logs every in
     let same : logged_in views ≡ logged_of v = λ n weight. own_logs weight n in
     record {
       history = k.history;
       chain = λ t. subst (λ (logs : (Entry → ℕ) → ℕ). IsChained logs t (k.history t)) same (k.logs.chain t);
       well = λ t known. let e = own_logs (names t) in rw (k.values.long i v at_i) (k.named.well t (omega arith));
-      one_name = λ t u known other start born. let e = own_logs (names t) in let f = own_logs (names u) in k.named.one_name t u (omega arith) (omega arith) start born;
+      one_name = λ t u known other start born. let e = own_logs (names t) in let f = own_logs (names u) in
+          k.named.one_name t u (omega arith) (omega arith) start born;
       reads = whole_reads k.history (byte_words words) views i v k.reads at_i every k.logs.each_stake;
     }
 

@@ -27,7 +27,8 @@ use Rattle.pa_region.proofs.JoinLists.{longer_is}
 
 module _ {A : Type 0} where
   -- if no member passes the test
-  pub each_none : (P Q : A → Type 0) (test : A → Bool) (xs : List A) → sum_by (λ x. one (test x)) xs ≡ 0 → ((x : A) → test x ≡ false → P x → Q x) → Each P xs → Each Q xs
+  pub each_none : (P Q : A → Type 0) (test : A → Bool) (xs : List A) → sum_by (λ x. one (test x)) xs ≡ 0 →
+      ((x : A) → test x ≡ false → P x → Q x) → Each P xs → Each Q xs
   each_none P Q test [] none h e = tt
   each_none P Q test (x ∷ xs) none h e =
       let c = sum_by-cons (λ y. one (test y)) x xs in
@@ -76,7 +77,8 @@ list_grows list k m q = elim (eqb_tells q k) [
 ]
 
 -- a beginning stays one
-begins_more : (list : ℕ → List Made) (k : ℕ) (m : Made) (q : ℕ) (begun : List Made) → IsBeginning begun (list q) → IsBeginning begun (list_with list k m q)
+begins_more : (list : ℕ → List Made) (k : ℕ) (m : Made) (q : ℕ) (begun : List Made) → IsBeginning begun (list q) →
+    IsBeginning begun (list_with list k m q)
 begins_more list k m q begun b = go (eqb q k)
   where
     go : (c : Bool) → IsBeginning begun (if c then list q ++ m ∷ [] else list q)
@@ -91,7 +93,8 @@ made_other r m ms e = made_append r ms (m ∷ []) ∙ rw e (append_nil (made_wit
 made_here : (k r : ℕ) (m : Made) (ms : List Made) (log : List Entry) → eqb m.stake r ≡ true → made_with r ms ≡ entered_in k log →
     made_with r (ms ++ m ∷ []) ≡ entered_in k (log ++ Entered k m ∷ [])
 made_here k r m ms log e same =
-    made_append r ms (m ∷ []) ∙ (rw e (ap (λ xs. xs ++ m ∷ []) same) ∙ sym (entered_more k log (Entered k m) ∙ ap (λ xs. entered_in k log ++ xs) entry))
+    made_append r ms (m ∷ []) ∙
+    (rw e (ap (λ xs. xs ++ m ∷ []) same) ∙ sym (entered_more k log (Entered k m) ∙ ap (λ xs. entered_in k log ++ xs) entry))
   where
     entry : entry_in k (Entered k m) ≡ m ∷ []
     entry = elim (eqb_tells k k) [ inl y ↦ rw y.0 refl | inr n ↦ absurd (n.1 refl) ]
@@ -101,7 +104,8 @@ entered_other : (k q : ℕ) (m : Made) (log : List Entry) → eqb q k ≡ false 
 entered_other k q m log e = entered_nothing q log (Entered k m) (rw (eqb_flip q k false e) refl)
 
 -- What the stakes of the entering view made, in any list that grows as keeper k's does.
-entering_made : (k q : ℕ) (m : Made) (ms : List Made) (ss : List Stake) → m.stake ≡ least_stake ss → sum_by (λ (s : Stake). one (eqb s.number (least_stake ss))) ss ≤ 1 →
+entering_made : (k q : ℕ) (m : Made) (ms : List Made) (ss : List Stake) → m.stake ≡ least_stake ss →
+    sum_by (λ (s : Stake). one (eqb s.number (least_stake ss))) ss ≤ 1 →
     Each (λ (s : Stake). made_with s.number ms ≡ entered_in q s.log) ss →
     Each (λ (s : Stake). made_with s.number (if eqb q k then ms ++ m ∷ [] else ms) ≡ entered_in q s.log) (noted (Entered k m) ss)
 entering_made k q m ms ss by few each = go (eqb q k) refl
@@ -112,18 +116,24 @@ entering_made k q m ms ss by few each = go (eqb q k) refl
         clash : false ≡ true → ⊥
         clash h = cc
 
-    go : (c : Bool) → eqb q k ≡ c → Each (λ (s : Stake). made_with s.number (if c then ms ++ m ∷ [] else ms) ≡ entered_in q s.log) (noted (Entered k m) ss)
-    go true e = each_one (λ (s : Stake). made_with s.number ms ≡ entered_in q s.log) (λ (s : Stake). made_with s.number (ms ++ m ∷ []) ≡ entered_in q s.log)
+    go : (c : Bool) → eqb q k ≡ c →
+        Each (λ (s : Stake). made_with s.number (if c then ms ++ m ∷ [] else ms) ≡ entered_in q s.log) (noted (Entered k m) ss)
+    go true e = each_one (λ (s : Stake). made_with s.number ms ≡ entered_in q s.log)
+        (λ (s : Stake). made_with s.number (ms ++ m ∷ []) ≡ entered_in q s.log)
         (λ (s : Stake). eqb s.number (least_stake ss)) (with_entry_last (Entered k m)) ss few
-        (λ s here same. subst (λ (n : ℕ). made_with s.number (ms ++ m ∷ []) ≡ entered_in n (s.log ++ Entered k m ∷ [])) (sym (same_number e))
-        (made_here k s.number m ms s.log (eqb_flip s.number m.stake true (ap (eqb s.number) by ∙ here)) (same ∙ ap (λ n. entered_in n s.log) (same_number e))))
+        (λ s here same. subst (λ (n : ℕ). made_with s.number (ms ++ m ∷ []) ≡ entered_in n (s.log ++ Entered k m ∷ []))
+        (sym (same_number e))
+        (made_here k s.number m ms s.log (eqb_flip s.number m.stake true (ap (eqb s.number) by ∙ here))
+        (same ∙ ap (λ n. entered_in n s.log) (same_number e))))
         (λ s other same. made_other s.number m ms (eqb_flip s.number m.stake false (ap (eqb s.number) by ∙ other)) ∙ same) each
-    go false e = each_one (λ (s : Stake). made_with s.number ms ≡ entered_in q s.log) (λ (s : Stake). made_with s.number ms ≡ entered_in q s.log)
+    go false e = each_one (λ (s : Stake). made_with s.number ms ≡ entered_in q s.log)
+        (λ (s : Stake). made_with s.number ms ≡ entered_in q s.log)
         (λ (s : Stake). eqb s.number (least_stake ss)) (with_entry_last (Entered k m)) ss few
         (λ s here same. same ∙ sym (entered_other k q m s.log e)) (λ s other same. same) each
 
 -- another view, which has neither the keeper nor the stake
-beside_listed : (list : ℕ → List Made) (k : ℕ) (m : Made) (u : View) → IsListed list u → keeper_of u k ≡ 0 → stake_of u m.stake ≡ 0 → IsListed (list_with list k m) u
+beside_listed : (list : ℕ → List Made) (k : ℕ) (m : Made) (u : View) → IsListed list u → keeper_of u k ≡ 0 → stake_of u m.stake ≡ 0 →
+    IsListed (list_with list k m) u
 beside_listed list k m u l no_keeper no_stake = record {
   beginnings = each_map (λ n. IsBeginning n.entries (list n.keeper)) (λ n. IsBeginning n.entries (list_with list k m n.keeper)) u.seen_lists
       (λ n b. begins_more list k m n.keeper n.entries b) l.beginnings;
@@ -131,22 +141,28 @@ beside_listed list k m u l no_keeper no_stake = record {
     | inl y ↦ let z : keeper_of u q ≡ 0 = ap (keeper_of u) y.1 ∙ no_keeper in absurd (omega arith)
     | inr n ↦ rw n.0 (l.whole q has)
   ];
-  kept = each_none (λ (q : Keeper). q.entries ≡ list q.number) (λ (q : Keeper). q.entries ≡ list_with list k m q.number) (is_keeper k) u.keepers no_keeper (λ q other same. rw other same) l.kept;
+  kept = each_none (λ (q : Keeper). q.entries ≡ list q.number) (λ (q : Keeper). q.entries ≡ list_with list k m q.number)
+      (is_keeper k) u.keepers no_keeper (λ q other same. rw other same) l.kept;
   made = λ q. go q (eqb q k);
   noticed = l.noticed;
   follows = l.follows;
   handles = l.handles;
 }
   where
-    go : (q : ℕ) (c : Bool) → Each (λ (s : Stake). made_with s.number (if c then list q ++ m ∷ [] else list q) ≡ entered_in q s.log) u.stakes
-    go q true = each_none (λ (s : Stake). made_with s.number (list q) ≡ entered_in q s.log) (λ (s : Stake). made_with s.number (list q ++ m ∷ []) ≡ entered_in q s.log)
-        (λ (s : Stake). eqb s.number m.stake) u.stakes no_stake (λ s other same. made_other s.number m (list q) (eqb_flip s.number m.stake false other) ∙ same) (l.made q)
+    go : (q : ℕ) (c : Bool) →
+        Each (λ (s : Stake). made_with s.number (if c then list q ++ m ∷ [] else list q) ≡ entered_in q s.log) u.stakes
+    go q true = each_none (λ (s : Stake). made_with s.number (list q) ≡ entered_in q s.log)
+        (λ (s : Stake). made_with s.number (list q ++ m ∷ []) ≡ entered_in q s.log)
+        (λ (s : Stake). eqb s.number m.stake) u.stakes no_stake
+        (λ s other same. made_other s.number m (list q) (eqb_flip s.number m.stake false other) ∙ same) (l.made q)
     go q false = l.made q
 
 -- what the entering view has seen of each list afterwards
-pub seen_after : (k : ℕ) (numbers : List ℕ) (v : View) (q : ℕ) → list_of q (after_enter k numbers v) ≡ (if eqb q k then list_of q v ++ new_entry numbers v ∷ [] else list_of q v)
+pub seen_after : (k : ℕ) (numbers : List ℕ) (v : View) (q : ℕ) →
+    list_of q (after_enter k numbers v) ≡ (if eqb q k then list_of q v ++ new_entry numbers v ∷ [] else list_of q v)
 seen_after k numbers v q = elim (eqb_tells q k) [
-  | inl y ↦ subst (λ (n : ℕ). list_of n (after_enter k numbers v) ≡ (if eqb n k then list_of n v ++ new_entry numbers v ∷ [] else list_of n v)) (sym y.1) here
+  | inl y ↦ subst (λ (n : ℕ). list_of n (after_enter k numbers v) ≡ (if eqb n k then list_of n v ++
+      new_entry numbers v ∷ [] else list_of n v)) (sym y.1) here
   | inr n ↦ rw (eqb_flip q k false n.0, n.0) refl
 ]
   where
@@ -160,23 +176,28 @@ seen_after k numbers v q = elim (eqb_tells q k) [
     ]
 
 -- the entering view
-here_listed : (list : ℕ → List Made) (k : ℕ) (numbers : List ℕ) (v : View) → IsListed list v → 0 < keeper_of v k → keeper_of v k ≤ 1 → stake_of v (least_stake v.stakes) ≤ 1 →
+here_listed : (list : ℕ → List Made) (k : ℕ) (numbers : List ℕ) (v : View) → IsListed list v → 0 < keeper_of v k → keeper_of v k ≤ 1 →
+    stake_of v (least_stake v.stakes) ≤ 1 →
     IsListed (list_with list k (new_entry numbers v)) (after_enter k numbers v)
 here_listed list k numbers v l has one_keeper one_stake =
     let m = new_entry numbers v in
     let w = after_enter k numbers v in
     record {
       beginnings = (
-        (subst (λ (xs : List Made). IsBeginning (list_of k v ++ m ∷ []) xs) (sym at_k) ([], ap (λ xs. xs ++ m ∷ []) (sym (l.whole k has)) ∙ sym (append_nil (list_of k v ++ m ∷ [])))),
-        each_map (λ n. IsBeginning n.entries (list n.keeper)) (λ n. IsBeginning n.entries (list_with list k m n.keeper)) v.seen_lists (λ n b. begins_more list k m n.keeper n.entries b) l.beginnings,
+        (subst (λ (xs : List Made). IsBeginning (list_of k v ++ m ∷ []) xs) (sym at_k)
+            ([], ap (λ xs. xs ++ m ∷ []) (sym (l.whole k has)) ∙ sym (append_nil (list_of k v ++ m ∷ [])))),
+        each_map (λ n. IsBeginning n.entries (list n.keeper)) (λ n. IsBeginning n.entries (list_with list k m n.keeper)) v.seen_lists
+            (λ n b. begins_more list k m n.keeper n.entries b) l.beginnings,
       );
       whole = λ q there. seen_after k numbers v q ∙ ap (λ xs. if eqb q k then xs ++ m ∷ [] else xs)
           (l.whole q (let e = changed_sum (is_keeper k) (with_made m) (λ (p : Keeper). one (eqb p.number q)) v.keepers (λ p. refl) in
           omega arith));
-      kept = each_one (λ (q : Keeper). q.entries ≡ list q.number) (λ (q : Keeper). q.entries ≡ list_with list k m q.number) (is_keeper k) (with_made m) v.keepers one_keeper
+      kept = each_one (λ (q : Keeper). q.entries ≡ list q.number) (λ (q : Keeper). q.entries ≡ list_with list k m q.number) (is_keeper k)
+          (with_made m) v.keepers one_keeper
           (λ q here same. rw here (ap (λ xs. xs ++ m ∷ []) same)) (λ q other same. rw other same) l.kept;
       made = λ q. entering_made k q m (list q) v.stakes refl one_stake (l.made q);
-      noticed = λ q. subst (λ (xs : List Made). Each (λ (s : Stake). made_with s.number xs ≡ entered_in q s.log) w.stakes) (sym (seen_after k numbers v q))
+      noticed = λ q. subst (λ (xs : List Made). Each (λ (s : Stake). made_with s.number xs ≡ entered_in q s.log) w.stakes)
+          (sym (seen_after k numbers v q))
           (entering_made k q m (list_of q v) v.stakes refl one_stake (l.noticed q));
       follows = λ q. subst (λ (xs : List Made). Each (IsKnownTo v.seen) xs) (sym (seen_after k numbers v q)) (known q (eqb q k));
       handles = l.handles;
@@ -190,13 +211,16 @@ here_listed list k numbers v l has one_keeper one_stake =
     known q false = l.follows q
 
 -- an entry keeps the part, for the lists with it
-pub enter_lists : (list : ℕ → List Made) (k : ℕ) (numbers : List ℕ) (views : List View) (i : ℕ) (v : View) → get_elem? views i ≡ some v → CanEnter k v →
-    ((n : ℕ) → stakes_in views n ≤ 1) → Lists list views → Lists (list_with list k (new_entry numbers v)) (set views i (after_enter k numbers v))
+pub enter_lists : (list : ℕ → List Made) (k : ℕ) (numbers : List ℕ) (views : List View) (i : ℕ) (v : View) → get_elem? views i ≡ some v →
+    CanEnter k v →
+    ((n : ℕ) → stakes_in views n ≤ 1) → Lists list views →
+    Lists (list_with list k (new_entry numbers v)) (set views i (after_enter k numbers v))
 enter_lists list k numbers views i v at_i can once l =
     let m = new_entry numbers v in
     let w = after_enter k numbers v in
     let has = can.0 in
-    let keepers : keepers_in views k ≤ 1 = let e = l.each_keeper k in elim (one_lt k 6) [ inl y ↦ let z = y.0 in omega arith | inr n ↦ let z = n.0 in omega arith ] in
+    let keepers : keepers_in views k ≤ 1 = let e = l.each_keeper k in
+    elim (one_lt k 6) [ inl y ↦ let z = y.0 in omega arith | inr n ↦ let z = n.0 in omega arith ] in
     record {
       each_keeper = λ q.
           let c = sum_set (λ u. keeper_of u q) views i v w at_i in
@@ -221,7 +245,8 @@ enter_lists list k numbers views i v at_i can once l =
     rising : (q : ℕ) (c : Bool) → eqb q k ≡ c → Rises (if c then list q ++ new_entry numbers v ∷ [] else list q)
     rising q true e = elim (eqb_tells q k) [
       | inl y ↦ rises_more (list q) (new_entry numbers v) (l.rises q)
-          (subst (λ (xs : List Made). Each (IsKnownTo v.seen) xs) ((l.each_view i v at_i).whole q (subst (λ (n : ℕ). 0 < keeper_of v n) (sym y.1) can.0)) ((l.each_view i v at_i).follows q))
+          (subst (λ (xs : List Made). Each (IsKnownTo v.seen) xs)
+          ((l.each_view i v at_i).whole q (subst (λ (n : ℕ). 0 < keeper_of v n) (sym y.1) can.0)) ((l.each_view i v at_i).follows q))
       | inr n ↦ absurd (clash (sym n.0 ∙ e))
     ]
       where

@@ -39,14 +39,16 @@ use Rattle.pa_region.proofs.EnterLists.{list_with, list_grows, enter_lists}
 enter_shown : (k : ℕ) (numbers : List ℕ) (words : List ℕ) (views : List View) (i : ℕ) (v : View) → get_elem? views i ≡ some v →
     shown words (set views i (after_enter k numbers v)) ≡ shown words views
 enter_shown k numbers words views i v at_i =
-    ap (λ (hs : List (List Piece)). record { words = byte_words words; holdings = hs }) (map_same pieces_of views i v (after_enter k numbers v) at_i refl)
+    ap (λ (hs : List (List Piece)). record { words = byte_words words; holdings = hs })
+    (map_same pieces_of views i v (after_enter k numbers v) at_i refl)
 
 -- the stakes are the same
 pub enter_stakes : (k : ℕ) (numbers : List ℕ) (v : View) → HasStake v → SameStakes v (after_enter k numbers v)
 enter_stakes k numbers v has n = noted_stakes (Entered k (new_entry numbers v)) v.stakes n has
 
 -- an entry keeps the rule
-pub enter_keeps : (k : ℕ) (numbers : List ℕ) (words : List ℕ) (views : List View) (i : ℕ) (v : View) → IsKept words views → get_elem? views i ≡ some v → CanEnter k v →
+pub enter_keeps : (k : ℕ) (numbers : List ℕ) (words : List ℕ) (views : List View) (i : ℕ) (v : View) → IsKept words views →
+    get_elem? views i ≡ some v → CanEnter k v →
     IsKept words (set views i (after_enter k numbers v))
 enter_keeps k numbers words views i v r at_i can =
     let stake = can.1 in
@@ -54,7 +56,8 @@ enter_keeps k numbers words views i v r at_i can =
     let e = Entered k (new_entry numbers v) in
     let logged : (weight : Entry → ℕ) → logged_of w weight ≡ logged_of v weight + weight e = λ weight. noted_logs e v.stakes weight stake in
     let more = logged_set views i v w e at_i logged in
-    let same : (x : Thing) → total_of (shown words (set views i w)) x ≡ total_of (shown words views) x = λ x. let c = total_set words words views i v w at_i x in omega arith in
+    let same : (x : Thing) → total_of (shown words (set views i w)) x ≡ total_of (shown words views) x = λ x. let c =
+    total_set words words views i v w at_i x in omega arith in
     let back : (u : Title) → IsTitleHeld (total_of (shown words (set views i w))) u → IsTitleHeld (total_of (shown words views)) u =
     λ u y. let p = same (FreeTitle u) in let q = same (OwnOf u) in let s = same (RefOf u) in omega arith in
     record {
@@ -62,15 +65,19 @@ enter_keeps k numbers words views i v r at_i can =
       list = list_with r.list k (new_entry numbers v);
       all = ending e v r.all;
       steps = logging e v ∷ r.steps;
-      holders = holders_same (byte_words words) (total_of (shown words views)) _ (idle_in views) (idle_in (set views i w)) (budget_in views) (budget_in (set views i w))
+      holders = holders_same (byte_words words) (total_of (shown words views)) _ (idle_in views) (idle_in (set views i w)) (budget_in views)
+          (budget_in (set views i w))
           (logged_in views counted) (logged_in (set views i w) counted) r.holders same
           (λ u some_idle. let c = sum_set (λ (z : View). idle_of z u) views i v w at_i in r.holders.known u (omega arith))
           (let b = sum_set (λ (u : View). u.budget) views i v w at_i in omega arith)
           (let m = more counted in omega arith);
       values = values_same (byte_words words) views i v w at_i r.values refl (λ q knows. knows);
-      reservations = reservations_same (total_of (shown words views)) (total_of (shown words (set views i w))) (low_in views) (low_in (set views i w)) _ _ (uncut_in views) (uncut_in (set views i w))
-          r.reservations back (low_set views i v w at_i refl) (λ u. let m = more (names u) in omega arith) (λ u. let m = more (uncuts u) in omega arith);
-      named = named_same (length (byte_words words)) (length (byte_words words)) (total_of (shown words views)) (total_of (shown words (set views i w))) _ _ (uncut_in views) (uncut_in (set views i w))
+      reservations = reservations_same (total_of (shown words views)) (total_of (shown words (set views i w))) (low_in views)
+          (low_in (set views i w)) _ _ (uncut_in views) (uncut_in (set views i w))
+          r.reservations back (low_set views i v w at_i refl) (λ u. let m = more (names u) in omega arith)
+          (λ u. let m = more (uncuts u) in omega arith);
+      named = named_same (length (byte_words words)) (length (byte_words words)) (total_of (shown words views))
+          (total_of (shown words (set views i w))) _ _ (uncut_in views) (uncut_in (set views i w))
           r.named refl (λ u y. let p = same (FreeTitle u) in let q = same (OwnOf u) in let s = same (RefOf u) in omega arith)
           (λ u. let m = more (names u) in omega arith) (λ u. let m = more (uncuts u) in omega arith);
       logs = record {
@@ -81,17 +88,22 @@ enter_keeps k numbers words views i v r at_i can =
       };
       content = rw (enter_shown k numbers words views i v at_i) r.content;
       reads = entry_reads r.history words views i v w e at_i r.reads refl refl stake refl (λ u found look. absurd (cc)) (λ u n. refl);
-      seen = seen_same (logged_in views) (logged_in (set views i w)) (ahead_in views) (ahead_in (set views i w)) (unseen_in views) (unseen_in (set views i w)) r.seen
+      seen = seen_same (logged_in views) (logged_in (set views i w)) (ahead_in views) (ahead_in (set views i w)) (unseen_in views)
+          (unseen_in (set views i w)) r.seen
           (λ u. let m = more (counted_on u) in omega arith)
           (λ u n. let c = sum_set (λ z. ahead_of z u n) views i v w at_i in omega arith)
           (let c = sum_set unseen_of views i v w at_i in let d = logged (unseen_by v.seen) in omega arith);
       lists = enter_lists r.list k numbers views i v at_i can once r.lists;
       undone = undone_set views i v w at_i refl (λ u. let m = more (uncuts u) in omega arith) r.undone;
-      totals = totals_other words words views i v w e at_i refl stake r.totals (words_stay words) more (λ n. refl) (λ q. refl) (λ q. omega arith);
-      ordered = order_more r.all r.list (list_with r.list k (new_entry numbers v)) views i v w e at_i refl stake r.logs.each_stake (list_grows r.list k (new_entry numbers v))
+      totals = totals_other words words views i v w e at_i refl stake r.totals (words_stay words) more (λ n. refl) (λ q. refl)
+          (λ q. omega arith);
+      ordered = order_more r.all r.list (list_with r.list k (new_entry numbers v)) views i v w e at_i refl stake r.logs.each_stake
+          (list_grows r.list k (new_entry numbers v))
           (λ u word touch. absurd touch) r.ordered;
-      filled = filled_entry r.steps r.all r.history (total_of (shown words views)) (total_of (shown words (set views i w))) views i v w e at_i refl refl
-          (record { frees = λ u. refl; keeps = λ u x. refl; fills = λ u. tt }) tt (others_apart words views i v r at_i stake) (eased_same _ _ same) r.filled;
+      filled = filled_entry r.steps r.all r.history (total_of (shown words views))
+          (total_of (shown words (set views i w))) views i v w e at_i refl refl
+          (record { frees = λ u. refl; keeps = λ u x. refl; fills = λ u. tt }) tt (others_apart words views i v r at_i stake)
+          (eased_same _ _ same) r.filled;
     }
   where
     once : (n : ℕ) → stakes_in views n ≤ 1
@@ -103,15 +115,18 @@ EnterTells k numbers me after = (after.0 ≡ after_enter k numbers me.0) × (aft
 
 -- whatever the table is, a seat that can make the entry may make it
 pub enter_allowed : (k : ℕ) (numbers : List ℕ) (slots id place : ℕ) (me : Me (Unit {0}) View) → CanEnter k me.0 →
-    Allows (λ (s : TableState (Unit {0}) View). IsKept s.words s.views) slots id me place (λ n. n) (λ word after. EnterTells k numbers me after)
+    Allows (λ (s : TableState (Unit {0}) View). IsKept s.words s.views) slots id me place (λ n. n)
+    (λ word after. EnterTells k numbers me after)
 enter_allowed k numbers slots id place me can s r homes at_id small = (
   after_enter k numbers me.0,
   keeps,
   tt,
-  subst (λ (ws : List ℕ). IsKept ws (set s.views id (after_enter k numbers me.0))) (sym (set-get_or s.words place 0)) (enter_keeps k numbers s.words s.views id me.0 r at_id can),
+  subst (λ (ws : List ℕ). IsKept ws (set s.views id (after_enter k numbers me.0))) (sym (set-get_or s.words place 0))
+      (enter_keeps k numbers s.words s.views id me.0 r at_id can),
   (refl, refl),
 )
 
 -- what a seat's type keeps goes on
-pub enter_sound : (region : TableId) (k : ℕ) (numbers : List ℕ) (v : View) → IsSeatSound region v → IsSeatSound region (after_enter k numbers v)
+pub enter_sound : (region : TableId) (k : ℕ) (numbers : List ℕ) (v : View) → IsSeatSound region v →
+    IsSeatSound region (after_enter k numbers v)
 enter_sound region k numbers v s = record { small = s.small; well = s.well; raw = s.raw; long = s.long }

@@ -26,26 +26,34 @@ use Rattle.pa_region.proofs.PoisonedOwns.{apart_set}
 use Rattle.pa_region.proofs.Waitings.{last_noted}
 
 -- The view's log gets such an entry, which is no counted step either, and its Owns stay.
-pub entry_reads : (history : Title → List Done) (words : List ℕ) (views : List View) (i : ℕ) (v w : View) (e : Entry) → get_elem? views i ≡ some v →
+pub entry_reads : (history : Title → List Done) (words : List ℕ) (views : List View) (i : ℕ) (v w : View) (e : Entry) →
+    get_elem? views i ≡ some v →
     Reads history (byte_words words) views → w.stakes ≡ noted e v.stakes → w.owns ≡ v.owns → HasStake v → is_read e ≡ false →
-    ((t : Title) (found : ℕ) → Some e ≡ Some (Looked t found) → ⊥) → ((t : Title) (n : ℕ) → counted_at t n e ≡ 0) → Reads history (byte_words words) (set views i w)
+    ((t : Title) (found : ℕ) → Some e ≡ Some (Looked t found) → ⊥) → ((t : Title) (n : ℕ) → counted_at t n e ≡ 0) →
+    Reads history (byte_words words) (set views i w)
 entry_reads history words views i v w e at_i reads stakes owns has no_read no_look no_step = record {
-  right = right_same history (paired_in views) (paired_in (set views i w)) (paired_by views) (paired_by (set views i w)) (logged_by views) (logged_by (set views i w))
+  right = right_same history (paired_in views) (paired_in (set views i w)) (paired_by views) (paired_by (set views i w)) (logged_by views)
+      (logged_by (set views i w))
       (poisoned_apart views) (poisoned_apart (set views i w)) reads.right
       (let p = paired_set views i v w e at_i stakes has gave_no_poison in
       let z = gave_none_after (last_entry (least_log v.stakes)) e no_read in omega arith)
       (λ own u found value.
       let p = paired_set views i v w e at_i stakes has (quiet_read own u found value) in
       let z = quiet_none_after own u found value (last_entry (least_log v.stakes)) e no_read in omega arith)
-      (λ n own u found value. none_more (eqb (least_stake v.stakes) n) (weight_after (quiet_read own u found value) (last_entry (least_log v.stakes)) e) _ _
-      (paired_by_set views i v w e at_i stakes has n (quiet_read own u found value)) (quiet_none_after own u found value (last_entry (least_log v.stakes)) e no_read))
-      (λ n u number. none_more (eqb (least_stake v.stakes) n) (counted_at u number e) _ _ (logged_by_set views i v w e at_i stakes has n (counted_at u number)) (no_step u number))
+      (λ n own u found value. none_more (eqb (least_stake v.stakes) n)
+      (weight_after (quiet_read own u found value) (last_entry (least_log v.stakes)) e) _ _
+      (paired_by_set views i v w e at_i stakes has n (quiet_read own u found value))
+      (quiet_none_after own u found value (last_entry (least_log v.stakes)) e no_read))
+      (λ n u number. none_more (eqb (least_stake v.stakes) n) (counted_at u number e) _ _
+      (logged_by_set views i v w e at_i stakes has n (counted_at u number)) (no_step u number))
       (λ u n some_own.
-      let same : poisoned_of w u ≡ poisoned_of v u = ap (λ os. sum_by (λ (o : OwnTitle). one (same_title o.title u && is_poisoned o.state)) os) owns in
+      let same : poisoned_of w u ≡ poisoned_of v u =
+      ap (λ os. sum_by (λ (o : OwnTitle). one (same_title o.title u && is_poisoned o.state)) os) owns in
       let l = apart_set views i v w at_i stakes_same u n (omega arith) in omega arith);
   each_view = each_set (IsReader history (byte_words words)) (IsReader history (byte_words words)) views i v w at_i reads.each_view
       (record {
-        waits = λ u found is quiet. absurd (no_look u found (sym (last_noted e v.stakes has) ∙ (ap (λ ss. last_entry (least_log ss)) (sym stakes) ∙ is)));
+        waits = λ u found is quiet. absurd
+            (no_look u found (sym (last_noted e v.stakes has) ∙ (ap (λ ss. last_entry (least_log ss)) (sym stakes) ∙ is)));
         stake = λ some_own. stake_noted e v w stakes has;
       })
       (λ j u ne at_j reader. reader);

@@ -31,5 +31,6 @@ pub filled_beside : (value : ℕ) (t : Title) (n : ℕ) (words : List ℕ) (q : 
 unfolding filled_with
 filled_beside value t zero words q out = refl
 filled_beside value t (suc n) words q out =
-    get_or-set_other (filled_with value t n words) (content_place t n) q value 0 (λ e. elim out [ inl y ↦ absurd (omega arith) | inr m ↦ absurd (omega arith) ])
+    get_or-set_other (filled_with value t n words) (content_place t n) q value 0
+    (λ e. elim out [ inl y ↦ absurd (omega arith) | inr m ↦ absurd (omega arith) ])
     ∙ filled_beside value t n words q (elim out [ inl y ↦ inl y | inr m ↦ inr (omega arith) ])

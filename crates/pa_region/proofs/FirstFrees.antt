@@ -22,7 +22,8 @@ and_false true b e = rw e refl
 and_false false b e = refl
 
 -- one more step counts if it is a Free and the number is within
-pub frees_more : (k : ℕ) (d : Done) (history : List Done) → k ≤ length history → frees_from k (d ∷ history) ≡ one (is_free d.step) + frees_from k history
+pub frees_more : (k : ℕ) (d : Done) (history : List Done) → k ≤ length history →
+    frees_from k (d ∷ history) ≡ one (is_free d.step) + frees_from k history
 frees_more k d history within = let a = and_true (is_free d.step) (leb k (length history)) (le-leb k (length history) within) in omega arith
 
 -- a step counts nothing if the number is past it

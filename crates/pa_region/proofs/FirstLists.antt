@@ -26,7 +26,8 @@ blank_at (suc n) zero = refl
 blank_at (suc n) (suc i) = blank_at n i
 
 -- the stakes from 0 on, each once
-pub stake_count : (from count k : ℕ) → ((from ≤ k) × (k < from + count) × (sum_by (λ (s : Stake). one (eqb s.number k)) (stakes_from from count) ≡ 1))
+pub stake_count : (from count k : ℕ) →
+    ((from ≤ k) × (k < from + count) × (sum_by (λ (s : Stake). one (eqb s.number k)) (stakes_from from count) ≡ 1))
     ⊎ (((from ≤ k) × (k < from + count) → ⊥) × (sum_by (λ (s : Stake). one (eqb s.number k)) (stakes_from from count) ≡ 0))
 stake_count from zero k = inr ((λ h. let p = h.0 in let q = h.1 in omega arith), refl)
 stake_count from (suc count) k =
@@ -34,17 +35,28 @@ stake_count from (suc count) k =
     elim (one_eq from k) [
       | inl y ↦
           let e = y.0 in let f = y.1 in
-          inl (omega arith, omega arith, elim (stake_count (suc from) count k) [ inl z ↦ let p = z.0 in absurd (omega arith) | inr n ↦ let z = n.1 in omega arith ])
+          inl (
+            omega arith,
+            omega arith,
+            elim (stake_count (suc from) count k) [ inl z ↦ let p = z.0 in absurd (omega arith) | inr n ↦ let z = n.1 in omega arith ],
+          )
       | inr n ↦
           let e = n.0 in
           elim (stake_count (suc from) count k) [
             | inl z ↦ let p = z.0 in let q = z.1 in let r = z.2 in inl (omega arith, omega arith, omega arith)
-            | inr m ↦ let r = m.1 in inr ((λ h. let p = h.0 in let q = h.1 in m.0 (elim (cases_lt from k) [ inl a ↦ omega arith | inr a ↦ absurd (n.1 (omega arith)) ], omega arith)), omega arith)
+            | inr m ↦ let r = m.1 in
+                inr (
+                  (λ h. let p = h.0 in let q = h.1 in
+                      m.0 (elim (cases_lt from k) [ inl a ↦ omega arith | inr a ↦ absurd (n.1 (omega arith)) ], omega arith)),
+                  omega arith,
+                )
           ]
     ]
 
 -- the keepers are numbered as the stakes are
-keeper_count : (from count k : ℕ) → sum_by (λ (q : Keeper). one (eqb q.number k)) (keepers_from from count) ≡ sum_by (λ (s : Stake). one (eqb s.number k)) (stakes_from from count)
+keeper_count : (from count k : ℕ) →
+    sum_by (λ (q : Keeper). one (eqb q.number k)) (keepers_from from count) ≡ sum_by (λ (s : Stake). one (eqb s.number k))
+    (stakes_from from count)
 keeper_count from zero k = refl
 keeper_count from (suc count) k =
     let again = keeper_count (suc from) count k in
@@ -89,8 +101,16 @@ first_lists words budget = record {
   each_keeper = λ k.
       let s = keeper_count 0 6 k in
       elim (stake_count 0 6 k) [
-        | inl y ↦ elim (one_lt k 6) [ inl z ↦ let a = y.2 in let b = z.0 in omega arith | inr n ↦ let a = y.1 in let b = n.1 in absurd (omega arith) ]
-        | inr m ↦ elim (one_lt k 6) [ inl z ↦ let a = z.1 in absurd (m.0 (omega arith, omega arith)) | inr n ↦ let a = m.1 in let b = n.0 in omega arith ]
+        | inl y ↦ elim (one_lt k 6) [
+          | inl z ↦ let a = y.2 in let b = z.0 in omega arith
+          | inr n ↦ let a = y.1 in let b = n.1 in
+              absurd (omega arith)
+        ]
+        | inr m ↦ elim (one_lt k 6) [
+          | inl z ↦ let a = z.1 in absurd (m.0 (omega arith, omega arith))
+          | inr n ↦ let a = m.1 in let b = n.0 in
+              omega arith
+        ]
       ];
   each_lease = λ n. let z : one (leb 0 n) ≡ 1 = ap one (le-leb 0 n (omega arith)) in omega arith;
   rises = λ k. tt;

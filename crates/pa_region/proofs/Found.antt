@@ -34,7 +34,8 @@ pub handle_held : (step : Step) (t : Title) (v : View) → HasHandle step t v �
 handle_held step t v has = piece_held step t v (handle_piece step t v has)
 
 -- the step is enabled at the title's word, with room for its number and its count
-enabled : (step : Step) (t : Title) (words : List ℕ) (views : List View) (i : ℕ) (v : View) → IsKept words views → get_elem? views i ≡ some v →
+enabled : (step : Step) (t : Title) (words : List ℕ) (views : List View) (i : ℕ) (v : View) → IsKept words views →
+    get_elem? views i ≡ some v →
     IsTitleHeld (total_of (shown words views)) t → HasPiece step t v → number_of (count_word (byte_words words) t) < 65536 →
     CanStep step (count_word (byte_words words) t)
 enabled Issue t words views i v k at_i held has small =
@@ -77,7 +78,8 @@ enabled Write t words views i v k at_i held has small =
     ((omega arith, z), omega arith, tt)
 
 -- a counted step that a view can make is enabled at the word that it finds
-pub count_can : (step : Step) (t : Title) (words : List ℕ) (views : List View) (i : ℕ) (v : View) → IsKept words views → get_elem? views i ≡ some v →
+pub count_can : (step : Step) (t : Title) (words : List ℕ) (views : List View) (i : ℕ) (v : View) → IsKept words views →
+    get_elem? views i ≡ some v →
     CanCount step t v → CanStep step (count_word (byte_words words) t)
 count_can step t words views i v k at_i can =
     let held = held_in_all words views i v t at_i (handle_held step t v can.0) in
@@ -116,7 +118,8 @@ count_found t words views i v k at_i mine =
       taken = λ n. let z = word.taken n in omega arith;
       known = λ free.
           let w = k.holders.good.divided.well t held in
-          sym (k.values.known i (count_place t) v at_i (inr (inl (t, free, word_covered (length (byte_words words)) t (count_place t) w (omega arith, omega arith)))));
+          sym (k.values.known i (count_place t) v at_i
+          (inr (inl (t, free, word_covered (length (byte_words words)) t (count_place t) w (omega arith, omega arith)))));
       idle = λ h. let p = sum_part (λ u. idle_of u t) views i v at_i in k.holders.known t (omega arith);
       few = omega arith;
       few_refs = k.holders.few_refs t held;

@@ -34,14 +34,17 @@ not_on : (t u : Title) (step : Step) (word value n : ℕ) → same_title t u ≡
 not_on t u step word value n other = rw other refl
 
 -- a number that a look found is within the title's history
-pub look_within : (logs : (Entry → ℕ) → ℕ) (history : List Done) (t : Title) (found : ℕ) → IsChained logs t history → 0 < logs (looked_at t found) →
+pub look_within : (logs : (Entry → ℕ) → ℕ) (history : List Done) (t : Title) (found : ℕ) → IsChained logs t history →
+    0 < logs (looked_at t found) →
     number_of found ≤ length history
 look_within logs history t found chain looked = (word_found found history chain.legal (chain.looks found looked)).0
 
 -- What a counted step does to logs and to poisoned Owns: its entry is in a log of this number alone. A poisoned Own stays
 -- one, unless the step is a Free of it, and then the log isn't one of those that the Own was apart from.
-pub record IsCountedBy (t : Title) (step : Step) (value word least : ℕ) (logs_by after_by : ℕ → (Entry → ℕ) → ℕ) (poisoned later : Title → ℕ → ℕ) : Type 0 where
-  pub entry : (r : ℕ) (weight : Entry → ℕ) → after_by r weight ≡ logs_by r weight + (if eqb least r then weight (Counted t step word value) else 0)
+pub record IsCountedBy (t : Title) (step : Step) (value word least : ℕ) (logs_by after_by : ℕ → (Entry → ℕ) → ℕ)
+    (poisoned later : Title → ℕ → ℕ) : Type 0 where
+  pub entry : (r : ℕ) (weight : Entry → ℕ) →
+      after_by r weight ≡ logs_by r weight + (if eqb least r then weight (Counted t step word value) else 0)
   pub owns : (u : Title) (r : ℕ) → 0 < poisoned u r →
       ((t ≡ u → is_free step ≡ false) × (0 < later u r)) ⊎ ((t ≡ u) × (is_free step ≡ true) × (least ≡ r → ⊥))
 
@@ -57,7 +60,8 @@ entry_else r n t u step value word least logs_by after_by entry none =
     ]
 
 -- the reason at the title of the step
-freeing_here : (t : Title) (step : Step) (value word least : ℕ) (logs_by after_by : ℕ → (Entry → ℕ) → ℕ) (poisoned later : Title → ℕ → ℕ) (history : List Done) (r k : ℕ) →
+freeing_here : (t : Title) (step : Step) (value word least : ℕ) (logs_by after_by : ℕ → (Entry → ℕ) → ℕ) (poisoned later : Title → ℕ → ℕ)
+    (history : List Done) (r k : ℕ) →
     IsCountedBy t step value word least logs_by after_by poisoned later → number_of word ≡ length history → k ≤ length history →
     logs_by r (counted_at t (length history)) ≡ 0 →
     IsFreeing logs_by poisoned history t r k → IsFreeing after_by later (record { step = step; value = value } ∷ history) t r k
@@ -83,13 +87,17 @@ freeing_here t step value word least logs_by after_by poisoned later history r k
     ]
 
 -- the reason at any title
-freeing_counted : (t : Title) (step : Step) (value word least : ℕ) (logs_by after_by : ℕ → (Entry → ℕ) → ℕ) (poisoned later : Title → ℕ → ℕ) (history : Title → List Done)
-    (u : Title) (r k : ℕ) → IsCountedBy t step value word least logs_by after_by poisoned later → number_of word ≡ length (history t) → k ≤ length (history u) →
+freeing_counted : (t : Title) (step : Step) (value word least : ℕ) (logs_by after_by : ℕ → (Entry → ℕ) → ℕ) (poisoned later : Title → ℕ → ℕ)
+    (history : Title → List Done)
+    (u : Title) (r k : ℕ) → IsCountedBy t step value word least logs_by after_by poisoned later → number_of word ≡ length (history t) →
+    k ≤ length (history u) →
     logs_by r (counted_at t (length (history t))) ≡ 0 →
     IsFreeing logs_by poisoned (history u) u r k → IsFreeing after_by later (history_by step t value history u) u r k
 freeing_counted t step value word least logs_by after_by poisoned later history u r k by at_end within none f = elim (title_tells t u) [
-  | inl y ↦ subst (λ (x : Title). k ≤ length (history x) → IsFreeing logs_by poisoned (history x) x r k → IsFreeing after_by later (history_by step t value history x) x r k) y.1
-      (λ inside g. rw (title_self t) (freeing_here t step value word least logs_by after_by poisoned later (history t) r k by at_end inside none g)) within f
+  | inl y ↦ subst (λ (x : Title). k ≤ length (history x) → IsFreeing logs_by poisoned (history x) x r k →
+      IsFreeing after_by later (history_by step t value history x) x r k) y.1
+      (λ inside g. rw (title_self t)
+      (freeing_here t step value word least logs_by after_by poisoned later (history t) r k by at_end inside none g)) within f
   | inr n ↦ rw n.0 (freeing_same logs_by after_by poisoned later (history u) u r k
       (λ m. entry_else r m t u step value word least logs_by after_by (by.entry r) (not_on t u step word value m n.0))
       (λ some_own. elim (by.owns u r some_own) [ inl y ↦ y.1 | inr z ↦ absurd (n.1 z.0) ]) f)
@@ -104,39 +112,46 @@ content_counted t step value history u k within = elim (title_tells t u) [
 ]
 
 -- reads that were right stay right over a counted step
-pub right_counted : (t : Title) (step : Step) (value word least : ℕ) (history : Title → List Done) (pairs after : (Entry → Entry → ℕ) → ℕ) (pairs_by after_by : ℕ → (Entry → Entry → ℕ) → ℕ)
-    (logs : (Entry → ℕ) → ℕ) (logs_by logs_after : ℕ → (Entry → ℕ) → ℕ) (poisoned later : Title → ℕ → ℕ) → AreRight history pairs pairs_by logs_by poisoned →
+pub right_counted : (t : Title) (step : Step) (value word least : ℕ) (history : Title → List Done) (pairs after : (Entry → Entry → ℕ) → ℕ)
+    (pairs_by after_by : ℕ → (Entry → Entry → ℕ) → ℕ)
+    (logs : (Entry → ℕ) → ℕ) (logs_by logs_after : ℕ → (Entry → ℕ) → ℕ) (poisoned later : Title → ℕ → ℕ) →
+    AreRight history pairs pairs_by logs_by poisoned →
     ((u : Title) → IsChained logs u (history u)) → number_of word ≡ length (history t) →
     ((own : Bool) (u : Title) (found value : ℕ) → pairs (quiet_read own u found value) ≤ logs (looked_at u found)) →
-    ((r : ℕ) (weight : Entry → Entry → ℕ) → pairs_by r weight ≤ pairs weight) → ((r : ℕ) (weight : Entry → ℕ) → logs_by r weight ≤ logs weight) →
-    (after gave_no_poison ≡ pairs gave_no_poison) → ((own : Bool) (u : Title) (found value : ℕ) → after (quiet_read own u found value) ≡ pairs (quiet_read own u found value)) →
-    ((r : ℕ) (own : Bool) (u : Title) (found value : ℕ) → after_by r (quiet_read own u found value) ≡ pairs_by r (quiet_read own u found value)) →
+    ((r : ℕ) (weight : Entry → Entry → ℕ) → pairs_by r weight ≤ pairs weight) →
+    ((r : ℕ) (weight : Entry → ℕ) → logs_by r weight ≤ logs weight) →
+    (after gave_no_poison ≡ pairs gave_no_poison) →
+    ((own : Bool) (u : Title) (found value : ℕ) → after (quiet_read own u found value) ≡ pairs (quiet_read own u found value)) →
+    ((r : ℕ) (own : Bool) (u : Title) (found value : ℕ) →
+    after_by r (quiet_read own u found value) ≡ pairs_by r (quiet_read own u found value)) →
     IsCountedBy t step value word least logs_by logs_after poisoned later →
     AreRight (history_by step t value history) after after_by logs_after later
-right_counted t step value word least history pairs after pairs_by after_by logs logs_by logs_after poisoned later a chain at_end looked by_within logs_within gave quiet quiet_by by = record {
-  freed = gave ∙ a.freed;
-  own = λ u found written set some_pair.
-      let z = quiet true u found written in
-      let l = looked true u found written in
-      let within = look_within logs (history u) u found (chain u) (omega arith) in
-      a.own u found written set (omega arith) ∙ sym (content_counted t step value history u (number_of found) within);
-  ref = λ r u found written set some_pair.
-      let z = quiet_by r false u found written in
-      let l = looked false u found written in
-      let m = by_within r (quiet_read false u found written) in
-      let within = look_within logs (history u) u found (chain u) (omega arith) in
-      elim (a.ref r u found written set (omega arith)) [
-        | inl y ↦ inl (y ∙ sym (content_counted t step value history u (number_of found) within))
-        | inr f ↦ inr (
-          f.0,
-          freeing_counted t step value word least logs_by logs_after poisoned later history u r (number_of found) by at_end within
-              (none_yet r) f.1,
-        )
-      ];
-}
+right_counted t step value word least history pairs after pairs_by after_by logs logs_by logs_after poisoned later a chain at_end looked
+    by_within logs_within gave quiet quiet_by by = record {
+      freed = gave ∙ a.freed;
+      own = λ u found written set some_pair.
+          let z = quiet true u found written in
+          let l = looked true u found written in
+          let within = look_within logs (history u) u found (chain u) (omega arith) in
+          a.own u found written set (omega arith) ∙ sym (content_counted t step value history u (number_of found) within);
+      ref = λ r u found written set some_pair.
+          let z = quiet_by r false u found written in
+          let l = looked false u found written in
+          let m = by_within r (quiet_read false u found written) in
+          let within = look_within logs (history u) u found (chain u) (omega arith) in
+          elim (a.ref r u found written set (omega arith)) [
+            | inl y ↦ inl (y ∙ sym (content_counted t step value history u (number_of found) within))
+            | inr f ↦ inr (
+              f.0,
+              freeing_counted t step value word least logs_by logs_after poisoned later history u r (number_of found) by at_end within
+                  (none_yet r) f.1,
+            )
+          ];
+    }
   where
     none_yet : (r : ℕ) → logs_by r (counted_at t (length (history t))) ≡ 0
     none_yet r =
         let n = (chain t).numbers (length (history t)) in
         let w = logs_within r (counted_at t (length (history t))) in
-        elim (one_lt (length (history t)) (length (history t))) [ inl y ↦ let b = y.1 in absurd (omega arith) | inr z ↦ let b = z.0 in omega arith ]
+        elim (one_lt (length (history t)) (length (history t)))
+        [ inl y ↦ let b = y.1 in absurd (omega arith) | inr z ↦ let b = z.0 in omega arith ]

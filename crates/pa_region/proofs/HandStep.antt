@@ -33,8 +33,10 @@ use Rattle.pa_region.proofs.ListPart.{each_set}
 use Rattle.pa_region.proofs.Regroup.{parted_regroups, kept_regrouped}
 
 -- the stakes are parted
-stakes_part : (p : Parcel) (v : View) (amount : Stake → ℕ) → sum_by amount (left_after p v).stakes + sum_by amount (given_after p v).stakes ≡ sum_by amount v.stakes
-stakes_part p v amount = let e = sum_by-filter_both (λ (s : Stake). p.stakes s.number) (λ s. not (p.stakes s.number)) (λ s. refl) amount v.stakes in omega arith
+stakes_part : (p : Parcel) (v : View) (amount : Stake → ℕ) →
+    sum_by amount (left_after p v).stakes + sum_by amount (given_after p v).stakes ≡ sum_by amount v.stakes
+stakes_part p v amount = let e =
+    sum_by-filter_both (λ (s : Stake). p.stakes s.number) (λ s. not (p.stakes s.number)) (λ s. refl) amount v.stakes in omega arith
 
 -- the two views have what the one had
 pub hand_parts : (p : Parcel) (v : View) → CanHand p v → IsParted v (left_after p v) (given_after p v)
@@ -45,7 +47,8 @@ hand_parts p v can = record {
   budget = let b = can.budget in omega arith;
   logs = λ weight. stakes_part p v (λ s. sum_by weight s.log);
   stakes = λ k. stakes_part p v (λ s. one (eqb s.number k));
-  keepers = λ k. let e = sum_by-filter_both (λ (q : Keeper). p.keepers q.number) (λ q. not (p.keepers q.number)) (λ q. refl) (λ q. one (eqb q.number k)) v.keepers in omega arith;
+  keepers = λ k. let e = sum_by-filter_both (λ (q : Keeper). p.keepers q.number) (λ q. not (p.keepers q.number)) (λ q. refl)
+      (λ q. one (eqb q.number k)) v.keepers in omega arith;
   leases = λ n. let e = leases_sum p.leases v.leases can.leases n in omega arith;
   pairs = λ weight. stakes_part p v (λ s. pairs weight s.log);
   pairs_by = λ k weight. stakes_part p v (amount_by k (pairs weight));
@@ -71,7 +74,8 @@ stakes_kept p v can some_own = stakes_stay p v.stakes none
     none : (k : ℕ) → p.stakes k ≡ false
     none k = elim (cases_Bool (p.stakes k)) [ inl y ↦ let z = can.clean k y in absurd (omega arith) | inr n ↦ n ]
 
-left_stake : (p : Parcel) (v : View) → CanHand p v → (0 < unclean_of v → HasStake v) → 0 < unclean_of (left_after p v) → HasStake (left_after p v)
+left_stake : (p : Parcel) (v : View) → CanHand p v → (0 < unclean_of v → HasStake v) → 0 < unclean_of (left_after p v) →
+    HasStake (left_after p v)
 left_stake p v can stake some_own =
     let u = (hand_parts p v can).unclean in
     let has = stake (omega arith) in
@@ -99,7 +103,8 @@ knows_less v w q less (inr (inr own)) =
 
 -- a fact of each view, when one is parted
 pub each_parted : (P : View → Type 0) (views : List View) (i : ℕ) (v l r : View) → get_elem? views i ≡ some v →
-    ((j : ℕ) (u : View) → get_elem? views j ≡ some u → P u) → P l → P r → (j : ℕ) (u : View) → get_elem? (set views i l ++ r ∷ []) j ≡ some u → P u
+    ((j : ℕ) (u : View) → get_elem? views j ≡ some u → P u) → P l → P r → (j : ℕ) (u : View) →
+    get_elem? (set views i l ++ r ∷ []) j ≡ some u → P u
 each_parted P views i v l r at_i before left right j u at_j = elim (at_snoc (set views i l) r u j at_j) [
   | inl y ↦ each_set P views i v l at_i (λ m x at_m ne. before m x at_m) left j u y
   | inr e ↦ subst P e right
@@ -116,15 +121,19 @@ module _ {A : Type 0} where
       go false again = again
 
 -- a view with some of the stakes and keepers stays as it was to the lists
-listed_part : (list : ℕ → List Made) (v w : View) (stakes keepers : ℕ → Bool) → IsListed list v → w.seen_lists ≡ v.seen_lists → w.seen ≡ v.seen →
+listed_part : (list : ℕ → List Made) (v w : View) (stakes keepers : ℕ → Bool) → IsListed list v → w.seen_lists ≡ v.seen_lists →
+    w.seen ≡ v.seen →
     w.stakes ≡ filter (λ (s : Stake). stakes s.number) v.stakes → w.keepers ≡ filter (λ (q : Keeper). keepers q.number) v.keepers →
     ((k : ℕ) → keeper_of w k ≤ keeper_of v k) → ((t : Title) → own_of w t + ref_of w t ≤ own_of v t + ref_of v t) → IsListed list w
 listed_part list v w stakes keepers l lists seen s q less fewer = record {
   beginnings = rw lists l.beginnings;
   whole = λ k has. rw lists (l.whole k (let e = less k in omega arith));
   kept = rw q (each_filter (λ (q : Keeper). q.entries ≡ list q.number) (λ (q : Keeper). keepers q.number) v.keepers l.kept);
-  made = λ k. rw s (each_filter (λ (s : Stake). made_with s.number (list k) ≡ entered_in k s.log) (λ (s : Stake). stakes s.number) v.stakes (l.made k));
-  noticed = λ k. rw (lists, s) (each_filter (λ (s : Stake). made_with s.number (list_of k v) ≡ entered_in k s.log) (λ (s : Stake). stakes s.number) v.stakes (l.noticed k));
+  made = λ k. rw s (each_filter (λ (s : Stake). made_with s.number (list k) ≡ entered_in k s.log) (λ (s : Stake). stakes s.number) v.stakes
+      (l.made k));
+  noticed = λ k. rw (lists, s)
+      (each_filter (λ (s : Stake). made_with s.number (list_of k v) ≡ entered_in k s.log) (λ (s : Stake). stakes s.number) v.stakes
+      (l.noticed k));
   follows = λ k. rw (lists, seen) (l.follows k);
   handles = λ t has. rw seen (l.handles t (let e = fewer t in omega arith));
 }
@@ -137,14 +146,16 @@ given_keepers : (p : Parcel) (v : View) → CanHand p v → (k : ℕ) → keeper
 given_keepers p v can k = let e = (hand_parts p v can).keepers k in omega arith
 
 -- a view that holds less has fewer handles
-fewer_handles : (v w : View) → ((x : Thing) → held_of_view w x ≤ held_of_view v x) → (t : Title) → own_of w t + ref_of w t ≤ own_of v t + ref_of v t
+fewer_handles : (v w : View) → ((x : Thing) → held_of_view w x ≤ held_of_view v x) → (t : Title) →
+    own_of w t + ref_of w t ≤ own_of v t + ref_of v t
 fewer_handles v w less t =
     let o = less (OwnOf t) in let r = less (RefOf t) in
     let o1 = owns_have v t in let o2 = owns_have w t in let r1 = refs_have v t in let r2 = refs_have w t in
     omega arith
 
 pub left_listed : (list : ℕ → List Made) (p : Parcel) (v : View) → CanHand p v → IsListed list v → IsListed list (left_after p v)
-left_listed list p v can l = listed_part list v (left_after p v) (λ k. not (p.stakes k)) (λ k. not (p.keepers k)) l refl refl refl refl (left_keepers p v can)
+left_listed list p v can l =
+    listed_part list v (left_after p v) (λ k. not (p.stakes k)) (λ k. not (p.keepers k)) l refl refl refl refl (left_keepers p v can)
     (fewer_handles v (left_after p v) (λ x. let e = (hand_parts p v can).things x in omega arith))
 
 pub given_listed : (list : ℕ → List Made) (p : Parcel) (v : View) → CanHand p v → IsListed list v → IsListed list (given_after p v)
@@ -152,7 +163,8 @@ given_listed list p v can l = listed_part list v (given_after p v) p.stakes p.ke
     (fewer_handles v (given_after p v) (λ x. let e = (hand_parts p v can).things x in omega arith))
 
 -- a hand keeps the rule
-pub hand_keeps : (p : Parcel) (words : List ℕ) (views : List View) (i : ℕ) (v : View) → IsKept words views → get_elem? views i ≡ some v → CanHand p v →
+pub hand_keeps : (p : Parcel) (words : List ℕ) (views : List View) (i : ℕ) (v : View) → IsKept words views → get_elem? views i ≡ some v →
+    CanHand p v →
     IsKept words (set views i (left_after p v) ++ given_after p v ∷ [])
 hand_keeps p words views i v k at_i can =
     let parts = hand_parts p v can in
@@ -162,21 +174,25 @@ hand_keeps p words views i v k at_i can =
     let right : (x : Thing) → held_of_view r x ≤ held_of_view v x = λ x. let e = parts.things x in omega arith in
     kept_regrouped words views (set views i l ++ r ∷ []) k (parted_regroups views i v l r at_i parts refl refl)
     (record {
-      long = each_parted (λ u. length u.words ≡ length (byte_words words)) views i v l r at_i k.values.long (k.values.long i v at_i) (k.values.long i v at_i);
+      long = each_parted (λ u. length u.words ≡ length (byte_words words)) views i v l r at_i k.values.long (k.values.long i v at_i)
+          (k.values.long i v at_i);
       known = λ j q u at_j. each_parted (λ u. Knows u q → slice_index u.words q ≡ slice_index (byte_words words) q) views i v l r at_i
           (λ m x at_m. k.values.known m q x at_m)
           (λ knows. k.values.known i q v at_i (knows_less v l q left knows))
           (λ knows. k.values.known i q v at_i (knows_less v r q right knows)) j u at_j;
     })
-    (each_parted (IsListed k.list) views i v l r at_i k.lists.each_view (left_listed k.list p v can (k.lists.each_view i v at_i)) (given_listed k.list p v can (k.lists.each_view i v at_i)))
+    (each_parted (IsListed k.list) views i v l r at_i k.lists.each_view (left_listed k.list p v can (k.lists.each_view i v at_i))
+    (given_listed k.list p v can (k.lists.each_view i v at_i)))
     (each_parted HasSeenFree views i v l r at_i k.lists.free_seen
     (λ t free. let e = left (FreeTitle t) in let a = frees_have l t in let b = frees_have v t in k.lists.free_seen i v at_i t (omega arith))
-    (λ t free. let e = right (FreeTitle t) in let a = frees_have r t in let b = frees_have v t in k.lists.free_seen i v at_i t (omega arith)))
+    (λ t free. let e = right (FreeTitle t) in let a = frees_have r t in let b = frees_have v t in
+    k.lists.free_seen i v at_i t (omega arith)))
     (each_parted (IsReader k.history (byte_words words)) views i v l r at_i k.reads.each_view
     (reader_handed k.history (byte_words words) l refl (left_stake p v can (k.reads.each_view i v at_i).stake))
     (reader_handed k.history (byte_words words) r refl (λ some_own. let z = given_clean p v in absurd (omega arith))))
     (each_parted (IsLoggedIn k.all) views i v l r at_i k.ordered.logs
-    (each_filter (λ (s : Stake). s.log ≡ by_stake s.number k.all) (λ (s : Stake). not (p.stakes s.number)) v.stakes (k.ordered.logs i v at_i))
+    (each_filter (λ (s : Stake). s.log ≡ by_stake s.number k.all) (λ (s : Stake). not (p.stakes s.number)) v.stakes
+    (k.ordered.logs i v at_i))
     (each_filter (λ (s : Stake). s.log ≡ by_stake s.number k.all) (λ (s : Stake). p.stakes s.number) v.stakes (k.ordered.logs i v at_i)))
     (each_parted (IsSteady k.steps) views i v l r at_i k.filled.each_view (left_steady k.steps p v can (k.filled.each_view i v at_i))
     (steady_handed k.steps r refl (λ t. let z = given_clean p v in let s = poisoned_unclean r t in omega arith)))

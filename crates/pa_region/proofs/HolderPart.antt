@@ -1,5 +1,5 @@
 -- The first part after a step: what counts of titles and budgets.
-use Rattle.std.proofs.Common.{◌≡◌, ℕ, ◌+◌, ◌<◌, ◌≤◌, List, set, refl, subst, arith, inl, inr}
+use Rattle.std.proofs.Common.{◌≡◌, ℕ, ◌+◌, ◌<◌, ◌≤◌, Bool, false, List, set, refl, subst, arith, inl, inr}
 use Rattle.std.proofs.lemmas.Bool.{cases_lt}
 use Rattle.pa_slot.specs.declared.title.Title.{Title}
 use Rattle.pa_slot.specs.declared.title.OwnState.{OwnState}
@@ -30,15 +30,16 @@ returned_none left t = elim (returned_cases left t) [
 ]
 
 -- a step that is enabled keeps its title counted well
-pub counted_after : (step : Step) (word : ℕ) (total later : Thing → ℕ) (t : Title) (a : OwnState) → IsCounted word total t → CanStep step word →
-    Changes total (lost_by step t a) (gained_by step t (stepped step word)) later → IsCounted (stepped step word) later t
-counted_after Issue word total later t a g can c =
+pub counted_after : (step : Step) (word : ℕ) (total later : Thing → ℕ) (t : Title) (sealed : Bool) (a : OwnState) →
+    IsCounted word total t → CanStep step word →
+    Changes total (lost_by step t sealed a) (gained_by step t sealed (stepped step word)) later → IsCounted (stepped step word) later t
+counted_after Issue word total later t sealed a g can c =
     let s = stepped_is Issue word can in
     let free = c (FreeTitle t) in
     let own = c (OwnOf t) in
     let ref = c (RefOf t) in
     let f1 = free_self t in
-    let o1 = own_self t Clean in
+    let o1 = own_self false t Clean in
     let once = g.free (s.3, s.2) in
     let owns = g.owns in
     let refs = g.refs in
@@ -49,7 +50,7 @@ counted_after Issue word total later t a g can c =
       free = λ is_free. let z = is_free.0 in omega arith;
       taken = λ _. omega arith;
     }
-counted_after Copy word total later t a g can c =
+counted_after Copy word total later t sealed a g can c =
     let s = stepped_is Copy word can in
     let free = c (FreeTitle t) in
     let own = c (OwnOf t) in
@@ -65,7 +66,7 @@ counted_after Copy word total later t a g can c =
       free = λ is_free. let z = is_free.1 in omega arith;
       taken = λ _. omega arith;
     }
-counted_after Reset word total later t a g can c =
+counted_after Reset word total later t sealed a g can c =
     let s = stepped_is Reset word can in
     let left = stepped Reset word in
     let free = c (FreeTitle t) in
@@ -84,13 +85,13 @@ counted_after Reset word total later t a g can c =
       free = λ is_free. elim (returned_free left t) [ inl y ↦ let m = y.1 in omega arith | inr n ↦ absurd (n.0 is_free) ];
       taken = λ not_free. elim (returned_free left t) [ inl y ↦ absurd (not_free y.0) | inr n ↦ let m = n.1 in omega arith ];
     }
-counted_after Free word total later t a g can c =
+counted_after Free word total later t sealed a g can c =
     let s = stepped_is Free word can in
     let left = stepped Free word in
     let free = c (FreeTitle t) in
     let own = c (OwnOf t) in
     let ref = c (RefOf t) in
-    let o1 = own_self t a in
+    let o1 = own_self sealed t a in
     let none = returned_none left t in
     let n0 = none.0 in let n1 = none.1 in
     let p = s.0 in let q = s.1 in let r = s.2 in
@@ -103,13 +104,13 @@ counted_after Free word total later t a g can c =
       free = λ is_free. elim (returned_free left t) [ inl y ↦ let m = y.1 in omega arith | inr n ↦ absurd (n.0 is_free) ];
       taken = λ not_free. elim (returned_free left t) [ inl y ↦ absurd (not_free y.0) | inr n ↦ let m = n.1 in omega arith ];
     }
-counted_after Write word total later t a g can c =
+counted_after Write word total later t sealed a g can c =
     let s = stepped_is Write word can in
     let free = c (FreeTitle t) in
     let own = c (OwnOf t) in
     let ref = c (RefOf t) in
-    let o1 = own_self t a in
-    let o2 = own_self t Clean in
+    let o1 = own_self sealed t a in
+    let o2 = own_self sealed t Clean in
     let p = s.0 in let q = s.1 in let r = s.2 in let e = s.3 in
     let taken = g.taken (λ f. let y = f.0 in omega arith) in
     let owns = g.owns in
@@ -131,57 +132,62 @@ number_after Free word can = (omega arith, omega arith)
 number_after Write word can = (omega arith, omega arith)
 
 -- what is lost and gained is the title's alone, and no raw byte
-pub lost_here : (step : Step) (t : Title) (a : OwnState) (u : Title) → (t ≡ u → ⊥) → IsNoneOf (lost_by step t a) u
-lost_here Issue t a u ne = free_none t u ne
-lost_here Copy t a u ne = nil_none u
-lost_here Reset t a u ne = ref_none t u ne
-lost_here Free t a u ne = own_none t u a ne
-lost_here Write t a u ne = own_none t u a ne
+pub lost_here : (step : Step) (t : Title) (sealed : Bool) (a : OwnState) (u : Title) → (t ≡ u → ⊥) →
+    IsNoneOf (lost_by step t sealed a) u
+lost_here Issue t sealed a u ne = free_none t u ne
+lost_here Copy t sealed a u ne = nil_none u
+lost_here Reset t sealed a u ne = ref_none t u ne
+lost_here Free t sealed a u ne = own_none sealed t u a ne
+lost_here Write t sealed a u ne = own_none sealed t u a ne
 
 -- what is gained is the title's alone
-pub gained_here : (step : Step) (t : Title) (left : ℕ) (u : Title) → (t ≡ u → ⊥) → IsNoneOf (gained_by step t left) u
-gained_here Issue t left u ne = own_none t u Clean ne
-gained_here Copy t left u ne = ref_none t u ne
-gained_here Reset t left u ne = returned_here left t u ne
-gained_here Free t left u ne = returned_here left t u ne
-gained_here Write t left u ne = own_none t u Clean ne
+pub gained_here : (step : Step) (t : Title) (sealed : Bool) (left : ℕ) (u : Title) → (t ≡ u → ⊥) →
+    IsNoneOf (gained_by step t sealed left) u
+gained_here Issue t sealed left u ne = own_none false t u Clean ne
+gained_here Copy t sealed left u ne = ref_none t u ne
+gained_here Reset t sealed left u ne = returned_here left t u ne
+gained_here Free t sealed left u ne = returned_here left t u ne
+gained_here Write t sealed left u ne = own_none sealed t u Clean ne
 
 -- what is lost is no raw byte
-pub lost_raw : (step : Step) (t : Title) (a : OwnState) (b : ℕ) → held_in (lost_by step t a) (RawByte b) ≡ 0
-lost_raw Issue t a b = refl
-lost_raw Copy t a b = refl
-lost_raw Reset t a b = refl
-lost_raw Free t a b = refl
-lost_raw Write t a b = refl
+pub lost_raw : (step : Step) (t : Title) (sealed : Bool) (a : OwnState) (b : ℕ) → held_in (lost_by step t sealed a) (RawByte b) ≡ 0
+lost_raw Issue t sealed a b = refl
+lost_raw Copy t sealed a b = refl
+lost_raw Reset t sealed a b = refl
+lost_raw Free t sealed a b = refl
+lost_raw Write t sealed a b = refl
 
 -- what is gained is no raw byte
-pub gained_raw : (step : Step) (t : Title) (left b : ℕ) → held_in (gained_by step t left) (RawByte b) ≡ 0
-gained_raw Issue t left b = refl
-gained_raw Copy t left b = refl
-gained_raw Reset t left b = returned_raw left t b
-gained_raw Free t left b = returned_raw left t b
-gained_raw Write t left b = refl
+pub gained_raw : (step : Step) (t : Title) (sealed : Bool) (left b : ℕ) → held_in (gained_by step t sealed left) (RawByte b) ≡ 0
+gained_raw Issue t sealed left b = refl
+gained_raw Copy t sealed left b = refl
+gained_raw Reset t sealed left b = returned_raw left t b
+gained_raw Free t sealed left b = returned_raw left t b
+gained_raw Write t sealed left b = refl
 
 -- A counted step over all views: the title is held, the step is enabled at its word, which it changes, and all things
--- are held as before but for what the step moves.
+-- are held as before but for what the step moves. If it takes an Own, this is sealed or not.
 pub record IsCountStep (step : Step) (t : Title) (a : OwnState) (words : List ℕ) (total later : Thing → ℕ) : Type 0 where
+  pub sealed : Bool
   pub held : IsTitleHeld total t
   pub can : CanStep step (count_word words t)
-  pub changes : Changes total (lost_by step t a) (gained_by step t (stepped step (count_word words t))) later
+  pub changes : Changes total (lost_by step t sealed a) (gained_by step t sealed (stepped step (count_word words t))) later
 
 -- the words after it
 abbrev pub words_by : Step → Title → List ℕ → List ℕ
 words_by step t words = set words (count_place t) (stepped step (count_word words t))
 
 -- the step as a change at one title
-pub change_of : (step : Step) (t : Title) (a : OwnState) (words : List ℕ) (total later : Thing → ℕ) → IsCountStep step t a words total later →
-    IsChangeAt words total later t (lost_by step t a) (gained_by step t (stepped step (count_word words t))) (count_place t)
+pub change_of : (step : Step) (t : Title) (a : OwnState) (words : List ℕ) (total later : Thing → ℕ) →
+    (x : IsCountStep step t a words total later) →
+    IsChangeAt words total later t (lost_by step t x.sealed a) (gained_by step t x.sealed (stepped step (count_word words t)))
+    (count_place t)
 change_of step t a words total later x = record {
   changes = x.changes;
-  lost_here = lost_here step t a;
-  gained_here = gained_here step t (stepped step (count_word words t));
-  no_raw_lost = lost_raw step t a;
-  no_raw_gained = gained_raw step t (stepped step (count_word words t));
+  lost_here = lost_here step t x.sealed a;
+  gained_here = gained_here step t x.sealed (stepped step (count_word words t));
+  no_raw_lost = lost_raw step t x.sealed a;
+  no_raw_gained = gained_raw step t x.sealed (stepped step (count_word words t));
   place = (omega arith, omega arith);
 }
 
@@ -204,7 +210,7 @@ held_after step t a words total later idle budget steps h x u =
     elim (title_tells t u) [
       | inl y ↦
           let here : IsTitleHeld later t = counted_held (stepped step (count_word words t)) later t
-          (counted_after step (count_word words t) total later t a (h.good.counted t x.held) x.can x.changes) in
+          (counted_after step (count_word words t) total later t x.sealed a (h.good.counted t x.held) x.can x.changes) in
           ((λ _. subst (λ (z : Title). IsTitleHeld later z) y.1 here), (λ _. subst (λ (z : Title). IsTitleHeld total z) y.1 x.held))
       | inr n ↦
           let e = change_held words total later t _ _ (count_place t) (change_of step t a words total later x) u n.1 in
@@ -212,7 +218,8 @@ held_after step t a words total later idle budget steps h x u =
     ]
 
 -- another held title's word and handles stay
-pub other_stays : (step : Step) (t : Title) (a : OwnState) (words : List ℕ) (total later : Thing → ℕ) (idle : Title → ℕ) (budget steps : ℕ) →
+pub other_stays : (step : Step) (t : Title) (a : OwnState) (words : List ℕ) (total later : Thing → ℕ) (idle : Title → ℕ)
+    (budget steps : ℕ) →
     Holders words total idle budget steps → IsCountStep step t a words total later →
     (u : Title) → (t ≡ u → ⊥) → IsTitleHeld total u → IsUntouched words total (words_by step t words) later u
 other_stays step t a words total later idle budget steps h x u ne held =
@@ -228,8 +235,10 @@ word_here step t a words total later idle budget steps h x =
 
 -- a counted step keeps the part if the core stays good: it takes 1 of the budget, and the knowledge that a count is 0
 -- is true after it
-pub holders_count : (step : Step) (t : Title) (a : OwnState) (words : List ℕ) (total later : Thing → ℕ) (idle idle_after : Title → ℕ) (budget left steps : ℕ) →
-    Holders words total idle budget steps → IsCountStep step t a words total later → IsGood (words_by step t words) later → left + 1 ≡ budget →
+pub holders_count : (step : Step) (t : Title) (a : OwnState) (words : List ℕ) (total later : Thing → ℕ) (idle idle_after : Title → ℕ)
+    (budget left steps : ℕ) →
+    Holders words total idle budget steps → IsCountStep step t a words total later → IsGood (words_by step t words) later →
+    left + 1 ≡ budget →
     ((u : Title) → (t ≡ u → ⊥) → idle_after u ≡ idle u) →
     (0 < idle_after t → refs_of (stepped step (count_word words t)) ≡ 0) →
     ((u : Title) → 0 < idle u → IsTitleHeld total u) →
@@ -243,7 +252,8 @@ holders_count step t a words total later idle idle_after budget left steps h x g
     record {
       good = good;
       known = λ u some_idle. elim (title_tells t u) [
-        | inl y ↦ subst (λ (z : Title). 0 < idle_after z → refs_of (count_word (words_by step t words) z) ≡ 0) y.1 (λ i. rw word (here i)) some_idle
+        | inl y ↦ subst (λ (z : Title). 0 < idle_after z → refs_of (count_word (words_by step t words) z) ≡ 0) y.1
+            (λ i. rw word (here i)) some_idle
         | inr m ↦
             let e = others u m.1 in
             let was : 0 < idle u = omega arith in
@@ -260,7 +270,8 @@ holders_count step t a words total later idle idle_after budget left steps h x g
             rw same.word (omega arith)
       ];
       few_refs = λ u held. elim (title_tells t u) [
-        | inl y ↦ subst (λ (z : Title). refs_of (count_word (words_by step t words) z) ≤ number_of (count_word (words_by step t words) z)) y.1 (rw word (omega arith))
+        | inl y ↦ subst (λ (z : Title). refs_of (count_word (words_by step t words) z) ≤ number_of (count_word (words_by step t words) z))
+            y.1 (rw word (omega arith))
         | inr m ↦
             let before = (held_after step t a words total later idle budget steps h x u).1 held in
             let same = other_stays step t a words total later idle budget steps h x u m.1 before in

@@ -57,7 +57,8 @@ among_append k [] ms = record { either = inr refl; first = omega arith; second =
 among_append k (n ∷ ns) ms = go (eqb n.keeper k) (among_append k ns ms)
   where
     go : (b : Bool) → IsLongest (list_among k (ns ++ ms)) (list_among k ns) (list_among k ms) →
-        IsLongest (if b then longer n.entries (list_among k (ns ++ ms)) else list_among k (ns ++ ms)) (if b then longer n.entries (list_among k ns) else list_among k ns) (list_among k ms)
+        IsLongest (if b then longer n.entries (list_among k (ns ++ ms)) else list_among k (ns ++ ms))
+        (if b then longer n.entries (list_among k ns) else list_among k ns) (list_among k ms)
     go true again = longest_more n.entries (list_among k (ns ++ ms)) (list_among k ns) (list_among k ms) again
     go false again = again
 
@@ -105,7 +106,8 @@ pub beginnings_order : (a b l : List Made) → IsBeginning a l → IsBeginning b
 beginnings_order a b l f g long = order a b f.0 g.0 (sym f.1 ∙ g.1) long
 
 -- what notes say of a list is a beginning of it
-pub among_beginning : (list : ℕ → List Made) (k : ℕ) (ns : List SeenList) → Each (λ n. IsBeginning n.entries (list n.keeper)) ns → IsBeginning (list_among k ns) (list k)
+pub among_beginning : (list : ℕ → List Made) (k : ℕ) (ns : List SeenList) → Each (λ n. IsBeginning n.entries (list n.keeper)) ns →
+    IsBeginning (list_among k ns) (list k)
 among_beginning list k [] each = (list k, refl)
 among_beginning list k (n ∷ ns) each =
     let again = among_beginning list k ns each.1 in
@@ -117,7 +119,8 @@ among_beginning list k (n ∷ ns) each =
     ]
 
 -- what a stake made stays the same between two lists if it is the same in both
-pub made_between : (r : ℕ) (a b c : List Made) → IsBeginning a b → IsBeginning b c → made_with r a ≡ made_with r c → made_with r a ≡ made_with r b
+pub made_between : (r : ℕ) (a b c : List Made) → IsBeginning a b → IsBeginning b c → made_with r a ≡ made_with r c →
+    made_with r a ≡ made_with r b
 made_between r a b c f g same =
     let e : made_with r b ≡ made_with r a ++ made_with r f.0 = ap (made_with r) f.1 ∙ made_append r a f.0 in
     let h : made_with r c ≡ made_with r b ++ made_with r g.0 = ap (made_with r) g.1 ∙ made_append r b g.0 in

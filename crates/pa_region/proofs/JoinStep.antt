@@ -1,5 +1,5 @@
 -- A join keeps the rule.
-use Rattle.std.proofs.Common.{◌≡◌, ℕ, ◌+◌, ◌*◌, ◌<◌, ◌≤◌, ◌&&◌, append-nil, List, [], ◌∷◌, ◌++◌, length, set, refl, sym, ◌∙◌, ap, subst, arith, ◌⊎◌, inl, inr, eqb, ltb, leb}
+use Rattle.std.proofs.Common.{◌≡◌, ℕ, ◌+◌, ◌*◌, ◌<◌, ◌≤◌, ◌&&◌, ◌||◌, append-nil, List, [], ◌∷◌, ◌++◌, length, set, refl, sym, ◌∙◌, ap, subst, arith, ◌⊎◌, inl, inr, eqb, ltb, leb}
 use Rattle.std.specs.Prelude.{slice_index, if◌then◌else◌}
 use Rattle.std.specs.List.{sum_by}
 use Rattle.std.proofs.lemmas.List.Sums.{sum_by-append, sum_by-cons}
@@ -50,7 +50,7 @@ united_held v w x =
     omega arith
 
 united_idle : (v w : View) (t : Title) → idle_of (united v w) t ≡ idle_of v t + idle_of w t
-united_idle v w t = sum_by-append (λ (o : OwnTitle). one (same_title o.title t && o.idle)) v.owns w.owns
+united_idle v w t = sum_by-append (λ (o : OwnTitle). one (same_title o.title t && (o.idle || o.sealed))) v.owns w.owns
 
 pub united_parts : (v w : View) → IsParted (united v w) v w
 united_parts v w = record {
@@ -109,7 +109,11 @@ united_knows v w q (inl raw) =
 united_knows v w q (inr (inl free)) =
     let e = sum_by-append (λ u. one (same_title u free.0)) v.frees w.frees in
     let has = free.1 in
-    elim (cases_lt 0 (free_of v free.0)) [ inl y ↦ inl (inr (inl (free.0, y, free.2))) | inr n ↦ inr (inr (inl (free.0, omega arith, free.2))) ]
+    elim (cases_lt 0 (free_of v free.0)) [
+      | inl y ↦ inl (inr (inl (free.0, y, free.2)))
+      | inr n ↦
+          inr (inr (inl (free.0, omega arith, free.2)))
+    ]
 united_knows v w q (inr (inr own)) =
     let e = sum_by-append (λ (o : OwnTitle). one (same_title o.title own.0)) v.owns w.owns in
     let has = own.1 in
@@ -119,20 +123,25 @@ united_knows v w q (inr (inr own)) =
     ]
 
 -- the words of both are the words
-united_values : (words : List ℕ) (v w : View) → length v.words ≡ length w.words → ((q : ℕ) → Knows v q → slice_index v.words q ≡ slice_index words q) →
-    ((q : ℕ) → Knows w q → slice_index w.words q ≡ slice_index words q) → (q : ℕ) → Knows (united v w) q → slice_index (united v w).words q ≡ slice_index words q
+united_values : (words : List ℕ) (v w : View) → length v.words ≡ length w.words →
+    ((q : ℕ) → Knows v q → slice_index v.words q ≡ slice_index words q) →
+    ((q : ℕ) → Knows w q → slice_index w.words q ≡ slice_index words q) → (q : ℕ) → Knows (united v w) q →
+    slice_index (united v w).words q ≡ slice_index words q
 united_values words v w long mine other q knows =
     let at_q = subst (λ (n : ℕ). slice_index (merged v 0 v.words w.words) q ≡
     (if ltb 0 (knowing v n) then slice_index v.words q else slice_index w.words q)) (let z : 0 + q ≡ q = omega arith in z)
     (merged_at v 0 v.words w.words q long) in
     elim (cases_lt 0 (knowing v q)) [
       | inl y ↦ at_q ∙ rw (lt-ltb 0 (knowing v q) y) (mine q (knowing_knows v q y))
-      | inr n ↦ at_q ∙ rw (le-ltb 0 (knowing v q) n) (other q (elim (united_knows v w q knows) [ inl z ↦ (let k = knows_knowing v q z in absurd (omega arith)) | inr z ↦ z ]))
+      | inr n ↦ at_q ∙ rw (le-ltb 0 (knowing v q) n)
+          (other q (elim (united_knows v w q knows) [ inl z ↦ (let k = knows_knowing v q z in absurd (omega arith)) | inr z ↦ z ]))
     ]
 
 -- a fact of each view, when two are joined
-pub each_joined : (P : View → Type 0) (views : List View) (i j : ℕ) (v w both spent : View) → get_elem? views i ≡ some v → get_elem? (set views i both) j ≡ some w →
-    ((m : ℕ) (u : View) → get_elem? views m ≡ some u → P u) → P both → P spent → (m : ℕ) (u : View) → get_elem? (set (set views i both) j spent) m ≡ some u → P u
+pub each_joined : (P : View → Type 0) (views : List View) (i j : ℕ) (v w both spent : View) → get_elem? views i ≡ some v →
+    get_elem? (set views i both) j ≡ some w →
+    ((m : ℕ) (u : View) → get_elem? views m ≡ some u → P u) → P both → P spent → (m : ℕ) (u : View) →
+    get_elem? (set (set views i both) j spent) m ≡ some u → P u
 each_joined P views i j v w both spent at_i at_j before here rest =
     each_set P (set views i both) j w spent at_j
     (λ m u at_m ne. each_set P views i v both at_i (λ n x at_n other. before n x at_n) here m u at_m) rest
@@ -140,13 +149,16 @@ each_joined P views i j v w both spent at_i at_j before here rest =
 -- keepers' lists of both
 module _ (list : ℕ → List Made) (v w : View) (l : IsListed list v) (r : IsListed list w) where
   both_begins : (k : ℕ) → IsBeginning (list_of k (united v w)) (list k)
-  both_begins k = among_beginning list k (v.seen_lists ++ w.seen_lists) (each_append (λ n. IsBeginning n.entries (list n.keeper)) v.seen_lists w.seen_lists l.beginnings r.beginnings)
+  both_begins k = among_beginning list k (v.seen_lists ++ w.seen_lists)
+      (each_append (λ n. IsBeginning n.entries (list n.keeper)) v.seen_lists w.seen_lists l.beginnings r.beginnings)
 
   left_begins : (k : ℕ) → IsBeginning (list_of k v) (list_of k (united v w))
-  left_begins k = beginnings_order (list_of k v) (list_of k (united v w)) (list k) (among_beginning list k v.seen_lists l.beginnings) (both_begins k) (among_append k v.seen_lists w.seen_lists).first
+  left_begins k = beginnings_order (list_of k v) (list_of k (united v w)) (list k) (among_beginning list k v.seen_lists l.beginnings)
+      (both_begins k) (among_append k v.seen_lists w.seen_lists).first
 
   right_begins : (k : ℕ) → IsBeginning (list_of k w) (list_of k (united v w))
-  right_begins k = beginnings_order (list_of k w) (list_of k (united v w)) (list k) (among_beginning list k w.seen_lists r.beginnings) (both_begins k) (among_append k v.seen_lists w.seen_lists).second
+  right_begins k = beginnings_order (list_of k w) (list_of k (united v w)) (list k) (among_beginning list k w.seen_lists r.beginnings)
+      (both_begins k) (among_append k v.seen_lists w.seen_lists).second
 
   pub united_listed : IsListed list (united v w)
   united_listed = record {
@@ -157,20 +169,27 @@ module _ (list : ℕ → List Made) (v w : View) (l : IsListed list v) (r : IsLi
         let f = longest.first in let s = longest.second in
         beginning_whole (list_of k (united v w)) (list k) (both_begins k) (elim (cases_lt 0 (keeper_of v k)) [
           | inl y ↦ let a : length (list_of k v) ≡ length (list k) = ap (λ (ms : List Made). length ms) (l.whole k y) in omega arith
-          | inr n ↦ let a : length (list_of k w) ≡ length (list k) = ap (λ (ms : List Made). length ms) (r.whole k (omega arith)) in omega arith
+          | inr n ↦ let a : length (list_of k w) ≡ length (list k) = ap (λ (ms : List Made). length ms) (r.whole k (omega arith)) in
+              omega arith
         ]);
     kept = each_append (λ (q : Keeper). q.entries ≡ list q.number) v.keepers w.keepers l.kept r.kept;
     made = λ k. each_append (λ (s : Stake). made_with s.number (list k) ≡ entered_in k s.log) v.stakes w.stakes (l.made k) (r.made k);
     noticed = λ k. each_append (λ (s : Stake). made_with s.number (list_of k (united v w)) ≡ entered_in k s.log) v.stakes w.stakes
-        (each_both (λ (s : Stake). made_with s.number (list k) ≡ entered_in k s.log) (λ (s : Stake). made_with s.number (list_of k v) ≡ entered_in k s.log)
+        (each_both (λ (s : Stake). made_with s.number (list k) ≡ entered_in k s.log)
+        (λ (s : Stake). made_with s.number (list_of k v) ≡ entered_in k s.log)
         (λ (s : Stake). made_with s.number (list_of k (united v w)) ≡ entered_in k s.log) v.stakes
-        (λ s all some. sym (made_between s.number (list_of k v) (list_of k (united v w)) (list k) (left_begins k) (both_begins k) (some ∙ sym all)) ∙ some) (l.made k) (l.noticed k))
-        (each_both (λ (s : Stake). made_with s.number (list k) ≡ entered_in k s.log) (λ (s : Stake). made_with s.number (list_of k w) ≡ entered_in k s.log)
+        (λ s all some. sym (made_between s.number (list_of k v) (list_of k (united v w)) (list k) (left_begins k) (both_begins k)
+        (some ∙ sym all)) ∙ some) (l.made k) (l.noticed k))
+        (each_both (λ (s : Stake). made_with s.number (list k) ≡ entered_in k s.log)
+        (λ (s : Stake). made_with s.number (list_of k w) ≡ entered_in k s.log)
         (λ (s : Stake). made_with s.number (list_of k (united v w)) ≡ entered_in k s.log) w.stakes
-        (λ s all some. sym (made_between s.number (list_of k w) (list_of k (united v w)) (list k) (right_begins k) (both_begins k) (some ∙ sym all)) ∙ some) (r.made k) (r.noticed k));
+        (λ s all some. sym (made_between s.number (list_of k w) (list_of k (united v w)) (list k) (right_begins k) (both_begins k)
+        (some ∙ sym all)) ∙ some) (r.made k) (r.noticed k));
     follows = λ k. elim (among_append k v.seen_lists w.seen_lists).either [
-      | inl y ↦ rw y (each_map (IsKnownTo v.seen) (IsKnownTo (v.seen ++ w.seen)) (list_of k v) (λ m known t. let a = known t in let b = seen_left t v.seen w.seen in omega arith) (l.follows k))
-      | inr n ↦ rw n (each_map (IsKnownTo w.seen) (IsKnownTo (v.seen ++ w.seen)) (list_of k w) (λ m known t. let a = known t in let b = seen_right t v.seen w.seen in omega arith) (r.follows k))
+      | inl y ↦ rw y (each_map (IsKnownTo v.seen) (IsKnownTo (v.seen ++ w.seen)) (list_of k v)
+          (λ m known t. let a = known t in let b = seen_left t v.seen w.seen in omega arith) (l.follows k))
+      | inr n ↦ rw n (each_map (IsKnownTo w.seen) (IsKnownTo (v.seen ++ w.seen)) (list_of k w)
+          (λ m known t. let a = known t in let b = seen_right t v.seen w.seen in omega arith) (r.follows k))
     ];
     handles = λ t has.
         let o = sum_by-append (λ (x : OwnTitle). one (same_title x.title t)) v.owns w.owns in
@@ -214,12 +233,16 @@ united_steady steps v w can s = record {
       let e = sum_by-append (λ (o : OwnTitle). one (same_title o.title t && is_poisoned o.state)) v.owns w.owns in
       let l = poisoned_unclean w t in
       let z = can.clean in
-      let none : w.stakes ≡ [] = no_stakes w.stakes (λ k. elim (cases_lt 0 (stake_of w k)) [ inl y ↦ let c = can.apart k t y in absurd (omega arith) | inr n ↦ omega arith ]) in
-      subst (λ (ss : List Stake). IsAlone (least_stake ss) t steps) (sym (ap (λ (ss : List Stake). v.stakes ++ ss) none ∙ append-nil v.stakes)) (s.near t did (omega arith));
+      let none : w.stakes ≡ [] =
+      no_stakes w.stakes (λ k. elim (cases_lt 0 (stake_of w k))
+      [ inl y ↦ let c = can.apart k t y in absurd (omega arith) | inr n ↦ omega arith ]) in
+      subst (λ (ss : List Stake). IsAlone (least_stake ss) t steps)
+      (sym (ap (λ (ss : List Stake). v.stakes ++ ss) none ∙ append-nil v.stakes)) (s.near t did (omega arith));
 }
 
 -- a join keeps the rule
-pub join_keeps : (words : List ℕ) (views : List View) (i j : ℕ) (v w : View) → IsKept words views → get_elem? views i ≡ some v → get_elem? views j ≡ some w → (j ≡ i → ⊥) →
+pub join_keeps : (words : List ℕ) (views : List View) (i j : ℕ) (v w : View) → IsKept words views → get_elem? views i ≡ some v →
+    get_elem? views j ≡ some w → (j ≡ i → ⊥) →
     get_elem? (set views i (united v w)) j ≡ some w → CanTake v w → IsKept words (set (set views i (united v w)) j (spent_of w))
 join_keeps words views i j v w k at_i was_j ne at_j can =
     let both = united v w in
@@ -228,11 +251,13 @@ join_keeps words views i j v w k at_i was_j ne at_j can =
     let known : (q : ℕ) → Knows both q → slice_index both.words q ≡ slice_index (byte_words words) q =
     united_values (byte_words words) v w long (λ q knows. k.values.known i q v at_i knows) (λ q knows. k.values.known j q w was_j knows) in
     kept_regrouped words views (set (set views i both) j spent) k
-    (joined_regroups views i j v w both spent at_i at_j (united_parts v w) (λ t. let e = united_idle v w t in omega arith) (spent_parts w) refl refl can)
+    (joined_regroups views i j v w both spent at_i at_j (united_parts v w) (λ t. let e = united_idle v w t in omega arith)
+    (spent_parts w) refl refl can)
     (record {
       long = each_joined (λ u. length u.words ≡ length (byte_words words)) views i j v w both spent at_i at_j k.values.long
           (merged_long v 0 v.words w.words long ∙ k.values.long i v at_i) (k.values.long j w was_j);
-      known = λ m q u at_m. each_joined (λ u. Knows u q → slice_index u.words q ≡ slice_index (byte_words words) q) views i j v w both spent at_i at_j
+      known = λ m q u at_m. each_joined (λ u. Knows u q →
+          slice_index u.words q ≡ slice_index (byte_words words) q) views i j v w both spent at_i at_j
           (λ n x at_n. k.values.known n q x at_n) (known q) (λ knows. absurd (spent_knows w q knows)) m u at_m;
     })
     (each_joined (IsListed k.list) views i j v w both spent at_i at_j k.lists.each_view
@@ -252,15 +277,19 @@ join_keeps words views i j v w k at_i was_j ne at_j can =
     omega arith))
     (reader_handed k.history (byte_words words) spent refl (λ some_own. absurd (omega arith))))
     (each_joined (IsLoggedIn k.all) views i j v w both spent at_i at_j k.ordered.logs
-    (each_append (λ (s : Stake). s.log ≡ by_stake s.number k.all) v.stakes w.stakes (k.ordered.logs i v at_i) (k.ordered.logs j w was_j)) tt)
-    (each_joined (IsSteady k.steps) views i j v w both spent at_i at_j k.filled.each_view (united_steady k.steps v w can (k.filled.each_view i v at_i))
+    (each_append (λ (s : Stake). s.log ≡ by_stake s.number k.all) v.stakes w.stakes (k.ordered.logs i v at_i) (k.ordered.logs j w was_j))
+    tt)
+    (each_joined (IsSteady k.steps) views i j v w both spent at_i at_j k.filled.each_view
+    (united_steady k.steps v w can (k.filled.each_view i v at_i))
     (steady_handed k.steps spent refl (λ t. refl)))
   where
-    free_place : (m : ℕ) (u : View) (t : Title) → get_elem? views m ≡ some u → 0 < free_of u t → count_word u.words t ≡ count_word (byte_words words) t
+    free_place : (m : ℕ) (u : View) (t : Title) → get_elem? views m ≡ some u → 0 < free_of u t →
+        count_word u.words t ≡ count_word (byte_words words) t
     free_place m u t at_m free = free_word_known words views m u t k.holders.good k.values at_m free
 
     united_free : (t : Title) → ((q : ℕ) → Knows (united v w) q → slice_index (united v w).words q ≡ slice_index (byte_words words) q) →
-        (0 < free_of v t) ⊎ (0 < free_of w t) → 0 < free_of (united v w) t → number_of (count_word (united v w).words t) ≤ seen_of (united v w) t
+        (0 < free_of v t) ⊎ (0 < free_of w t) → 0 < free_of (united v w) t →
+        number_of (count_word (united v w).words t) ≤ seen_of (united v w) t
     united_free t known whose free =
         let a = seen_left t v.seen w.seen in
         let b = seen_right t v.seen w.seen in
@@ -275,9 +304,11 @@ join_keeps words views i j v w k at_i was_j ne at_j can =
               omega arith
         ]
       where
-        here : (m : ℕ) (u : View) → get_elem? views m ≡ some u → 0 < free_of u t → number_of (count_word (united v w).words t) ≡ number_of (count_word u.words t)
+        here : (m : ℕ) (u : View) → get_elem? views m ≡ some u → 0 < free_of u t →
+            number_of (count_word (united v w).words t) ≡ number_of (count_word u.words t)
         here m u at_m mine =
             let f = frees_have u t in
             let held = held_in_all words views m u t at_m (omega arith) in
-            let covers = word_covered (length (byte_words words)) t (count_place t) (k.holders.good.divided.well t held) (omega arith, omega arith) in
+            let covers = word_covered (length (byte_words words)) t (count_place t) (k.holders.good.divided.well t held)
+            (omega arith, omega arith) in
             ap number_of (known (count_place t) (inr (inl (t, free, covers))) ∙ sym (free_place m u t at_m mine))

@@ -16,7 +16,8 @@ one_le : (a b : ℕ) → ((one (leb a b) ≡ 1) × (a ≤ b)) ⊎ ((one (leb a b
 one_le a b = elim (cases_lt b a) [ inl y ↦ inr (ap one (lt-leb a b y), y) | inr n ↦ inl (ap one (le-leb a b n), n) ]
 
 -- numbers in a row are counted as stakes in a row are
-number_count : (from count k : ℕ) → sum_by (λ x. one (eqb x k)) (numbers_from from count) ≡ sum_by (λ (s : Stake). one (eqb s.number k)) (stakes_from from count)
+number_count : (from count k : ℕ) →
+    sum_by (λ x. one (eqb x k)) (numbers_from from count) ≡ sum_by (λ (s : Stake). one (eqb s.number k)) (stakes_from from count)
 number_count from zero k = refl
 number_count from (suc count) k =
     let again = number_count (suc from) count k in
@@ -35,7 +36,8 @@ cut_at f n m low =
             | inl z ↦ let z1 = z.1 in absurd (omega arith)
             | inr z ↦ let z0 = z.0 in elim (one_eq n m) [
               | inl e ↦ let e1 = e.1 in absurd (omega arith)
-              | inr e ↦ let e0 = e.0 in elim (one_le f m) [ inl g ↦ let g0 = g.0 in omega arith | inr g ↦ let g1 = g.1 in absurd (omega arith) ]
+              | inr e ↦ let e0 = e.0 in
+                  elim (one_le f m) [ inl g ↦ let g0 = g.0 in omega arith | inr g ↦ let g1 = g.1 in absurd (omega arith) ]
             ]
           ]
       | inr y ↦
@@ -43,10 +45,12 @@ cut_at f n m low =
           elim (one_le (suc n) m) [
             | inl z ↦ let z0 = z.0 in let z1 = z.1 in elim (one_eq n m) [
               | inl e ↦ let e1 = e.1 in absurd (omega arith)
-              | inr e ↦ let e0 = e.0 in elim (one_le f m) [ inl g ↦ let g0 = g.0 in omega arith | inr g ↦ let g1 = g.1 in absurd (omega arith) ]
+              | inr e ↦ let e0 = e.0 in
+                  elim (one_le f m) [ inl g ↦ let g0 = g.0 in omega arith | inr g ↦ let g1 = g.1 in absurd (omega arith) ]
             ]
             | inr z ↦ let z0 = z.0 in let z1 = z.1 in elim (one_eq n m) [
-              | inl e ↦ let e0 = e.0 in let e1 = e.1 in elim (one_le f m) [ inl g ↦ let g0 = g.0 in omega arith | inr g ↦ let g1 = g.1 in absurd (omega arith) ]
+              | inl e ↦ let e0 = e.0 in let e1 = e.1 in
+                  elim (one_le f m) [ inl g ↦ let g0 = g.0 in omega arith | inr g ↦ let g1 = g.1 in absurd (omega arith) ]
               | inr e ↦ let e0 = e.0 in elim (one_le f m) [
                 | inl g ↦ let g1 = g.1 in absurd (y.0 (g1, between n m e.1 z1))
                 | inr g ↦ let g0 = g.0 in omega arith
@@ -91,7 +95,8 @@ lease_sum n l has m =
     ]
 
 -- all that are given
-pub leases_sum : (ns : List ℕ) (l : Leases) → HasLeases ns l → (m : ℕ) → lease_in (leases_out ns l) m + sum_by (λ x. one (eqb x m)) ns ≡ lease_in l m
+pub leases_sum : (ns : List ℕ) (l : Leases) → HasLeases ns l → (m : ℕ) →
+    lease_in (leases_out ns l) m + sum_by (λ x. one (eqb x m)) ns ≡ lease_in l m
 leases_sum [] l has m = omega arith
 leases_sum (n ∷ ns) l has m =
     let again = leases_sum ns (lease_out n l) has.1 m in

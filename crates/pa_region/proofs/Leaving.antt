@@ -10,7 +10,7 @@ use Rattle.pa_slot.specs.declared.word.Step.{Step}
 use Rattle.pa_slot.specs.declared.word.Step.TheVariants.{Issue, Copy, Reset, Free, Write}
 use Rattle.pa_slot.specs.Count.{stepped}
 use Rattle.pa_slot.specs.Titles.{same_title, content_count, count_place, count_word, poison}
-use Rattle.pa_slot.specs.Holdings.{FreePiece, FreeTitle, OwnOf, OwnAs, RefOf, one, held_in}
+use Rattle.pa_slot.specs.Holdings.{FreePiece, FreeTitle, OwnOf, OwnAs, SealedOwn, RefOf, one, held_in}
 use Rattle.pa_region.specs.declared.view.OwnTitle.{OwnTitle}
 use Rattle.pa_region.specs.declared.view.Entry.{Entry}
 use Rattle.pa_region.specs.declared.view.Entry.TheVariants.{Entered}
@@ -23,7 +23,7 @@ use Rattle.pa_region.specs.Moves.{CanCount, is_back, is_own_of, changed, filled_
 use Rattle.pa_region.specs.Entries.{new_entry, with_made, is_keeper, CanEnter, after_enter}
 use Rattle.pa_region.specs.Leaves.{LeavesEntry, takes_free, takes_own, takes_ref, makes_ref, gives_back, LeavesCount, HoldsSame, LeavesEnter, OneOwnChanged}
 use Rattle.pa_region.proofs.Adding.{first_of, changed_sum}
-use Rattle.pa_region.proofs.Pieces.{frees_have, owns_have, refs_have, owns_as_have, handle_piece, lost_by, gained_by, moved_changes}
+use Rattle.pa_region.proofs.Pieces.{frees_have, owns_have, refs_have, owns_as_have, seals_have, handle_piece, lost_by, gained_by, moved_changes}
 use Rattle.pa_region.proofs.Entering.{with_entry_last, least_there, noted_logs, noted_stakes, least_noted}
 use Rattle.pa_region.proofs.Waitings.{log_changed, last_noted}
 use Rattle.pa_region.proofs.MovedRest.{moved_raws, moved_stakes, moved_uncut, moved_seen, entry_of}
@@ -33,7 +33,8 @@ use Rattle.pa_region.proofs.LookStep.{look_holds}
 use Rattle.pa_region.proofs.EnterLists.{seen_after}
 
 -- the log of another number
-log_beside : (n k : ℕ) (e : Entry) (ss : List Stake) → (k ≡ n → ⊥) → log_among k (changed (λ (s : Stake). eqb s.number n) (with_entry_last e) ss) ≡ log_among k ss
+log_beside : (n k : ℕ) (e : Entry) (ss : List Stake) → (k ≡ n → ⊥) →
+    log_among k (changed (λ (s : Stake). eqb s.number n) (with_entry_last e) ss) ≡ log_among k ss
 log_beside n k e [] ne = refl
 log_beside n k e (s ∷ ss) ne = elim (eqb_tells s.number n) [
   | inl y ↦ elim (eqb_tells s.number k) [ inl z ↦ absurd (ne (sym z.1 ∙ y.1)) | inr z ↦ rw (y.0, z.0) refl ]
@@ -52,50 +53,55 @@ entry_leaves e v w has same = record {
 }
 
 -- what a step takes and gives of free titles, Owns and Refs
-lost_free : (step : Step) (t : Title) (a : OwnState) (u : Title) → held_in (lost_by step t a) (FreeTitle u) ≡ one (takes_free step && same_title t u)
-lost_free Issue t a u = omega arith
-lost_free Copy t a u = refl
-lost_free Reset t a u = refl
-lost_free Free t a u = refl
-lost_free Write t a u = refl
+lost_free : (step : Step) (t : Title) (sealed : Bool) (a : OwnState) (u : Title) →
+    held_in (lost_by step t sealed a) (FreeTitle u) ≡ one (takes_free step && same_title t u)
+lost_free Issue t sealed a u = omega arith
+lost_free Copy t sealed a u = refl
+lost_free Reset t sealed a u = refl
+lost_free Free t sealed a u = refl
+lost_free Write t sealed a u = refl
 
 back_free : (b : Bool) (t u : Title) → held_in (if b then FreePiece t ∷ [] else []) (FreeTitle u) ≡ one (b && same_title t u)
 back_free true t u = omega arith
 back_free false t u = refl
 
-gained_free : (step : Step) (t : Title) (left : ℕ) (u : Title) → held_in (gained_by step t left) (FreeTitle u) ≡ one (gives_back step left && same_title t u)
-gained_free Issue t left u = refl
-gained_free Copy t left u = refl
-gained_free Reset t left u = back_free (is_back left) t u
-gained_free Free t left u = back_free (is_back left) t u
-gained_free Write t left u = refl
+gained_free : (step : Step) (t : Title) (sealed : Bool) (left : ℕ) (u : Title) →
+    held_in (gained_by step t sealed left) (FreeTitle u) ≡ one (gives_back step left && same_title t u)
+gained_free Issue t sealed left u = refl
+gained_free Copy t sealed left u = refl
+gained_free Reset t sealed left u = back_free (is_back left) t u
+gained_free Free t sealed left u = back_free (is_back left) t u
+gained_free Write t sealed left u = refl
 
 back_own : (b : Bool) (t u : Title) → held_in (if b then FreePiece t ∷ [] else []) (OwnOf u) ≡ 0
 back_own true t u = refl
 back_own false t u = refl
 
-own_change : (step : Step) (t : Title) (a : OwnState) (left : ℕ) (u : Title) →
-    held_in (lost_by step t a) (OwnOf u) + one (takes_free step && same_title t u) ≡ held_in (gained_by step t left) (OwnOf u) + one (takes_own step && same_title t u)
-own_change Issue t a left u = omega arith
-own_change Copy t a left u = refl
-own_change Reset t a left u = let b = back_own (is_back left) t u in omega arith
-own_change Free t a left u = let b = back_own (is_back left) t u in omega arith
-own_change Write t a left u = omega arith
+own_change : (step : Step) (t : Title) (sealed : Bool) (a : OwnState) (left : ℕ) (u : Title) →
+    held_in (lost_by step t sealed a) (OwnOf u) + one (takes_free step && same_title t u)
+    ≡ held_in (gained_by step t sealed left) (OwnOf u) + one (takes_own step && same_title t u)
+own_change Issue t sealed a left u = omega arith
+own_change Copy t sealed a left u = refl
+own_change Reset t sealed a left u = let b = back_own (is_back left) t u in omega arith
+own_change Free t sealed a left u = let b = back_own (is_back left) t u in omega arith
+own_change Write t sealed a left u = omega arith
 
 back_ref : (b : Bool) (t u : Title) → held_in (if b then FreePiece t ∷ [] else []) (RefOf u) ≡ 0
 back_ref true t u = refl
 back_ref false t u = refl
 
-ref_change : (step : Step) (t : Title) (a : OwnState) (left : ℕ) (u : Title) →
-    held_in (lost_by step t a) (RefOf u) + one (makes_ref step && same_title t u) ≡ held_in (gained_by step t left) (RefOf u) + one (takes_ref step && same_title t u)
-ref_change Issue t a left u = refl
-ref_change Copy t a left u = omega arith
-ref_change Reset t a left u = let b = back_ref (is_back left) t u in omega arith
-ref_change Free t a left u = let b = back_ref (is_back left) t u in omega arith
-ref_change Write t a left u = refl
+ref_change : (step : Step) (t : Title) (sealed : Bool) (a : OwnState) (left : ℕ) (u : Title) →
+    held_in (lost_by step t sealed a) (RefOf u) + one (makes_ref step && same_title t u)
+    ≡ held_in (gained_by step t sealed left) (RefOf u) + one (takes_ref step && same_title t u)
+ref_change Issue t sealed a left u = refl
+ref_change Copy t sealed a left u = omega arith
+ref_change Reset t sealed a left u = let b = back_ref (is_back left) t u in omega arith
+ref_change Free t sealed a left u = let b = back_ref (is_back left) t u in omega arith
+ref_change Write t sealed a left u = refl
 
 -- the words if the title isn't given back
-words_stay : (step : Step) (t : Title) (word : ℕ) (v : View) → gives_back step (stepped step word) ≡ false → (moved step t word v).words ≡ v.words
+words_stay : (step : Step) (t : Title) (word : ℕ) (v : View) → gives_back step (stepped step word) ≡ false →
+    (moved step t word v).words ≡ v.words
 words_stay Issue t word v e = refl
 words_stay Copy t word v e = refl
 words_stay Reset t word v e = rw e refl
@@ -109,15 +115,19 @@ words_beside Issue t word v q out = refl
 words_beside Copy t word v q out = refl
 words_beside Reset t word v q out = go (is_back (stepped Reset word))
   where
-    go : (b : Bool) → slice_index (if b then set (filled_with poison t (content_count t) v.words) (count_place t) (stepped Reset word) else v.words) q ≡ slice_index v.words q
+    go : (b : Bool) → slice_index
+        (if b then set (filled_with poison t (content_count t) v.words) (count_place t) (stepped Reset word) else v.words) q ≡ slice_index
+        v.words q
     go true =
-        get_or-set_other (filled_with poison t (content_count t) v.words) (count_place t) q (stepped Reset word) 0 (λ e. elim out [ inl y ↦ absurd (omega arith) | inr m ↦ absurd (omega arith) ])
+        get_or-set_other (filled_with poison t (content_count t) v.words) (count_place t) q (stepped Reset word) 0
+        (λ e. elim out [ inl y ↦ absurd (omega arith) | inr m ↦ absurd (omega arith) ])
         ∙ filled_beside poison t (content_count t) v.words q (elim out [ inl y ↦ inl y | inr m ↦ inr (omega arith) ])
     go false = refl
 words_beside Free t word v q out = go (is_back (stepped Free word))
   where
     go : (b : Bool) → slice_index (if b then set v.words (count_place t) (stepped Free word) else v.words) q ≡ slice_index v.words q
-    go true = get_or-set_other v.words (count_place t) q (stepped Free word) 0 (λ e. elim out [ inl y ↦ absurd (omega arith) | inr m ↦ absurd (omega arith) ])
+    go true = get_or-set_other v.words (count_place t) q (stepped Free word) 0
+        (λ e. elim out [ inl y ↦ absurd (omega arith) | inr m ↦ absurd (omega arith) ])
     go false = refl
 words_beside Write t word v q out = refl
 
@@ -133,7 +143,8 @@ word_back Free t word v e below = rw e (get_or-set_same v.words (count_place t) 
 word_back Write t word v e below = absurd (cc)
 
 -- what a counted step leaves
-pub count_leaves : (step : Step) (t : Title) (word : ℕ) (v : View) → CanCount step t v → LeavesCount step t word v (after_count step t word v)
+pub count_leaves : (step : Step) (t : Title) (word : ℕ) (v : View) → CanCount step t v →
+    LeavesCount step t word v (after_count step t word v)
 count_leaves step t word v can =
     let w = after_count step t word v in
     let moves = moved_changes step t word v (handle_piece step t v can.0) in
@@ -141,17 +152,18 @@ count_leaves step t word v can =
     record {
       raws = moved_raws step t word v;
       frees = λ u.
-          let e = moves.1 (FreeTitle u) in let l = lost_free step t moves.0 u in let g = gained_free step t (stepped step word) u in
+          let e = moves.changes (FreeTitle u) in
+          let l = lost_free step t moves.sealed moves.state u in let g = gained_free step t moves.sealed (stepped step word) u in
           let a = frees_have v u in let b = frees_have w u in
           let same : held_of_view w (FreeTitle u) ≡ held_of_view (moved step t word v) (FreeTitle u) = refl in
           omega arith;
       owns = λ u.
-          let e = moves.1 (OwnOf u) in let c = own_change step t moves.0 (stepped step word) u in
+          let e = moves.changes (OwnOf u) in let c = own_change step t moves.sealed moves.state (stepped step word) u in
           let a = owns_have v u in let b = owns_have w u in
           let same : held_of_view w (OwnOf u) ≡ held_of_view (moved step t word v) (OwnOf u) = refl in
           omega arith;
       refs = λ u.
-          let e = moves.1 (RefOf u) in let c = ref_change step t moves.0 (stepped step word) u in
+          let e = moves.changes (RefOf u) in let c = ref_change step t moves.sealed moves.state (stepped step word) u in
           let a = refs_have v u in let b = refs_have w u in
           let same : held_of_view w (RefOf u) ≡ held_of_view (moved step t word v) (RefOf u) = refl in
           omega arith;
@@ -172,7 +184,10 @@ pub look_leaves : (t : Title) (word : ℕ) (v : View) → HoldsSame v (after_loo
 look_leaves t word v = record {
   frees = λ u. refl;
   owns = λ u. let e = look_holds t word v (OwnOf u) in let a = owns_have v u in let b = owns_have (after_look t word v) u in omega arith;
-  states = λ u a. let e = look_holds t word v (OwnAs u a) in let x = owns_as_have v u a in let y = owns_as_have (after_look t word v) u a in omega arith;
+  states = λ u a. let e = look_holds t word v (OwnAs u a) in let x = owns_as_have v u a in let y = owns_as_have (after_look t word v) u a in
+      omega arith;
+  sealed = λ u. let e = look_holds t word v (SealedOwn u) in let x = seals_have v u in let y = seals_have (after_look t word v) u in
+      omega arith;
   refs = λ u. refl;
 }
 
@@ -186,7 +201,8 @@ enter_leaves k numbers v can = record {
 }
 
 -- the change of one Own
-pub one_own : (t : Title) (change : OwnTitle → OwnTitle) (os : List OwnTitle) → 0 < sum_by (λ (o : OwnTitle). one (same_title o.title t)) os →
+pub one_own : (t : Title) (change : OwnTitle → OwnTitle) (os : List OwnTitle) →
+    0 < sum_by (λ (o : OwnTitle). one (same_title o.title t)) os →
     (o : OwnTitle) × OneOwnChanged t change os o
 one_own t change os has =
     let first = first_of (is_own_of t) os has in (

@@ -67,7 +67,8 @@ no_log k (s ∷ ss) none =
       | inr n ↦ rw n.0 (no_log k ss (omega arith))
     ]
 
-pub log_filter : (test : ℕ → Bool) (k : ℕ) (ss : List Stake) → test k ≡ true → log_among k (filter (λ (s : Stake). test s.number) ss) ≡ log_among k ss
+pub log_filter : (test : ℕ → Bool) (k : ℕ) (ss : List Stake) → test k ≡ true →
+    log_among k (filter (λ (s : Stake). test s.number) ss) ≡ log_among k ss
 log_filter test k [] passes = refl
 log_filter test k (s ∷ ss) passes = elim (eqb_tells s.number k) [
   | inl y ↦ let t : test s.number ≡ true = ap test y.1 ∙ passes in rw (t, y.0) refl
@@ -108,7 +109,8 @@ pub begins_on : (a b c : List Made) → IsBeginning a b → IsBeginning b c → 
 begins_on a b c f g = (f.0 ++ g.0, g.1 ∙ (ap (λ xs. xs ++ g.0) f.1 ∙ append_assoc a f.0 g.0))
 
 -- a view that gets a stake back keeps what it has
-lend_keeps : (lender done : View) (r : ℕ) → CanHand (stake_parcel r) lender → CanHand (stake_parcel r) done → length lender.words ≡ length done.words →
+lend_keeps : (lender done : View) (r : ℕ) → CanHand (stake_parcel r) lender → CanHand (stake_parcel r) done →
+    length lender.words ≡ length done.words →
     IsAware (united (left_after (stake_parcel r) lender) (given_after (stake_parcel r) done)) → stake_of done r ≡ stake_of lender r →
     Keeps lender (united (left_after (stake_parcel r) lender) (given_after (stake_parcel r) done))
 lend_keeps lender done r can there long aware back =
@@ -119,7 +121,8 @@ lend_keeps lender done r can there long aware back =
     record {
       things = λ x. let e = parts.things x in omega arith;
       floors = λ b n. let e = parts.floors b n in omega arith;
-      idle = λ t. let e = sum_by-append (λ (o : OwnTitle). one (same_title o.title t && o.idle)) l.owns g.owns in omega arith;
+      idle = λ t.
+          let e = sum_by-append (λ (o : OwnTitle). one (same_title o.title t && (o.idle || o.sealed))) l.owns g.owns in omega arith;
       poisoned = λ t. let e = parts.poisoned t in omega arith;
       unclean = let e = parts.unclean in omega arith;
       budget = omega arith;
@@ -128,10 +131,12 @@ lend_keeps lender done r can there long aware back =
           let c = cut.stakes k in
           elim (eqb_tells k r) [
             | inl y ↦ subst (λ (n : ℕ). stake_of (united l g) n ≡ stake_of lender n) (sym y.1)
-                (let e1 = parts.stakes r in let c1 = cut.stakes r in let a = given_stake r done in let b = given_stake r lender in omega arith)
+                (let e1 = parts.stakes r in let c1 = cut.stakes r in let a = given_stake r done in let b = given_stake r lender in
+                omega arith)
             | inr n ↦ let a = given_beside r k done n.1 in let b = given_beside r k lender n.1 in omega arith
           ];
-      keepers = λ k. let e = parts.keepers k in let c = cut.keepers k in let a = given_keeper r k done in let b = given_keeper r k lender in omega arith;
+      keepers = λ k. let e = parts.keepers k in let c = cut.keepers k in let a = given_keeper r k done in let b = given_keeper r k lender in
+          omega arith;
       leases = λ n. let e = parts.leases n in omega arith;
       words = λ q knows. left_known l g q long (knows_less lender l q (λ x. omega arith) knows);
       seen = λ t. seen_left t lender.seen done.seen;
@@ -140,7 +145,8 @@ lend_keeps lender done r can there long aware back =
     }
 
 -- a seat that gets its stake back keeps what it has, and its logs have what was done with the stake
-pub lends_back : (lender done : View) (r : ℕ) (more : List Entry) → IsAware lender → CanHand (stake_parcel r) lender → CanHand (stake_parcel r) done →
+pub lends_back : (lender done : View) (r : ℕ) (more : List Entry) → IsAware lender → CanHand (stake_parcel r) lender →
+    CanHand (stake_parcel r) done →
     length lender.words ≡ length done.words → IsAware (united (left_after (stake_parcel r) lender) (given_after (stake_parcel r) done)) →
     stake_of done r ≡ stake_of lender r → log_of r done ≡ log_of r lender ++ more →
     Lends r more lender (united (left_after (stake_parcel r) lender) (given_after (stake_parcel r) done))
@@ -173,7 +179,8 @@ lends_back lender done r more mine can there long aware back logged = record {
     beside k ne =
         let c = cut k in let a = given_beside r k lender ne in let b = given_beside r k done ne in
         elim (cases_lt 0 (stake_of l k)) [
-          | inl y ↦ log_left k l.stakes g.stakes y ∙ log_filter (λ n. not ((stake_parcel r).stakes n)) k lender.stakes (ap not (marked_beside r k ne))
+          | inl y ↦ log_left k l.stakes g.stakes y ∙
+              log_filter (λ n. not ((stake_parcel r).stakes n)) k lender.stakes (ap not (marked_beside r k ne))
           | inr n ↦ log_right k l.stakes g.stakes (omega arith) ∙ (no_log k g.stakes b ∙ sym (no_log k lender.stakes (omega arith)))
         ]
 
@@ -196,8 +203,10 @@ keeps_on u v w a b = record {
 }
 
 -- a view that had the stake keeps what it has
-pub host_keeps : (host lender done : View) (r : ℕ) → CanHand (stake_parcel r) lender → CanHand (stake_parcel r) done → length host.words ≡ length lender.words →
-    IsAware (united host (given_after (stake_parcel r) lender)) → stake_of host r ≡ 0 → Keeps (united host (given_after (stake_parcel r) lender)) done →
+pub host_keeps : (host lender done : View) (r : ℕ) → CanHand (stake_parcel r) lender → CanHand (stake_parcel r) done →
+    length host.words ≡ length lender.words →
+    IsAware (united host (given_after (stake_parcel r) lender)) → stake_of host r ≡ 0 →
+    Keeps (united host (given_after (stake_parcel r) lender)) done →
     Keeps host (left_after (stake_parcel r) done)
 host_keeps host lender done r can there long aware none k =
     let g = given_after (stake_parcel r) lender in
@@ -208,7 +217,9 @@ host_keeps host lender done r can there long aware none k =
     record {
       things = λ x. let e = parts.things x in let f = k.things x in omega arith;
       floors = λ b n. let e = parts.floors b n in let f = k.floors b n in omega arith;
-      idle = λ t. let e = sum_by-append (λ (o : OwnTitle). one (same_title o.title t && o.idle)) host.owns g.owns in let f = k.idle t in omega arith;
+      idle = λ t.
+          let e = sum_by-append (λ (o : OwnTitle). one (same_title o.title t && (o.idle || o.sealed))) host.owns g.owns in
+          let f = k.idle t in omega arith;
       poisoned = λ t. let e = parts.poisoned t in let f = k.poisoned t in omega arith;
       unclean = let e = parts.unclean in let f = k.unclean in omega arith;
       budget = let f = k.budget in omega arith;
@@ -216,11 +227,14 @@ host_keeps host lender done r can there long aware none k =
           elim (eqb_tells n r) [
             | inl y ↦ subst (λ (m : ℕ). stake_of l m ≡ stake_of host m) (sym y.1)
                 (let e = parts.stakes r in let f = k.stakes r in let c = cut.stakes r in let a = given_stake r done in omega arith)
-            | inr m ↦ let e = parts.stakes n in let f = k.stakes n in let c = cut.stakes n in let a = given_beside r n done m.1 in let b = given_beside r n lender m.1 in omega arith
+            | inr m ↦ let e = parts.stakes n in let f = k.stakes n in let c = cut.stakes n in let a = given_beside r n done m.1 in
+                let b = given_beside r n lender m.1 in omega arith
           ];
-      keepers = λ n. let e = parts.keepers n in let f = k.keepers n in let c = cut.keepers n in let a = given_keeper r n done in let b = given_keeper r n lender in omega arith;
+      keepers = λ n. let e = parts.keepers n in let f = k.keepers n in let c = cut.keepers n in let a = given_keeper r n done in
+          let b = given_keeper r n lender in omega arith;
       leases = λ n. let e = parts.leases n in let f = k.leases n in omega arith;
-      words = λ q knows. k.words q (knows_less u host q (λ x. let e = parts.things x in omega arith) knows) ∙ left_known host g q long knows;
+      words = λ q knows. k.words q (knows_less u host q (λ x. let e = parts.things x in omega arith) knows) ∙
+          left_known host g q long knows;
       seen = λ t. let a = seen_left t host.seen lender.seen in let f = k.seen t in omega arith;
       lists = λ n. begins_on (list_of n host) (list_of n u) (list_of n l) (left_begins host g n aware) (k.lists n);
       undone = λ t. let e = parts.undone t in let f = k.undone t in omega arith;
@@ -243,7 +257,8 @@ entering_keeps k numbers v can =
       words = λ q knows. refl;
       seen = λ t. omega arith;
       lists = λ q. elim (eqb_tells q k) [
-        | inl y ↦ subst (λ (n : ℕ). IsBeginning (list_of n v) (list_of n (after_enter k numbers v))) (sym y.1) (new_entry numbers v ∷ [], e.list)
+        | inl y ↦ subst (λ (n : ℕ). IsBeginning (list_of n v) (list_of n (after_enter k numbers v))) (sym y.1)
+            (new_entry numbers v ∷ [], e.list)
         | inr n ↦ ([], e.other_lists q n.1 ∙ sym (append-nil (list_of q v)))
       ];
       undone = λ t. omega arith;
@@ -274,7 +289,8 @@ pub hosts_again : (v w : View) → Keeps v w → CanHost v → CanHost w
 hosts_again v w k can = ((λ n. k.stakes n ∙ can.0 n), k.unclean ∙ can.1)
 
 -- a view that keeps what another has has seen the same number of a title that it holds free
-pub kept_number : (v w : View) (n : ℕ) (t : Title) → IsAware v → IsAware w → Keeps v w → IsWellFormed n t → 0 < free_of v t → seen_of w t ≡ seen_of v t
+pub kept_number : (v w : View) (n : ℕ) (t : Title) → IsAware v → IsAware w → Keeps v w → IsWellFormed n t → 0 < free_of v t →
+    seen_of w t ≡ seen_of v t
 kept_number v w n t a b k well free =
     let e = k.things (FreeTitle t) in let x = frees_have v t in let y = frees_have w t in
     let same : count_word w.words t ≡ count_word v.words t = k.words (count_place t) (knows_count n t v well free) in

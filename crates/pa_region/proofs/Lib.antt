@@ -70,6 +70,8 @@ pub mod ReadsSame
 pub mod Regroup
 pub mod Releases
 pub mod ReservationPart
+pub mod SealKeeps
+pub mod SealStep
 pub mod SeatStakes
 pub mod SeenJoin
 pub mod SeenPart

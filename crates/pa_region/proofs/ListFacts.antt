@@ -32,7 +32,8 @@ module _ {A : Type 0} where
   each_right P (x ∷ xs) ys e = each_right P xs ys e.1
 
   -- if one member changes
-  pub each_changed : (P : A → Type 0) (test : A → Bool) (change : A → A) (xs : List A) → ((x : A) → P x → P (change x)) → Each P xs → Each P (changed test change xs)
+  pub each_changed : (P : A → Type 0) (test : A → Bool) (change : A → A) (xs : List A) → ((x : A) → P x → P (change x)) → Each P xs →
+      Each P (changed test change xs)
   each_changed P test change [] h e = tt
   each_changed P test change (x ∷ xs) h e = go (test x) (each_changed P test change xs h e.1)
     where
@@ -47,7 +48,8 @@ entered_more k [] e = append_nil (entry_in k e)
     append_nil : (xs : List Made) → xs ++ [] ≡ xs
     append_nil [] = refl
     append_nil (x ∷ xs) = ap (λ ys. x ∷ ys) (append_nil xs)
-entered_more k (d ∷ log) e = ap (λ xs. entry_in k d ++ xs) (entered_more k log e) ∙ sym (append_assoc (entry_in k d) (entered_in k log) (entry_in k e))
+entered_more k (d ∷ log) e = ap (λ xs. entry_in k d ++ xs) (entered_more k log e) ∙
+    sym (append_assoc (entry_in k d) (entered_in k log) (entry_in k e))
 
 -- nothing more, if the entry enters nothing there
 pub entered_nothing : (k : ℕ) (log : List Entry) (e : Entry) → entry_in k e ≡ [] → entered_in k (log ++ e ∷ []) ≡ entered_in k log

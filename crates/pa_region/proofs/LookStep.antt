@@ -1,5 +1,5 @@
 -- A look keeps the rule.
-use Rattle.std.proofs.Common.{◌≡◌, ℕ, ◌+◌, ◌*◌, ◌%◌, ◌<◌, ◌≤◌, Bool, true, false, ◌&&◌, List, [], ◌∷◌, ◌++◌, map, length, set, refl, ap, subst, arith, inl, inr, ltb}
+use Rattle.std.proofs.Common.{◌≡◌, ℕ, ◌+◌, ◌*◌, ◌%◌, ◌<◌, ◌≤◌, Bool, true, false, ◌&&◌, ◌||◌, List, [], ◌∷◌, ◌++◌, map, length, set, refl, ap, subst, arith, inl, inr, ltb}
 use Rattle.std.specs.Prelude.{◌==◌, if◌then◌else◌}
 use Rattle.std.specs.List.{sum_by}
 use Rattle.std.proofs.lemmas.Bool.Decides.{eqb_tells}
@@ -86,11 +86,13 @@ pub look_shown : (t : Title) (words : List ℕ) (views : List View) (i : ℕ) (v
     shown words (set views i (after_look t (count_word (byte_words words) t) v)) ≡ shown words views
 look_shown t words views i v at_i =
     let same : pieces_of (after_look t (count_word (byte_words words) t) v) ≡ pieces_of v =
-    ap (λ (os : List Piece). map raw_piece v.raws ++ (map FreePiece v.frees ++ (os ++ map RefPiece v.refs))) (look_pieces t (count_word (byte_words words) t) v.owns) in
+    ap (λ (os : List Piece). map raw_piece v.raws ++ (map FreePiece v.frees ++ (os ++ map RefPiece v.refs)))
+    (look_pieces t (count_word (byte_words words) t) v.owns) in
     ap (λ (hs : List (List Piece)). record { words = byte_words words; holdings = hs }) (map_same pieces_of views i v _ at_i same)
 
 -- a look is a load of the core
-pub look_event : (t : Title) (words : List ℕ) (views : List View) (i : ℕ) (v : View) → IsKept words views → get_elem? views i ≡ some v → HasTitle v t →
+pub look_event : (t : Title) (words : List ℕ) (views : List View) (i : ℕ) (v : View) → IsKept words views → get_elem? views i ≡ some v →
+    HasTitle v t →
     IsEnabled (Load i (count_offset t)) (shown words views) ×
     Happens (Load i (count_offset t)) (shown words views) (shown words (set views i (after_look t (count_word (byte_words words) t) v)))
 look_event t words views i v k at_i mine = (
@@ -131,10 +133,12 @@ look_keeps t words views i v k at_i mine has =
       list = k.list;
       all = ending (Looked t word) v k.all;
       steps = logging (Looked t word) v ∷ k.steps;
-      holders = holders_same (byte_words words) (total_of (shown words views)) _ (idle_in views) (idle_in (set views i w)) (budget_in views) (budget_in (set views i w))
+      holders = holders_same (byte_words words) (total_of (shown words views)) _ (idle_in views) (idle_in (set views i w)) (budget_in views)
+          (budget_in (set views i w))
           (logged_in views counted) (logged_in (set views i w) counted) k.holders same
           (λ u some_idle. elim (title_tells t u) [
-            | inl y ↦ subst (λ (z : Title). 0 < idle_in (set views i w) z → refs_of (count_word (byte_words words) z) ≡ 0) y.1 here some_idle
+            | inl y ↦ subst (λ (z : Title). 0 < idle_in (set views i w) z →
+                refs_of (count_word (byte_words words) z) ≡ 0) y.1 here some_idle
             | inr n ↦
                 let c = sum_set (λ (z : View). idle_of z u) views i v w at_i in
                 let e = look_idle_other t u word v.owns n.1 in
@@ -143,7 +147,8 @@ look_keeps t words views i v k at_i mine has =
           (let b = sum_set (λ (u : View). u.budget) views i v w at_i in omega arith)
           (let m = more counted in omega arith);
       values = values_same (byte_words words) views i v w at_i k.values refl (λ q knows. look_knows t word v q knows);
-      reservations = reservations_count t (byte_words words) (total_of (shown words views)) _ (idle_in views) (budget_in views) (logged_in views counted)
+      reservations = reservations_count t (byte_words words) (total_of (shown words views)) _ (idle_in views) (budget_in views)
+          (logged_in views counted)
           (low_in views) (low_in (set views i w)) _ _ (uncut_in views) (uncut_in (set views i w))
           k.reservations k.holders held back (low_set views i v w at_i refl) (low_raw words views)
           (λ u. more (names u)) (λ u. let m = more (uncuts u) in omega arith);
@@ -151,7 +156,8 @@ look_keeps t words views i v k at_i mine has =
           (total_of (shown words (set views i w))) (low_in views) _ _ (uncut_in views) (uncut_in (set views i w))
           k.named k.reservations k.holders.good.divided held refl (λ u none y. forth u y)
           (λ u. more (names u)) (λ u. let m = more (uncuts u) in omega arith);
-      logs = logs_look t (byte_words words) (total_of (shown words views)) _ k.history (logged_in views) (logged_in (set views i w)) (stakes_in views) (stakes_in (set views i w))
+      logs = logs_look t (byte_words words) (total_of (shown words views)) _ k.history (logged_in views) (logged_in (set views i w))
+          (stakes_in views) (stakes_in (set views i w))
           k.logs held back more (stakes_set views i v w at_i (λ n. noted_stakes (Looked t word) v.stakes n has));
       content = rw (look_shown t words views i v at_i) k.content;
       reads = reads_look t words views i v k at_i (held_title v t mine) has k.reads;
@@ -166,10 +172,14 @@ look_keeps t words views i v k at_i mine has =
           k.seen;
       lists = look_lists t word words views i v k at_i;
       undone = undone_set views i v w at_i refl (λ u. let m = more (uncuts u) in omega arith) k.undone;
-      totals = totals_other words words views i v w (Looked t word) at_i refl has k.totals (words_stay words) more (λ n. refl) (λ q. refl) (λ q. omega arith);
-      ordered = order_plain k.all k.list views i v w (Looked t word) at_i refl has k.logs.each_stake (λ n. refl) (touched_now words views t k held) k.ordered;
-      filled = filled_entry k.steps k.all k.history (total_of (shown words views)) (total_of (shown words (set views i w))) views i v w (Looked t word) at_i refl refl
-          (record { frees = λ u. refl; keeps = λ u x. refl; fills = λ u. tt }) tt (others_apart words views i v k at_i has) (eased_same _ _ same) k.filled;
+      totals = totals_other words words views i v w (Looked t word) at_i refl has k.totals (words_stay words) more (λ n. refl) (λ q. refl)
+          (λ q. omega arith);
+      ordered = order_plain k.all k.list views i v w (Looked t word) at_i refl has k.logs.each_stake (λ n. refl)
+          (touched_now words views t k held) k.ordered;
+      filled = filled_entry k.steps k.all k.history (total_of (shown words views)) (total_of (shown words (set views i w))) views i v w
+          (Looked t word) at_i refl refl
+          (record { frees = λ u. refl; keeps = λ u x. refl; fills = λ u. tt }) tt (others_apart words views i v k at_i has)
+          (eased_same _ _ same) k.filled;
     }
   where
     fresh : (n a : ℕ) → n ≤ a → one (ltb a n) ≡ 0
@@ -181,6 +191,7 @@ look_keeps t words views i v k at_i mine has =
       | inr n ↦
           let c = sum_set (λ (z : View). idle_of z t) views i v (after_look t (count_word (byte_words words) t) v) at_i in
           let same : idle_of (after_look t (count_word (byte_words words) t) v) t ≡ idle_of v t =
-          ap (λ (os : List OwnTitle). sum_by (λ (o : OwnTitle). one (same_title o.title t && o.idle)) os) (look_idle_none t (count_word (byte_words words) t) v.owns n.1) in
+          ap (λ (os : List OwnTitle). sum_by (λ (o : OwnTitle). one (same_title o.title t && (o.idle || o.sealed))) os)
+          (look_idle_none t (count_word (byte_words words) t) v.owns n.1) in
           k.holders.known t (omega arith)
     ]

@@ -14,7 +14,8 @@ use Rattle.pa_region.specs.Views.{held_of_view, Knows}
 use Rattle.pa_region.specs.Hands.{knowing, merged}
 
 -- a test of two orders, as a number and as a fact
-two_tests : (a b c d : ℕ) → ((one (leb a b && ltb c d) ≡ 1) × (a ≤ b) × (c < d)) ⊎ ((one (leb a b && ltb c d) ≡ 0) × ((a ≤ b) × (c < d) → ⊥))
+two_tests : (a b c d : ℕ) → ((one (leb a b && ltb c d) ≡ 1) × (a ≤ b) × (c < d)) ⊎
+    ((one (leb a b && ltb c d) ≡ 0) × ((a ≤ b) × (c < d) → ⊥))
 two_tests a b c d = elim (cases_lt b a) [
   | inl y ↦ inr (rw (lt-leb a b y) refl, (λ h. let z = h.0 in omega arith))
   | inr n ↦ elim (cases_lt c d) [
@@ -57,7 +58,8 @@ covering_free q (f ∷ fs) t h covers =
     ]
 
 -- an Own with the word as a content word
-own_covering : (q : ℕ) (os : List OwnTitle) → 0 < sum_by (λ (o : OwnTitle). one (leb o.title.start (8 * q) && ltb (8 * q + 8) (o.title.start + o.title.len))) os →
+own_covering : (q : ℕ) (os : List OwnTitle) →
+    0 < sum_by (λ (o : OwnTitle). one (leb o.title.start (8 * q) && ltb (8 * q + 8) (o.title.start + o.title.len))) os →
     (t : Title) × (0 < sum_by (λ (o : OwnTitle). one (same_title o.title t)) os) × IsContentOf t (8 * q)
 own_covering q [] h = absurd (omega arith)
 own_covering q (f ∷ fs) h =
@@ -75,7 +77,8 @@ own_covering q (f ∷ fs) h =
     ]
 
 -- if the word is a content word of an Own, one of which it is a content word is counted among the Owns
-covering_own : (q : ℕ) (os : List OwnTitle) (t : Title) → 0 < sum_by (λ (o : OwnTitle). one (same_title o.title t)) os → IsContentOf t (8 * q) →
+covering_own : (q : ℕ) (os : List OwnTitle) (t : Title) → 0 < sum_by (λ (o : OwnTitle). one (same_title o.title t)) os →
+    IsContentOf t (8 * q) →
     0 < sum_by (λ (o : OwnTitle). one (leb o.title.start (8 * q) && ltb (8 * q + 8) (o.title.start + o.title.len))) os
 covering_own q [] t h inside = absurd (omega arith)
 covering_own q (f ∷ fs) t h inside =
@@ -123,7 +126,10 @@ merged_at v q [] [] i e = same (ltb 0 (knowing v (q + i)))
     same false = refl
 merged_at v q [] (y ∷ ys) i e = absurd (omega arith)
 merged_at v q (x ∷ xs) [] i e = absurd (omega arith)
-merged_at v q (x ∷ xs) (y ∷ ys) zero e = subst (λ (n : ℕ). (if ltb 0 (knowing v q) then x else y) ≡ (if ltb 0 (knowing v n) then x else y)) (let z : q ≡ q + 0 = omega arith in z) refl
+merged_at v q (x ∷ xs) (y ∷ ys) zero e =
+    subst (λ (n : ℕ). (if ltb 0 (knowing v q) then x else y) ≡ (if ltb 0 (knowing v n) then x else y))
+    (let z : q ≡ q + 0 = omega arith in z) refl
 merged_at v q (x ∷ xs) (y ∷ ys) (suc i) e =
-    subst (λ (n : ℕ). slice_index (merged v (suc q) xs ys) i ≡ (if ltb 0 (knowing v n) then slice_index xs i else slice_index ys i)) (let z : suc q + i ≡ q + suc i = omega arith in z)
+    subst (λ (n : ℕ). slice_index (merged v (suc q) xs ys) i ≡ (if ltb 0 (knowing v n) then slice_index xs i else slice_index ys i))
+    (let z : suc q + i ≡ q + suc i = omega arith in z)
     (merged_at v (suc q) xs ys i (omega arith))

@@ -8,8 +8,10 @@ use Rattle.pa_slot.proofs.Same.{title_tells, title_one}
 use Rattle.pa_region.specs.Rule.{Reservations, Named}
 
 -- nothing that is read changes, and all titles stay held
-pub named_same : (words after : ℕ) (total later : Thing → ℕ) (named named_after uncut uncut_after : Title → ℕ) → Named words total named uncut → after ≡ words →
-    ((u : Title) → IsTitleHeld total u → IsTitleHeld later u) → ((u : Title) → named_after u ≡ named u) → ((u : Title) → uncut_after u ≡ uncut u) →
+pub named_same : (words after : ℕ) (total later : Thing → ℕ) (named named_after uncut uncut_after : Title → ℕ) →
+    Named words total named uncut → after ≡ words →
+    ((u : Title) → IsTitleHeld total u → IsTitleHeld later u) → ((u : Title) → named_after u ≡ named u) →
+    ((u : Title) → uncut_after u ≡ uncut u) →
     Named after later named_after uncut_after
 named_same words after total later named named_after uncut uncut_after n count stays names same_uncut = record {
   well = λ u known. let e = names u in rw count (n.well u (omega arith));
@@ -19,10 +21,12 @@ named_same words after total later named named_after uncut uncut_after n count s
 
 -- A step on a held title, which one log names once more, keeps the part: a title that no log says was uncut
 -- stays held.
-pub named_more : (t : Title) (words after : ℕ) (total later : Thing → ℕ) (low : ℕ → ℕ → ℕ) (named named_after uncut uncut_after : Title → ℕ) →
+pub named_more : (t : Title) (words after : ℕ) (total later : Thing → ℕ) (low : ℕ → ℕ → ℕ)
+    (named named_after uncut uncut_after : Title → ℕ) →
     Named words total named uncut → Reservations total low named uncut → IsDivided words total → IsTitleHeld total t → after ≡ words →
     ((u : Title) → uncut_after u ≡ 0 → IsTitleHeld total u → IsTitleHeld later u) →
-    ((u : Title) → named_after u ≡ named u + one (same_title t u)) → ((u : Title) → uncut u ≤ uncut_after u) → Named after later named_after uncut_after
+    ((u : Title) → named_after u ≡ named u + one (same_title t u)) → ((u : Title) → uncut u ≤ uncut_after u) →
+    Named after later named_after uncut_after
 named_more t words after total later low named named_after uncut uncut_after n r divided held count stays names grows = record {
   well = λ u known. elim (title_one t u) [
     | inl y ↦ rw count (subst (λ (z : Title). IsWellFormed words z) y.1 (divided.well t held))
@@ -33,12 +37,14 @@ named_more t words after total later low named named_after uncut uncut_after n r
       elim (title_one t u) [
         | inl y ↦ elim (title_one t x) [
           | inl z ↦ sym y.1 ∙ z.1
-          | inr m ↦ let z = m.0 in let a = ap (λ (k : Title). k.start) y.1 in let b = ap (λ (k : Title). k.born) y.1 in sym y.1 ∙ same_name x (omega arith) (a ∙ start) (b ∙ born)
+          | inr m ↦ let z = m.0 in let a = ap (λ (k : Title). k.start) y.1 in let b = ap (λ (k : Title). k.born) y.1 in sym y.1 ∙
+              same_name x (omega arith) (a ∙ start) (b ∙ born)
         ]
         | inr m ↦
             let z = m.0 in
             elim (title_one t x) [
-              | inl y ↦ let a = ap (λ (k : Title). k.start) y.1 in let b = ap (λ (k : Title). k.born) y.1 in sym (same_name u (omega arith) (a ∙ sym start) (b ∙ sym born)) ∙ y.1
+              | inl y ↦ let a = ap (λ (k : Title). k.start) y.1 in let b = ap (λ (k : Title). k.born) y.1 in
+                  sym (same_name u (omega arith) (a ∙ sym start) (b ∙ sym born)) ∙ y.1
               | inr o ↦ let z1 = o.0 in n.one_name u x (omega arith) (omega arith) start born
             ]
       ];

@@ -33,7 +33,8 @@ frees_at : (d : Done) (history : List Done) (n : ℕ) → n < length history →
 frees_at d [] n below at_n = absurd (omega arith)
 frees_at d (x ∷ older) n below at_n = elim (cases_lt n (length older)) [
   | inl y ↦
-      let again = frees_at d older n y (sym (up_to_more (n + 1) x older (omega arith)) ∙ (at_n ∙ ap (λ hs. d ∷ hs) (up_to_more n x older (omega arith)))) in
+      let again = frees_at d older n y (sym (up_to_more (n + 1) x older (omega arith)) ∙
+      (at_n ∙ ap (λ hs. d ∷ hs) (up_to_more n x older (omega arith)))) in
       let p = frees_more n x older (omega arith) in
       let q = frees_more (n + 1) x older (omega arith) in
       omega arith
@@ -75,7 +76,8 @@ other_log f r (s ∷ ss) none some_log =
     ]
 
 -- a smaller amount of the logs of one number
-less_by : (f g : Entry → ℕ) (r : ℕ) (ss : List Stake) → ((e : Entry) → f e ≤ g e) → sum_by (amount_by r (sum_by f)) ss ≤ sum_by (amount_by r (sum_by g)) ss
+less_by : (f g : Entry → ℕ) (r : ℕ) (ss : List Stake) → ((e : Entry) → f e ≤ g e) →
+    sum_by (amount_by r (sum_by f)) ss ≤ sum_by (amount_by r (sum_by g)) ss
 less_by f g r ss less =
     sum_by-le-sum_by (amount_by r (sum_by f)) (amount_by r (sum_by g)) ss (λ s. go (eqb s.number r) s)
   where
@@ -83,7 +85,8 @@ less_by f g r ss less =
     go true s = sum_by-le-sum_by f g s.log less
     go false s = omega arith
 
-pub others_free : (v : View) (t : Title) (history : List Done) (r k : ℕ) → IsChained (logged_of v) t history → IsFreedElsewhere (logged_of_by v) history t r k →
+pub others_free : (v : View) (t : Title) (history : List Done) (r k : ℕ) → IsChained (logged_of v) t history →
+    IsFreedElsewhere (logged_of_by v) history t r k →
     (j : ℕ) × (s : Stake) × (word : ℕ) × (get_elem? v.stakes j ≡ some s) × (s.number ≡ r → ⊥) × IsNextFree v t k s word
 others_free v t history r k chain freed =
     let n = freed.0 in
@@ -92,11 +95,13 @@ others_free v t history r k chain freed =
     let there = at_number (logged_of v) t history n chain.steps below in
     let d = there.0 in
     let word = word_at_number n history in
-    let number : number_of word ≡ n = reached_number (up_to n history) (up_to_legal n history chain.legal) ∙ up_to_length n history (omega arith) in
+    let number : number_of word ≡ n = reached_number (up_to n history) (up_to_legal n history chain.legal) ∙
+    up_to_length n history (omega arith) in
     let at_n = frees_at d history n below there.1.stands in
     let here = first.here in
     let free = free_is d.step (omega arith) in
-    let logged : logged_of v (counted_as t Free word d.value) ≡ 1 = ap (λ p. logged_of v (counted_as t p word d.value)) (sym free) ∙ there.1.logged in
+    let logged : logged_of v (counted_as t Free word d.value) ≡ 1 = ap (λ p. logged_of v (counted_as t p word d.value)) (sym free) ∙
+    there.1.logged in
     let less = less_by (counted_as t Free word d.value) (counted_at t (number_of word)) r v.stakes (as_at t Free word d.value) in
     let none_at : logged_of_by v r (counted_at t (number_of word)) ≡ 0 = ap (λ m. logged_of_by v r (counted_at t m)) number ∙ freed.2 in
     let other = other_log (sum_by (counted_as t Free word d.value)) r v.stakes (omega arith) (omega arith) in

@@ -67,7 +67,8 @@ enter_can a h k lends host has =
 
 -- the Owns of the host with a lent stake are clean
 pub both_clean : (a h : View) → CanHost h → unclean_of (both_of a h) ≡ 0
-both_clean a h host = let e = (united_parts h (given_after (stake_parcel (least_stake a.stakes)) a)).unclean in let z = host.1 in omega arith
+both_clean a h host = let e = (united_parts h (given_after (stake_parcel (least_stake a.stakes)) a)).unclean in let z = host.1 in
+    omega arith
 
 -- the Owns of the host are clean after its entry, so it can hand the stake back
 entered_clean : (a h : View) (k : ℕ) (numbers : List ℕ) → CanHost h → unclean_of (after_enter k numbers (both_of a h)) ≡ 0
@@ -75,20 +76,25 @@ entered_clean a h k numbers host = both_clean a h host
 
 entered_least : (a h : View) (k : ℕ) (numbers : List ℕ) → CanLend a → CanHost h → 0 < keeper_of h k →
     least_stake (after_enter k numbers (both_of a h)).stakes ≡ least_stake a.stakes
-entered_least a h k numbers lends host has = (enter_leaves k numbers (both_of a h) (enter_can a h k lends host has)).entry.least ∙ host_least a h lends host
+entered_least a h k numbers lends host has = (enter_leaves k numbers (both_of a h) (enter_can a h k lends host has)).entry.least ∙
+    host_least a h lends host
 
-pub lend_again : (a h : View) (k : ℕ) (numbers : List ℕ) → CanLend a → CanHost h → 0 < keeper_of h k → CanLend (after_enter k numbers (both_of a h))
+pub lend_again : (a h : View) (k : ℕ) (numbers : List ℕ) → CanLend a → CanHost h → 0 < keeper_of h k →
+    CanLend (after_enter k numbers (both_of a h))
 lend_again a h k numbers lends host has =
     let l = entered_least a h k numbers lends host has in
     let small = lends.0 in
     (omega arith, entered_clean a h k numbers host)
 
 -- what the entry is
-noted_of : (a h : View) (k : ℕ) (numbers : List ℕ) → CanLend a → CanHost h → 0 < keeper_of h k → IsAware a → IsAware h → length h.words ≡ length a.words →
+noted_of : (a h : View) (k : ℕ) (numbers : List ℕ) → CanLend a → CanHost h → 0 < keeper_of h k → IsAware a → IsAware h →
+    length h.words ≡ length a.words →
     IsAware (both_of a h) →
-    IsAware (united (left_after (stake_parcel (least_stake a.stakes)) a) (given_after (stake_parcel (least_stake a.stakes)) (after_enter k numbers (both_of a h)))) →
+    IsAware (united (left_after (stake_parcel (least_stake a.stakes)) a)
+    (given_after (stake_parcel (least_stake a.stakes)) (after_enter k numbers (both_of a h)))) →
     IsNoted (least_stake a.stakes) k numbers a
-    (united (left_after (stake_parcel (least_stake a.stakes)) a) (given_after (stake_parcel (least_stake a.stakes)) (after_enter k numbers (both_of a h))))
+    (united (left_after (stake_parcel (least_stake a.stakes)) a)
+    (given_after (stake_parcel (least_stake a.stakes)) (after_enter k numbers (both_of a h))))
     h (left_after (stake_parcel (least_stake a.stakes)) (after_enter k numbers (both_of a h))) (new_entry numbers (both_of a h))
 noted_of a h k numbers lends host has aware_a aware_h long aware_u aware_f =
     let r = least_stake a.stakes in
@@ -103,8 +109,10 @@ noted_of a h k numbers lends host has aware_a aware_h long aware_u aware_f =
     let can_a = can_hand r a lends.1 in
     let can_e = can_hand r e (entered_clean a h k numbers host) in
     let words : length u.words ≡ length h.words = merged_long h 0 h.words a.words long in
-    let logged : log_of r e ≡ log_of r u ++ Entered k m ∷ [] = subst (λ (n : ℕ). log_of n e ≡ log_of n u ++ Entered k m ∷ []) least en.entry.log in
-    let was : log_of r u ≡ log_of r a = log_right r h.stakes g.stakes (host.0 r) ∙ log_filter (stake_parcel r).stakes r a.stakes (marked_here r) in
+    let logged : log_of r e ≡ log_of r u ++ Entered k m ∷ [] =
+    subst (λ (n : ℕ). log_of n e ≡ log_of n u ++ Entered k m ∷ []) least en.entry.log in
+    let was : log_of r u ≡ log_of r a = log_right r h.stakes g.stakes (host.0 r) ∙
+    log_filter (stake_parcel r).stakes r a.stakes (marked_here r) in
     let longest = among_append k a.seen_lists e.seen_lists in
     record {
       stake = least;
@@ -120,7 +128,8 @@ noted_of a h k numbers lends host has aware_a aware_h long aware_u aware_f =
             absurd (omega arith)
         | inr y ↦ y
       ];
-      lends = lends_back a e r (Entered k m ∷ []) aware_a can_a can_e (sym (words ∙ long)) aware_f (en.entry.stakes r ∙ both_stake a h host) (logged ∙ ap (λ log. log ++ Entered k m ∷ []) was);
+      lends = lends_back a e r (Entered k m ∷ []) aware_a can_a can_e (sym (words ∙ long)) aware_f (en.entry.stakes r ∙ both_stake a h host)
+          (logged ∙ ap (λ log. log ++ Entered k m ∷ []) was);
       hosts = host_keeps h a e r can_a can_e long aware_u (host.0 r) (entering_keeps k numbers u can);
       before = λ t. seen_right t h.seen a.seen;
       known = λ t. seen_right t a.seen u.seen;

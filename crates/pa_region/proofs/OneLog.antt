@@ -52,7 +52,8 @@ one_log amount r (s ∷ ss) e =
     ]
 
 -- no other view has the view's least stake
-pub stake_alone : (views : List View) (i j : ℕ) (v u : View) → get_elem? views i ≡ some v → get_elem? views j ≡ some u → (j ≡ i → ⊥) → HasStake v →
+pub stake_alone : (views : List View) (i j : ℕ) (v u : View) → get_elem? views i ≡ some v → get_elem? views j ≡ some u → (j ≡ i → ⊥) →
+    HasStake v →
     stakes_in views (least_stake v.stakes) ≡ 1 → stake_of u (least_stake v.stakes) ≡ 0
 stake_alone views i j v u at_i at_j ne has once =
     let there = least_there v.stakes has in
@@ -60,15 +61,18 @@ stake_alone views i j v u at_i at_j ne has once =
     omega arith
 
 -- if a view has the only stake of a number, all logs of the number are in it
-pub number_log : (weight : Entry → ℕ) (views : List View) (i : ℕ) (v : View) (r : ℕ) → get_elem? views i ≡ some v → stakes_in views r ≤ 1 → 0 < stake_of v r →
+pub number_log : (weight : Entry → ℕ) (views : List View) (i : ℕ) (v : View) (r : ℕ) → get_elem? views i ≡ some v → stakes_in views r ≤ 1 →
+    0 < stake_of v r →
     logged_by views r weight ≡ logged_of_by v r weight
 number_log weight views i v r at_i once has =
     sum_alone (λ u. logged_of_by u r weight) views i v at_i
     (λ j u at_j ne. by_none (sum_by weight) r u.stakes (let pair = sum_pair (λ w. stake_of w r) views i j v u at_i at_j ne in omega arith))
 
 -- what no log of a number passes, no log of the view's stakes of it does
-pub covered_of : (views : List View) (i : ℕ) (v : View) → get_elem? views i ≡ some v → ((k : ℕ) → stakes_in views k ≡ one (ltb k 16)) → (r q : ℕ) →
-    ((n p : ℕ) → logged_by views n (added_as p) ≤ logged_by views n (owes_as p)) → logged_of_by v r (added_as q) ≤ logged_of_by v r (owes_as q)
+pub covered_of : (views : List View) (i : ℕ) (v : View) → get_elem? views i ≡ some v → ((k : ℕ) → stakes_in views k ≡ one (ltb k 16)) →
+    (r q : ℕ) →
+    ((n p : ℕ) → logged_by views n (added_as p) ≤ logged_by views n (owes_as p)) →
+    logged_of_by v r (added_as q) ≤ logged_of_by v r (owes_as q)
 covered_of views i v at_i each r q covered = elim (cases_lt 0 (stake_of v r)) [
   | inl y ↦
       let a = number_log (added_as q) views i v r at_i once y in
@@ -84,7 +88,8 @@ covered_of views i v at_i each r q covered = elim (cases_lt 0 (stake_of v r)) [
     once = let e = each r in elim (one_lt r 16) [ inl y ↦ let z = y.0 in omega arith | inr m ↦ let z = m.0 in omega arith ]
 
 -- the logs of the least stake's number of a view are its own least log
-pub own_log : (weight : Entry → ℕ) (views : List View) (i : ℕ) (v : View) → get_elem? views i ≡ some v → HasStake v → stakes_in views (least_stake v.stakes) ≡ 1 →
+pub own_log : (weight : Entry → ℕ) (views : List View) (i : ℕ) (v : View) → get_elem? views i ≡ some v → HasStake v →
+    stakes_in views (least_stake v.stakes) ≡ 1 →
     logged_by views (least_stake v.stakes) weight ≡ sum_by weight (least_log v.stakes)
 own_log weight views i v at_i has once =
     let there = least_there v.stakes has in

@@ -35,7 +35,8 @@ times_more w n k e = ap (λ m. w * m) e ∙ (ap (λ m. w * m) (let z : k + 1 ≡
 -- what the logs of these stakes have of an order, if it has one entry more in front: its weight for each stake of its number
 stakes_weigh : (weight : Entry → ℕ) (m : Stamped) (all : List Stamped) (ss : List Stake) →
     sum_by (λ (s : Stake). sum_by weight (by_stake s.number (m ∷ all))) ss
-    ≡ sum_by (λ (s : Stake). sum_by weight (by_stake s.number all)) ss + weight m.entry * sum_by (λ (s : Stake). one (eqb s.number m.stake)) ss
+    ≡ sum_by (λ (s : Stake). sum_by weight (by_stake s.number all)) ss + weight m.entry * sum_by
+    (λ (s : Stake). one (eqb s.number m.stake)) ss
 stakes_weigh weight m all [] = omega arith
 stakes_weigh weight m all (s ∷ ss) =
     let again = stakes_weigh weight m all ss in
@@ -46,13 +47,17 @@ stakes_weigh weight m all (s ∷ ss) =
       | inl y ↦
           let here : sum_by weight (by_stake s.number (m ∷ all)) ≡ weight m.entry + sum_by weight (by_stake s.number all) =
           rw y.0 (sum_by-cons weight m.entry (by_stake s.number all)) in
-          let mine : one (eqb s.number m.stake) ≡ 1 = elim (eqb_tells s.number m.stake) [ inl z ↦ ap one z.0 | inr n ↦ absurd (n.1 (sym y.1)) ] in
-          let t = times_more (weight m.entry) (sum_by (λ (x : Stake). one (eqb x.number m.stake)) (s ∷ ss)) (sum_by (λ (x : Stake). one (eqb x.number m.stake)) ss) (omega arith) in
+          let mine : one (eqb s.number m.stake) ≡ 1 =
+          elim (eqb_tells s.number m.stake) [ inl z ↦ ap one z.0 | inr n ↦ absurd (n.1 (sym y.1)) ] in
+          let t = times_more (weight m.entry) (sum_by (λ (x : Stake). one (eqb x.number m.stake)) (s ∷ ss))
+          (sum_by (λ (x : Stake). one (eqb x.number m.stake)) ss) (omega arith) in
           omega arith
       | inr n ↦
           let here : sum_by weight (by_stake s.number (m ∷ all)) ≡ sum_by weight (by_stake s.number all) = rw n.0 refl in
-          let mine : one (eqb s.number m.stake) ≡ 0 = elim (eqb_tells s.number m.stake) [ inl z ↦ absurd (n.1 (sym z.1)) | inr z ↦ ap one z.0 ] in
-          let t : weight m.entry * sum_by (λ (x : Stake). one (eqb x.number m.stake)) (s ∷ ss) ≡ weight m.entry * sum_by (λ (x : Stake). one (eqb x.number m.stake)) ss =
+          let mine : one (eqb s.number m.stake) ≡ 0 =
+          elim (eqb_tells s.number m.stake) [ inl z ↦ absurd (n.1 (sym z.1)) | inr z ↦ ap one z.0 ] in
+          let t : weight m.entry * sum_by (λ (x : Stake). one (eqb x.number m.stake)) (s ∷ ss) ≡ weight m.entry * sum_by
+          (λ (x : Stake). one (eqb x.number m.stake)) ss =
           ap (λ k. weight m.entry * k) (omega arith) in
           omega arith
     ]
@@ -92,7 +97,8 @@ none_ordered weight (v ∷ vs) =
   where
     none_there : (ss : List Stake) → sum_by (λ (s : Stake). sum_by weight (by_stake s.number [])) ss ≡ 0
     none_there [] = refl
-    none_there (s ∷ ss) = let c = sum_by-cons (λ (x : Stake). sum_by weight (by_stake x.number [])) s ss in let again = none_there ss in omega arith
+    none_there (s ∷ ss) = let c = sum_by-cons (λ (x : Stake). sum_by weight (by_stake x.number [])) s ss in let again = none_there ss in
+        omega arith
 
 -- if each stake is there once, it is all that the order has
 all_ordered : (weight : Entry → ℕ) (views : List View) (all : List Stamped) → ((k : ℕ) → stakes_in views k ≡ one (nat_lt k 16)) →
@@ -120,7 +126,8 @@ stakes_ordered weight all (s ∷ ss) each =
     let b = sum_by-cons (λ (x : Stake). sum_by weight (by_stake x.number all)) s ss in
     omega arith
 
-views_ordered : (weight : Entry → ℕ) (all : List Stamped) (views : List View) → ((i : ℕ) (v : View) → get_elem? views i ≡ some v → IsLoggedIn all v) →
+views_ordered : (weight : Entry → ℕ) (all : List Stamped) (views : List View) →
+    ((i : ℕ) (v : View) → get_elem? views i ≡ some v → IsLoggedIn all v) →
     logged_in views weight ≡ ordered_in views weight all
 views_ordered weight all [] each = refl
 views_ordered weight all (v ∷ vs) each =
@@ -145,7 +152,8 @@ found_now words views t k held =
     omega arith
 
 -- a step on a held title, or a look at it, finds how many steps on it the order has
-pub touched_now : (words : List ℕ) (views : List View) (t : Title) (k : IsKept words views) → IsTitleHeld (total_of (shown words views)) t → (u : Title) (word : ℕ) →
+pub touched_now : (words : List ℕ) (views : List View) (t : Title) (k : IsKept words views) → IsTitleHeld (total_of (shown words views)) t →
+    (u : Title) (word : ℕ) →
     (t ≡ u) × (count_word (byte_words words) t ≡ word) → number_of word ≡ steps_on u k.all
 touched_now words views t k held u word same =
     subst (λ (x : Title). number_of word ≡ steps_on x k.all) same.0
@@ -161,9 +169,11 @@ nothing_made (m ∷ ms) small none =
     ]
 
 -- a beginning of a list is all of it, if each stake made as much of both
-whole_list : (begun list : List Made) → IsBeginning begun list → Each (λ m. m.stake < 16) list → ((k : ℕ) → k < 16 → made_with k begun ≡ made_with k list) → begun ≡ list
+whole_list : (begun list : List Made) → IsBeginning begun list → Each (λ m. m.stake < 16) list →
+    ((k : ℕ) → k < 16 → made_with k begun ≡ made_with k list) → begun ≡ list
 whole_list begun list b small same =
-    let none : b.0 ≡ [] = nothing_made b.0 (each_right (λ m. m.stake < 16) begun b.0 (subst (λ (ms : List Made). Each (λ m. m.stake < 16) ms) b.1 small))
+    let none : b.0 ≡ [] = nothing_made b.0
+    (each_right (λ m. m.stake < 16) begun b.0 (subst (λ (ms : List Made). Each (λ m. m.stake < 16) ms) b.1 small))
     (λ k less. cancel (made_with k begun) (made_with k b.0) (same k less ∙ (ap (made_with k) b.1 ∙ made_append k begun b.0))) in
     sym (b.1 ∙ (ap (λ xs. begun ++ xs) none ∙ append-nil begun))
   where
@@ -172,7 +182,8 @@ whole_list begun list b small same =
     cancel (x ∷ xs) ys e = cancel xs ys (let z : xs ≡ xs ++ ys = cc in z)
 
 -- a stake that a view has, with its log
-log_of_stake : (k : ℕ) (ss : List Stake) (f g : ℕ → List Made) (h : Stake → List Made) → 0 < sum_by (λ (s : Stake). one (eqb s.number k)) ss →
+log_of_stake : (k : ℕ) (ss : List Stake) (f g : ℕ → List Made) (h : Stake → List Made) →
+    0 < sum_by (λ (s : Stake). one (eqb s.number k)) ss →
     Each (λ (s : Stake). f s.number ≡ h s) ss → Each (λ (s : Stake). g s.number ≡ h s) ss → f k ≡ g k
 log_of_stake k [] f g h has a b = absurd (omega arith)
 log_of_stake k (s ∷ ss) f g h has a b =
@@ -183,14 +194,16 @@ log_of_stake k (s ∷ ss) f g h has a b =
     ]
 
 -- under the rule a view with every stake knows the order
-pub knows_order : (words : List ℕ) (views : List View) (i : ℕ) (v : View) → IsKept words views → get_elem? views i ≡ some v → HasEveryStake v → HasOneOrder v
+pub knows_order : (words : List ℕ) (views : List View) (i : ℕ) (v : View) → IsKept words views → get_elem? views i ≡ some v →
+    HasEveryStake v → HasOneOrder v
 knows_order words views i v k at_i every = record {
   all = k.all;
   ordered = record {
     stakes = k.ordered.stakes;
     logs = λ j u at_j. subst (IsLoggedIn k.all) (only_view v j u at_j) (k.ordered.logs i v at_i);
     lists = λ q. whole_list (list_of q v) (k.list q) (begins q) (k.lists.makers q)
-        (λ r small. log_of_stake r v.stakes (λ n. made_with n (list_of q v)) (λ n. made_with n (k.list q)) (λ s. entered_in q s.log) (every r small)
+        (λ r small. log_of_stake r v.stakes (λ n. made_with n (list_of q v)) (λ n. made_with n (k.list q)) (λ s. entered_in q s.log)
+        (every r small)
         ((k.lists.each_view i v at_i).noticed q) ((k.lists.each_view i v at_i).made q)) ∙ k.ordered.lists q;
     found = k.ordered.found;
   };

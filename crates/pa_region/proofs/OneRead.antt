@@ -30,7 +30,8 @@ one_true true h = refl
 one_true false h = absurd (omega arith)
 
 -- what a quiet read right after an entry shows
-pub record IsQuietRead (own : Bool) (t : Title) (found value : ℕ) (a : Entry) (u : Title) (given : ℕ) (since : Deeds) (owned unclean : Bool) : Type 0 where
+pub record IsQuietRead (own : Bool) (t : Title) (found value : ℕ) (a : Entry) (u : Title) (given : ℕ) (since : Deeds)
+    (owned unclean : Bool) : Type 0 where
   pub looked : a ≡ Looked t found
   pub title : u ≡ t
   pub gave : given ≡ value
@@ -42,11 +43,15 @@ owner_is : (own owned : Bool) → (if own then owned else not owned) ≡ true �
 owner_is true owned e = e
 owner_is false owned e = not-true owned e
 
-pub quiet_tells : (own : Bool) (t : Title) (found value : ℕ) (a : Entry) (u : Title) (place given : ℕ) (since : Deeds) (owned unclean : Bool) →
-    0 < quiet_read own t found value a (Read u place given since owned unclean) → IsQuietRead own t found value a u given since owned unclean
+pub quiet_tells : (own : Bool) (t : Title) (found value : ℕ) (a : Entry) (u : Title) (place given : ℕ) (since : Deeds)
+    (owned unclean : Bool) →
+    0 < quiet_read own t found value a (Read u place given since owned unclean) →
+    IsQuietRead own t found value a u given since owned unclean
 quiet_tells own t found value (Looked x word) u place given since owned unclean h =
-    let all = one_true ((same_title x t && same_title u t) && (((eqb word found) && (eqb given value)) && ((is_quiet since && not unclean) && (if own then owned else not owned)))) h in
-    let p = and_parts (same_title x t && same_title u t) (((eqb word found) && (eqb given value)) && ((is_quiet since && not unclean) && (if own then owned else not owned))) all in
+    let all = one_true ((same_title x t && same_title u t) &&
+    (((eqb word found) && (eqb given value)) && ((is_quiet since && not unclean) && (if own then owned else not owned)))) h in
+    let p = and_parts (same_title x t && same_title u t)
+    (((eqb word found) && (eqb given value)) && ((is_quiet since && not unclean) && (if own then owned else not owned))) all in
     let titles = and_parts (same_title x t) (same_title u t) p.0 in
     let q = and_parts ((eqb word found) && (eqb given value)) ((is_quiet since && not unclean) && (if own then owned else not owned)) p.1 in
     let numbers = and_parts (eqb word found) (eqb given value) q.0 in
@@ -80,7 +85,8 @@ pub record IsWordRead (history : List Done) (word value : ℕ) (owned unclean : 
 
 -- What a read of this title knows of its log's last entry. A look at the title found a word of the history, and with nothing
 -- handed over since it has waited. All counted steps with the reader's stake are in its log.
-pub record HasLast (history : Title → List Done) (words : List ℕ) (v : View) (t : Title) (last : Option Entry) (logs : (Entry → ℕ) → ℕ) : Type 0 where
+pub record HasLast (history : Title → List Done) (words : List ℕ) (v : View) (t : Title) (last : Option Entry)
+    (logs : (Entry → ℕ) → ℕ) : Type 0 where
   pub legal : IsLegal (history t)
   pub at_end : count_word words t ≡ reached (history t)
   pub looked : (found : ℕ) → last ≡ Some (Looked t found) → IsWordIn found (history t)
@@ -88,29 +94,32 @@ pub record HasLast (history : Title → List Done) (words : List ℕ) (v : View)
   pub own_log : (n : ℕ) → logs (counted_at t n) ≡ sum_by (counted_at t n) (least_log v.stakes)
 
 -- if the bit was set in the word that a look found, and a read gave poison, another thread is freeing the slot
-frees_apart : (history : Title → List Done) (words : List ℕ) (v : View) (t : Title) (last : Option Entry) (logs_by : ℕ → (Entry → ℕ) → ℕ) (poisoned : Title → ℕ → ℕ)
+frees_apart : (history : Title → List Done) (words : List ℕ) (v : View) (t : Title) (last : Option Entry) (logs_by : ℕ → (Entry → ℕ) → ℕ)
+    (poisoned : Title → ℕ → ℕ)
     (r found : ℕ) → HasLast history words v t last (logs_by r) → last ≡ Some (Looked t found) → v.since.handed ≡ false → held_of found ≡ 1 →
     (held_of (count_word words t) ≡ 0) ⊎ (0 < poisoned t r) → IsFreeing logs_by poisoned (history t) t r (number_of found)
-frees_apart history words v t last logs_by poisoned r found k is quiet set why = elim (cases_lt 0 (frees_from (number_of found) (history t))) [
-  | inl y ↦
-      let first = has_first (number_of found) (history t) y in
-      inl (first.0, first.1, k.own_log first.0 ∙ (k.waits found is quiet).none_later first.0 first.1.behind)
-  | inr n ↦
-      let none : frees_from (number_of found) (history t) ≡ 0 = omega arith in
-      let w = word_found found (history t) k.legal (k.looked found is) in
-      let still = bit_unfreed (number_of found) (history t) k.legal w.0 (ap held_of w.1 ∙ set) none in
-      inr (
-        none,
-        elim why [
-          | inl low ↦ let e : held_of (count_word words t) ≡ held_of (reached (history t)) = ap held_of k.at_end in absurd (omega arith)
-          | inr p ↦ p
-        ],
-      )
-]
+frees_apart history words v t last logs_by poisoned r found k is quiet set why =
+    elim (cases_lt 0 (frees_from (number_of found) (history t))) [
+      | inl y ↦
+          let first = has_first (number_of found) (history t) y in
+          inl (first.0, first.1, k.own_log first.0 ∙ (k.waits found is quiet).none_later first.0 first.1.behind)
+      | inr n ↦
+          let none : frees_from (number_of found) (history t) ≡ 0 = omega arith in
+          let w = word_found found (history t) k.legal (k.looked found is) in
+          let still = bit_unfreed (number_of found) (history t) k.legal w.0 (ap held_of w.1 ∙ set) none in
+          inr (
+            none,
+            elim why [
+              | inl low ↦ let e : held_of (count_word words t) ≡ held_of (reached (history t)) = ap held_of k.at_end in absurd (omega arith)
+              | inr p ↦ p
+            ],
+          )
+    ]
 
 -- a read that gives poison when the bit is 0 makes no pair that gave another value
 gave_poison : (history : Title → List Done) (words : List ℕ) (v : View) (t : Title) (place value : ℕ) (owned unclean : Bool) (a : Entry) →
-    ((found : ℕ) → a ≡ Looked t found → v.since.handed ≡ false → Waits history words v t found) → (held_of (count_word words t) ≡ 0 → value ≡ poison) →
+    ((found : ℕ) → a ≡ Looked t found → v.since.handed ≡ false → Waits history words v t found) →
+    (held_of (count_word words t) ≡ 0 → value ≡ poison) →
     gave_no_poison a (Read t place value v.since owned unclean) ≡ 0
 gave_poison history words v t place value owned unclean (Looked u found) waits freed = elim (title_tells u t) [
   | inl y ↦ elim (eqb_tells (held_of found) 0) [
@@ -131,22 +140,27 @@ gave_poison history words v t place value owned unclean (Entered keeper numbers)
 gave_poison history words v t place value owned unclean (Uncut again) waits freed = refl
 
 -- nor after any last entry
-gave_poison_after : (history : Title → List Done) (words : List ℕ) (v : View) (t : Title) (place value : ℕ) (owned unclean : Bool) (last : Option Entry) →
-    ((found : ℕ) → last ≡ Some (Looked t found) → v.since.handed ≡ false → Waits history words v t found) → (held_of (count_word words t) ≡ 0 → value ≡ poison) →
+gave_poison_after : (history : Title → List Done) (words : List ℕ) (v : View) (t : Title) (place value : ℕ) (owned unclean : Bool)
+    (last : Option Entry) →
+    ((found : ℕ) → last ≡ Some (Looked t found) → v.since.handed ≡ false → Waits history words v t found) →
+    (held_of (count_word words t) ≡ 0 → value ≡ poison) →
     weight_after gave_no_poison last (Read t place value v.since owned unclean) ≡ 0
 gave_poison_after history words v t place value owned unclean None waits freed = refl
 gave_poison_after history words v t place value owned unclean (Some a) waits freed =
     gave_poison history words v t place value owned unclean a (λ found is. waits found (ap Some is)) freed
 
 -- a quiet read after a last entry
-quiet_after : (own : Bool) (t : Title) (found value : ℕ) (last : Option Entry) (u : Title) (place given : ℕ) (since : Deeds) (owned unclean : Bool) →
+quiet_after : (own : Bool) (t : Title) (found value : ℕ) (last : Option Entry) (u : Title) (place given : ℕ) (since : Deeds)
+    (owned unclean : Bool) →
     0 < weight_after (quiet_read own t found value) last (Read u place given since owned unclean) →
     (a : Entry) × (last ≡ Some a) × IsQuietRead own t found value a u given since owned unclean
 quiet_after own t found value None u place given since owned unclean h = absurd (omega arith)
-quiet_after own t found value (Some a) u place given since owned unclean h = (a, refl, quiet_tells own t found value a u place given since owned unclean h)
+quiet_after own t found value (Some a) u place given since owned unclean h =
+    (a, refl, quiet_tells own t found value a u place given since owned unclean h)
 
 -- the pair that a read makes is right
-pub right_read : (history : Title → List Done) (words : List ℕ) (v : View) (t : Title) (place value : ℕ) (owned unclean : Bool) (last : Option Entry) (least : ℕ)
+pub right_read : (history : Title → List Done) (words : List ℕ) (v : View) (t : Title) (place value : ℕ) (owned unclean : Bool)
+    (last : Option Entry) (least : ℕ)
     (logs_by : ℕ → (Entry → ℕ) → ℕ) (poisoned : Title → ℕ → ℕ) → HasLast history words v t last (logs_by least) →
     IsWordRead (history t) (count_word words t) value owned unclean (poisoned t least) →
     AreRight history (λ weight. weight_after weight last (Read t place value v.since owned unclean))
@@ -162,18 +176,23 @@ right_read history words v t place value owned unclean last least logs_by poison
       sym tells.gave ∙ (word.own tells.owner tells.clean ∙ w.content));
   ref = λ r u found written set some_pair. elim (eqb_tells least r) [
     | inl y ↦
-        let some_here : 0 < weight_after (quiet_read false u found written) last (Read t place value v.since owned unclean) = rw y.0 at some_pair in
+        let some_here : 0 < weight_after (quiet_read false u found written) last (Read t place value v.since owned unclean) =
+        rw y.0 at some_pair in
         let q = quiet_after false u found written last t place value v.since owned unclean some_here in
         of_ref r u found written set y.1 q.0 q.1 q.2
     | inr n ↦ let none = rw n.0 at some_pair in absurd (omega arith)
   ];
 }
   where
-    of_ref : (r : ℕ) (u : Title) (found written : ℕ) → held_of found ≡ 1 → least ≡ r → (a : Entry) → last ≡ Some a → IsQuietRead false u found written a t value v.since owned unclean →
-        (written ≡ content_at_number (number_of found) (history u)) ⊎ ((written ≡ poison) × IsFreeing logs_by poisoned (history u) u r (number_of found))
+    of_ref : (r : ℕ) (u : Title) (found written : ℕ) → held_of found ≡ 1 → least ≡ r → (a : Entry) → last ≡ Some a →
+        IsQuietRead false u found written a t value v.since owned unclean →
+        (written ≡ content_at_number (number_of found) (history u)) ⊎
+        ((written ≡ poison) × IsFreeing logs_by poisoned (history u) u r (number_of found))
     of_ref r u found written set same a at_a tells =
-        subst (λ (x : Title). (written ≡ content_at_number (number_of found) (history x)) ⊎ ((written ≡ poison) × IsFreeing logs_by poisoned (history x) x r (number_of found))) tells.title (
-        subst (λ (m : ℕ). (written ≡ content_at_number (number_of found) (history t)) ⊎ ((written ≡ poison) × IsFreeing logs_by poisoned (history t) t m (number_of found))) same (
+        subst (λ (x : Title). (written ≡ content_at_number (number_of found) (history x)) ⊎
+        ((written ≡ poison) × IsFreeing logs_by poisoned (history x) x r (number_of found))) tells.title (
+        subst (λ (m : ℕ). (written ≡ content_at_number (number_of found) (history t)) ⊎
+        ((written ≡ poison) × IsFreeing logs_by poisoned (history t) t m (number_of found))) same (
         let is : last ≡ Some (Looked t found) = at_a ∙ ap Some (tells.looked ∙ ap (λ x. Looked x found) (sym tells.title)) in
         let quiet = quiet_handed v.since tells.quiet in
         let w = k.waits found is quiet in
@@ -182,7 +201,14 @@ right_read history words v t place value owned unclean last least logs_by poison
               let small = held_small (count_word words t) in
               elim (word.ref tells.owner (omega arith)) [
                 | inl e ↦ inl (sym tells.gave ∙ (e ∙ w.content))
-                | inr p ↦ inr (sym tells.gave ∙ p.0, frees_apart history words v t last logs_by poisoned least found k is quiet set (inr p.1))
+                | inr p ↦ inr (
+                  sym tells.gave ∙
+                      p.0,
+                  frees_apart history words v t last logs_by poisoned least found k is quiet set (inr p.1),
+                )
               ]
-          | inr n ↦ inr (sym tells.gave ∙ word.freed (omega arith), frees_apart history words v t last logs_by poisoned least found k is quiet set (inl (omega arith)))
+          | inr n ↦ inr (
+            sym tells.gave ∙ word.freed (omega arith),
+            frees_apart history words v t last logs_by poisoned least found k is quiet set (inl (omega arith)),
+          )
         ]))

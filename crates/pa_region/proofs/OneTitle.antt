@@ -22,7 +22,8 @@ use Rattle.pa_region.specs.Views.{counted_at}
 use Rattle.pa_region.specs.Says.{word_shown}
 
 -- the number of a held title's word is the length of its history
-pub number_length : (words : List ℕ) (views : List View) (t : Title) (k : IsKept words views) → IsTitleHeld (total_of (shown words views)) t →
+pub number_length : (words : List ℕ) (views : List View) (t : Title) (k : IsKept words views) →
+    IsTitleHeld (total_of (shown words views)) t →
     number_of (word_shown words t) ≡ length (k.history t)
 number_length words views t k held = ap number_of (k.logs.last t held) ∙ reached_number (k.history t) (k.logs.chain t).legal
 
@@ -41,7 +42,8 @@ found_once words views t k held =
     )
 
 -- the word of a title on which no step was made
-pub unstepped : (logs : (Entry → ℕ) → ℕ) (t : Title) (history : List Done) → IsChained logs t history → logs (counted_on t) ≡ 0 → reached history ≡ 0
+pub unstepped : (logs : (Entry → ℕ) → ℕ) (t : Title) (history : List Done) → IsChained logs t history → logs (counted_on t) ≡ 0 →
+    reached history ≡ 0
 unstepped logs t history chain none = go history (sym chain.all ∙ none)
   where
     go : (hs : List Done) → length hs ≡ 0 → reached hs ≡ 0
@@ -54,7 +56,8 @@ pub unnamed_new : (words : List ℕ) (views : List View) (t : Title) (k : IsKept
 unnamed_new words views t k held none = k.logs.last t held ∙ unstepped (logged_in views) t (k.history t) (k.logs.chain t) none
 
 -- a held title has at most one Own
-pub few_owns : (words : List ℕ) (views : List View) (t : Title) → IsKept words views → IsTitleHeld (total_of (shown words views)) t → sum_by (λ u. own_of u t) views ≤ 1
+pub few_owns : (words : List ℕ) (views : List View) (t : Title) → IsKept words views → IsTitleHeld (total_of (shown words views)) t →
+    sum_by (λ u. own_of u t) views ≤ 1
 few_owns words views t k held =
     let a = total_sum words views (OwnOf t) in
     let s = sum_same (λ u. held_of_view u (OwnOf t)) (λ u. own_of u t) views (λ u. owns_have u t) in

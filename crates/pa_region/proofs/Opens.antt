@@ -80,6 +80,7 @@ opens words budget enough few = record {
       counted = λ t held. absurd (nothing t held);
       poison_kept = λ t held. absurd (nothing t held);
       content_kept = λ t held. absurd (nothing t held);
+      seal_kept = λ t held. absurd (nothing t held);
     };
     known = λ t some_idle. absurd (omega arith);
     affords = omega arith;
@@ -111,8 +112,16 @@ opens words budget enough few = record {
     };
     last = λ t held. absurd (nothing t held);
     each_stake = λ k. elim (stake_count 0 16 k) [
-      | inl y ↦ elim (one_lt k 16) [ inl z ↦ let a = y.2 in let b = z.0 in omega arith | inr n ↦ let a = y.1 in let b = n.1 in absurd (omega arith) ]
-      | inr m ↦ elim (one_lt k 16) [ inl z ↦ let a = z.1 in absurd (m.0 (omega arith, omega arith)) | inr n ↦ let a = m.1 in let b = n.0 in omega arith ]
+      | inl y ↦ elim (one_lt k 16) [
+        | inl z ↦ let a = y.2 in let b = z.0 in omega arith
+        | inr n ↦ let a = y.1 in let b = n.1 in
+            absurd (omega arith)
+      ]
+      | inr m ↦ elim (one_lt k 16) [
+        | inl z ↦ let a = z.1 in absurd (m.0 (omega arith, omega arith))
+        | inr n ↦ let a = m.1 in let b = n.0 in
+            omega arith
+      ]
     ];
   };
   content = record {
@@ -137,7 +146,8 @@ opens words budget enough few = record {
   filled = record {
     logged = refl;
     placed = tt;
-    owned = λ t state has. let p = (tally_of (shown all_words views).holdings).part t state in let z = total_is (OwnOf t) in absurd (omega arith);
+    owned = λ t state has. let p = (tally_of (shown all_words views).holdings).part t state in let z = total_is (OwnOf t) in
+        absurd (omega arith);
     left = λ t none. record { none = refl; poisoned = λ some_ref. let z = total_is (RefOf t) in absurd (omega arith) };
     each_view = λ i v at_i. record { waits = λ t found is quiet. tt; near = λ t did some_own. tt };
   };
@@ -176,7 +186,8 @@ opens words budget enough few = record {
     only (suc i) v at_i = absurd (some-ne-none v (sym at_i))
 
 -- the first view is sound, and its seat has every stake
-pub first_sound : (region : TableId) (words budget : ℕ) → byte_word_count region ≡ words → words ≤ 16777216 → IsSeatSound region (first_view words budget)
+pub first_sound : (region : TableId) (words budget : ℕ) → byte_word_count region ≡ words → words ≤ 16777216 →
+    IsSeatSound region (first_view words budget)
 first_sound region words budget e small = record {
   small = rw e small;
   well = λ t has. absurd (omega arith);
@@ -191,7 +202,8 @@ opens_with supers budget words few enough z = rw z (opens (supers * 262144) budg
 
 -- what the first seat's type keeps
 pub first_keeps : (supers budget : ℕ) (words : List ℕ) (table region : TableId) (me : Me (Unit {0}) View) → supers ≤ 64 → budget ≤ 65536 →
-    words ≡ replicate (supers * 262144 + 16) 0 → table.words ≡ length words → region ≡ table → me ≡ (first_view (supers * 262144) budget, []) →
+    words ≡ replicate (supers * 262144 + 16) 0 → table.words ≡ length words → region ≡ table →
+    me ≡ (first_view (supers * 262144) budget, []) →
     (me.1 ≡ []) × IsSeatSound region me.0 × AreStakes (replicate 16 true) me.0 × IsAware me.0
 first_keeps supers budget words table region me few enough z long same is_first =
     let count : length words ≡ supers * 262144 + 16 = ap (λ (ws : List ℕ). length ws) z ∙ length-replicate (supers * 262144 + 16) 0 in
@@ -201,5 +213,6 @@ first_keeps supers budget words table region me few enough z long same is_first 
       subst (λ (v : View). IsSeatSound region v) (sym view) (first_sound region (supers * 262144) budget (omega arith) (omega arith)),
       subst (λ (v : View). AreStakes (replicate 16 true) v) (sym view) (first_stakes (supers * 262144) budget),
       subst (λ (v : View). IsAware v) (sym view)
-          (aware_of words (first_view (supers * 262144) budget ∷ []) 0 (first_view (supers * 262144) budget) (opens_with supers budget words few enough z) refl),
+          (aware_of words (first_view (supers * 262144) budget ∷ []) 0 (first_view (supers * 262144) budget)
+          (opens_with supers budget words few enough z) refl),
     )

@@ -27,7 +27,8 @@ abbrev pub ending : Entry → View → List Stamped → List Stamped
 ending e v all = all ++ record { stake = least_stake v.stakes; entry = e } ∷ []
 
 -- what was logged with a stake, with an entry more at the end
-by_stake_here : (r : ℕ) (all : List Stamped) (m : Stamped) → eqb m.stake r ≡ true → by_stake r (all ++ m ∷ []) ≡ by_stake r all ++ m.entry ∷ []
+by_stake_here : (r : ℕ) (all : List Stamped) (m : Stamped) → eqb m.stake r ≡ true → by_stake r (all ++ m ∷ []) ≡ by_stake r all ++
+    m.entry ∷ []
 by_stake_here r [] m e = rw e refl
 by_stake_here r (n ∷ all) m e = go (eqb n.stake r) (by_stake_here r all m e)
   where
@@ -42,7 +43,8 @@ by_stake_other r [] m e = rw e refl
 by_stake_other r (n ∷ all) m e = go (eqb n.stake r) (by_stake_other r all m e)
   where
     go : (b : Bool) → by_stake r (all ++ m ∷ []) ≡ by_stake r all →
-        (if b then n.entry ∷ by_stake r (all ++ m ∷ []) else by_stake r (all ++ m ∷ [])) ≡ (if b then n.entry ∷ by_stake r all else by_stake r all)
+        (if b then n.entry ∷ by_stake r (all ++ m ∷ []) else by_stake r
+        (all ++ m ∷ [])) ≡ (if b then n.entry ∷ by_stake r all else by_stake r all)
     go true again = ap (λ xs. n.entry ∷ xs) again
     go false again = again
 
@@ -63,8 +65,10 @@ module _ {A : Type 0} where
       ]
 
 -- an entry more at the end of the least stake's log, and at the end of the order
-pub order_more : (all : List Stamped) (list after : ℕ → List Made) (views : List View) (i : ℕ) (v w : View) (e : Entry) → get_elem? views i ≡ some v →
-    w.stakes ≡ noted e v.stakes → HasStake v → ((n : ℕ) → stakes_in views n ≡ one (nat_lt n 16)) → ((k : ℕ) → after k ≡ list k ++ entry_in k e) →
+pub order_more : (all : List Stamped) (list after : ℕ → List Made) (views : List View) (i : ℕ) (v w : View) (e : Entry) →
+    get_elem? views i ≡ some v →
+    w.stakes ≡ noted e v.stakes → HasStake v → ((n : ℕ) → stakes_in views n ≡ one (nat_lt n 16)) →
+    ((k : ℕ) → after k ≡ list k ++ entry_in k e) →
     ((t : Title) (word : ℕ) → Touches e t word → number_of word ≡ steps_on t all) → InOneOrder all list views →
     InOneOrder (ending e v all) after (set views i w)
 order_more all list after views i v w e at_i stakes has every more finds o =
@@ -83,13 +87,16 @@ order_more all list after views i v w e at_i stakes has every more finds o =
           (let p = sum_part (λ x. stake_of x least) views i v at_i in let c = once in omega arith)
           (λ s here same. ap (λ xs. xs ++ e ∷ []) same ∙ sym (by_stake_here s.number all m (eqb_flip s.number least true here)))
           other (o.logs i v at_i)))
-          (λ j u ne at_j each. each_none (λ (s : Stake). s.log ≡ by_stake s.number all) (λ (s : Stake). s.log ≡ by_stake s.number (all ++ m ∷ []))
+          (λ j u ne at_j each. each_none (λ (s : Stake). s.log ≡ by_stake s.number all)
+          (λ (s : Stake). s.log ≡ by_stake s.number (all ++ m ∷ []))
           (λ (s : Stake). eqb s.number least) u.stakes
-          (let p = sum_pair (λ x. stake_of x least) views i j v u at_i at_j ne in let c = once in let s = least_there v.stakes has in omega arith)
+          (let p = sum_pair (λ x. stake_of x least) views i j v u at_i at_j ne in let c = once in let s = least_there v.stakes has in
+          omega arith)
           other each);
       lists = λ k.
           more k ∙ (ap (λ xs. xs ++ entry_in k e) (o.lists k)
-          ∙ sym (ap (entered_in k) (map-append (λ (n : Stamped). n.entry) all (m ∷ [])) ∙ entered_more k (map (λ (n : Stamped). n.entry) all) e));
+          ∙ sym (ap (entered_in k) (map-append (λ (n : Stamped). n.entry) all (m ∷ [])) ∙
+          entered_more k (map (λ (n : Stamped). n.entry) all) e));
       found = λ before rest n t word split touches. elim (place_or_end all m before n rest split) [
         | inl y ↦ o.found before y.0 n t word y.1 touches
         | inr z ↦ subst (λ (xs : List Stamped). number_of word ≡ steps_on t xs) (sym z.0)
@@ -98,15 +105,18 @@ order_more all list after views i v w e at_i stakes has every more finds o =
     }
   where
     once : stakes_in views (least_stake v.stakes) ≤ 1
-    once = let e = every (least_stake v.stakes) in elim (one_lt (least_stake v.stakes) 16) [ inl y ↦ let z = y.0 in omega arith | inr n ↦ let z = n.0 in omega arith ]
+    once = let e = every (least_stake v.stakes) in
+        elim (one_lt (least_stake v.stakes) 16) [ inl y ↦ let z = y.0 in omega arith | inr n ↦ let z = n.0 in omega arith ]
 
 -- one order goes on with an entry that is in no keeper's list
-pub order_plain : (all : List Stamped) (list : ℕ → List Made) (views : List View) (i : ℕ) (v w : View) (e : Entry) → get_elem? views i ≡ some v →
+pub order_plain : (all : List Stamped) (list : ℕ → List Made) (views : List View) (i : ℕ) (v w : View) (e : Entry) →
+    get_elem? views i ≡ some v →
     w.stakes ≡ noted e v.stakes → HasStake v → ((n : ℕ) → stakes_in views n ≡ one (nat_lt n 16)) → ((k : ℕ) → entry_in k e ≡ []) →
     ((t : Title) (word : ℕ) → Touches e t word → number_of word ≡ steps_on t all) → InOneOrder all list views →
     InOneOrder (ending e v all) list (set views i w)
 order_plain all list views i v w e at_i stakes has every none finds o =
-    order_more all list list views i v w e at_i stakes has every (λ k. sym (append-nil (list k)) ∙ ap (λ xs. list k ++ xs) (sym (none k))) finds o
+    order_more all list list views i v w e at_i stakes has every
+    (λ k. sym (append-nil (list k)) ∙ ap (λ xs. list k ++ xs) (sym (none k))) finds o
 
 -- each log as before, in whatever views
 pub order_over : (all : List Stamped) (list : ℕ → List Made) (before after : List View) → InOneOrder all list before →
@@ -114,7 +124,8 @@ pub order_over : (all : List Stamped) (list : ℕ → List Made) (before after :
 order_over all list before after o logs = record { stakes = o.stakes; logs = logs; lists = o.lists; found = o.found }
 
 -- a view that has its stakes with their logs as before
-pub order_same : (all : List Stamped) (list : ℕ → List Made) (views : List View) (i : ℕ) (v w : View) → get_elem? views i ≡ some v → w.stakes ≡ v.stakes →
+pub order_same : (all : List Stamped) (list : ℕ → List Made) (views : List View) (i : ℕ) (v w : View) → get_elem? views i ≡ some v →
+    w.stakes ≡ v.stakes →
     InOneOrder all list views → InOneOrder all list (set views i w)
 order_same all list views i v w at_i stakes o = order_over all list views (set views i w) o
     (each_set (IsLoggedIn all) (IsLoggedIn all) views i v w at_i o.logs
@@ -127,7 +138,8 @@ only_view v zero u at_j = some-injective v u at_j
 only_view v (suc j) u at_j = absurd (some-ne-none u (sym at_j))
 
 -- another view with the same stakes, that has seen the same of the lists
-pub order_of_view : (all : List Stamped) (v w : View) → w.stakes ≡ v.stakes → w.seen_lists ≡ v.seen_lists → InOneOrder all (λ k. list_of k v) (v ∷ []) →
+pub order_of_view : (all : List Stamped) (v w : View) → w.stakes ≡ v.stakes → w.seen_lists ≡ v.seen_lists →
+    InOneOrder all (λ k. list_of k v) (v ∷ []) →
     InOneOrder all (λ k. list_of k w) (w ∷ [])
 order_of_view all v w stakes lists o = record {
   stakes = o.stakes;

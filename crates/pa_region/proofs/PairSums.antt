@@ -18,7 +18,8 @@ use Rattle.pa_region.proofs.Adding.{sum_set, one_eq}
 use Rattle.pa_region.proofs.Entering.{least_there, with_entry_last}
 
 -- one more entry makes one pair more, with the entry that was the last
-pub pairs_more : (weight : Entry → Entry → ℕ) (log : List Entry) (e : Entry) → pairs weight (log ++ e ∷ []) ≡ pairs weight log + weight_after weight (last_entry log) e
+pub pairs_more : (weight : Entry → Entry → ℕ) (log : List Entry) (e : Entry) →
+    pairs weight (log ++ e ∷ []) ≡ pairs weight log + weight_after weight (last_entry log) e
 pairs_more weight [] e = refl
 pairs_more weight (a ∷ []) e = omega arith
 pairs_more weight (a ∷ b ∷ log) e = let again = pairs_more weight (b ∷ log) e in omega arith
@@ -52,12 +53,14 @@ sum_noted_at f e k (s ∷ ss) there = elim (eqb_tells s.number k) [
 
 -- a sum over a view's stakes after an entry
 pub sum_noted : (f : Stake → ℕ) (e : Entry) (ss : List Stake) → least_stake ss < 16 →
-    sum_by f (noted e ss) + f (stake_with (least_stake ss) (least_log ss)) ≡ sum_by f ss + f (stake_with (least_stake ss) (least_log ss ++ e ∷ []))
+    sum_by f (noted e ss) + f (stake_with (least_stake ss) (least_log ss)) ≡ sum_by f ss + f
+    (stake_with (least_stake ss) (least_log ss ++ e ∷ []))
 sum_noted f e ss has = sum_noted_at f e (least_stake ss) ss (least_there ss has)
 
 -- the pairs after an entry
 pub noted_pairs : (e : Entry) (ss : List Stake) (weight : Entry → Entry → ℕ) → least_stake ss < 16 →
-    sum_by (λ (s : Stake). pairs weight s.log) (noted e ss) ≡ sum_by (λ (s : Stake). pairs weight s.log) ss + weight_after weight (last_entry (least_log ss)) e
+    sum_by (λ (s : Stake). pairs weight s.log) (noted e ss) ≡ sum_by (λ (s : Stake). pairs weight s.log) ss + weight_after weight
+    (last_entry (least_log ss)) e
 noted_pairs e ss weight has =
     let c = sum_noted (λ (s : Stake). pairs weight s.log) e ss has in
     let p = pairs_more weight (least_log ss) e in
@@ -75,26 +78,35 @@ noted_by amount r more e ss has grows =
     ]
 
 -- If one view's least log gains an entry, over all views: the pairs,
-pub paired_set : (views : List View) (i : ℕ) (v w : View) (e : Entry) → get_elem? views i ≡ some v → w.stakes ≡ noted e v.stakes → least_stake v.stakes < 16 →
-    (weight : Entry → Entry → ℕ) → paired_in (set views i w) weight ≡ paired_in views weight + weight_after weight (last_entry (least_log v.stakes)) e
+pub paired_set : (views : List View) (i : ℕ) (v w : View) (e : Entry) → get_elem? views i ≡ some v → w.stakes ≡ noted e v.stakes →
+    least_stake v.stakes < 16 →
+    (weight : Entry → Entry → ℕ) →
+    paired_in (set views i w) weight ≡ paired_in views weight + weight_after weight (last_entry (least_log v.stakes)) e
 paired_set views i v w e at_i stakes has weight =
     let c = sum_set (λ u. paired_of u weight) views i v w at_i in
-    let m : paired_of w weight ≡ paired_of v weight + weight_after weight (last_entry (least_log v.stakes)) e = rw stakes (noted_pairs e v.stakes weight has) in
+    let m : paired_of w weight ≡ paired_of v weight + weight_after weight (last_entry (least_log v.stakes)) e =
+    rw stakes (noted_pairs e v.stakes weight has) in
     omega arith
 
 -- the pairs by number,
-pub paired_by_set : (views : List View) (i : ℕ) (v w : View) (e : Entry) → get_elem? views i ≡ some v → w.stakes ≡ noted e v.stakes → least_stake v.stakes < 16 →
+pub paired_by_set : (views : List View) (i : ℕ) (v w : View) (e : Entry) → get_elem? views i ≡ some v → w.stakes ≡ noted e v.stakes →
+    least_stake v.stakes < 16 →
     (r : ℕ) (weight : Entry → Entry → ℕ) →
-    paired_by (set views i w) r weight ≡ paired_by views r weight + (if eqb (least_stake v.stakes) r then weight_after weight (last_entry (least_log v.stakes)) e else 0)
+    paired_by (set views i w) r weight ≡ paired_by views r
+    weight + (if eqb (least_stake v.stakes) r then weight_after weight (last_entry (least_log v.stakes)) e else 0)
 paired_by_set views i v w e at_i stakes has r weight =
     let c = sum_set (λ u. paired_of_by u r weight) views i v w at_i in
-    let m : paired_of_by w r weight ≡ paired_of_by v r weight + (if eqb (least_stake v.stakes) r then weight_after weight (last_entry (least_log v.stakes)) e else 0) =
-    rw stakes (noted_by (pairs weight) r (weight_after weight (last_entry (least_log v.stakes)) e) e v.stakes has (pairs_more weight (least_log v.stakes) e)) in
+    let m : paired_of_by w r weight ≡ paired_of_by v r
+    weight + (if eqb (least_stake v.stakes) r then weight_after weight (last_entry (least_log v.stakes)) e else 0) =
+    rw stakes (noted_by (pairs weight) r (weight_after weight (last_entry (least_log v.stakes)) e) e v.stakes has
+    (pairs_more weight (least_log v.stakes) e)) in
     omega arith
 
 -- what one more entry adds to the entries of a stake number
-pub logged_by_set : (views : List View) (i : ℕ) (v w : View) (e : Entry) → get_elem? views i ≡ some v → w.stakes ≡ noted e v.stakes → least_stake v.stakes < 16 →
-    (r : ℕ) (weight : Entry → ℕ) → logged_by (set views i w) r weight ≡ logged_by views r weight + (if eqb (least_stake v.stakes) r then weight e else 0)
+pub logged_by_set : (views : List View) (i : ℕ) (v w : View) (e : Entry) → get_elem? views i ≡ some v → w.stakes ≡ noted e v.stakes →
+    least_stake v.stakes < 16 →
+    (r : ℕ) (weight : Entry → ℕ) →
+    logged_by (set views i w) r weight ≡ logged_by views r weight + (if eqb (least_stake v.stakes) r then weight e else 0)
 logged_by_set views i v w e at_i stakes has r weight =
     let c = sum_set (λ u. logged_of_by u r weight) views i v w at_i in
     let m : logged_of_by w r weight ≡ logged_of_by v r weight + (if eqb (least_stake v.stakes) r then weight e else 0) =
@@ -129,7 +141,8 @@ paired_by_within views r weight =
     (λ v. sum_by-le-sum_by (amount_by r (pairs weight)) (λ (s : Stake). pairs weight s.log) v.stakes (by_within r (pairs weight)))
 
 -- a view without stake r has no amount of its logs
-pub by_none : (amount : List Entry → ℕ) (r : ℕ) (ss : List Stake) → sum_by (λ (s : Stake). one (eqb s.number r)) ss ≡ 0 → sum_by (amount_by r amount) ss ≡ 0
+pub by_none : (amount : List Entry → ℕ) (r : ℕ) (ss : List Stake) → sum_by (λ (s : Stake). one (eqb s.number r)) ss ≡ 0 →
+    sum_by (amount_by r amount) ss ≡ 0
 by_none amount r [] none = refl
 by_none amount r (s ∷ ss) none =
     let c = sum_by-cons (λ (x : Stake). one (eqb x.number r)) s ss in
@@ -143,7 +156,8 @@ by_none amount r (s ∷ ss) none =
     ]
 
 -- a log with its entries at these places has this pair
-pub pair_at : (weight : Entry → Entry → ℕ) (before : List Entry) (a b : Entry) (later : List Entry) → weight a b ≤ pairs weight (before ++ a ∷ b ∷ later)
+pub pair_at : (weight : Entry → Entry → ℕ) (before : List Entry) (a b : Entry) (later : List Entry) →
+    weight a b ≤ pairs weight (before ++ a ∷ b ∷ later)
 pair_at weight [] a b later = omega arith
 pair_at weight (x ∷ []) a b later = omega arith
 pair_at weight (x ∷ y ∷ before) a b later = let again = pair_at weight (y ∷ before) a b later in omega arith

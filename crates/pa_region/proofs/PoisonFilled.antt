@@ -32,10 +32,12 @@ use Rattle.pa_region.proofs.StepsPart.{alone_none}
 spoiled_here : (t : Title) (j : ℕ) (steps : List OneStep) → content_in t j (Spoiled t j ∷ steps) ≡ poison
 spoiled_here t j steps = elim (eqb_tells j j) [ inl y ↦ rw (title_self t, y.0) refl | inr n ↦ absurd (n.1 refl) ]
 
-spoiled_beside : (t : Title) (j place : ℕ) (steps : List OneStep) → (j ≡ place → ⊥) → content_in t place (Spoiled t j ∷ steps) ≡ content_in t place steps
+spoiled_beside : (t : Title) (j place : ℕ) (steps : List OneStep) → (j ≡ place → ⊥) →
+    content_in t place (Spoiled t j ∷ steps) ≡ content_in t place steps
 spoiled_beside t j place steps ne = elim (eqb_tells j place) [ inl y ↦ absurd (ne y.1) | inr n ↦ rw (title_self t, n.0) refl ]
 
-spoiled_other : (t u : Title) (j place : ℕ) (steps : List OneStep) → same_title t u ≡ false → content_in u place (Spoiled t j ∷ steps) ≡ content_in u place steps
+spoiled_other : (t u : Title) (j place : ℕ) (steps : List OneStep) → same_title t u ≡ false →
+    content_in u place (Spoiled t j ∷ steps) ≡ content_in u place steps
 spoiled_other t u j place steps ne = rw ne refl
 
 spoiled_more : (t : Title) (j : ℕ) (steps : List OneStep) → spoiled t (Spoiled t j ∷ steps) ≡ 1 + spoiled t steps
@@ -59,17 +61,22 @@ filled_more steps t value j f = record {
     less place n below ne = elim (eqb_tells n place) [ inl y ↦ absurd (ne y.1) | inr m ↦ omega arith ]
 
 -- the part after the poisoning
-pub filled_poisoned : (steps : List OneStep) (all : List Stamped) (history : Title → List Done) (total later : Thing → ℕ) (views after : List View) (t : Title) (j : ℕ) (a : OwnState) →
-    Filled steps all history total views → IsTally total → IsTally later → total (OwnOf t) ≤ 1 → 0 < total (OwnAs t a) → progress a ≡ j → j < content_count t →
-    Changes total (OwnPiece t a ∷ []) (OwnPiece t (Poisoned (j + 1)) ∷ []) later → ((i : ℕ) (v : View) → get_elem? after i ≡ some v → IsSteady (Spoiled t j ∷ steps) v) →
+pub filled_poisoned : (steps : List OneStep) (all : List Stamped) (history : Title → List Done) (total later : Thing → ℕ)
+    (views after : List View) (t : Title) (j : ℕ) (sealed : Bool) (a : OwnState) →
+    Filled steps all history total views → IsTally total → IsTally later → total (OwnOf t) ≤ 1 → 0 < total (OwnAs t a) → progress a ≡ j →
+    j < content_count t →
+    Changes total (OwnPiece sealed t a ∷ []) (OwnPiece sealed t (Poisoned (j + 1)) ∷ []) later →
+    ((i : ℕ) (v : View) → get_elem? after i ≡ some v → IsSteady (Spoiled t j ∷ steps) v) →
     Filled (Spoiled t j ∷ steps) all history later after
-filled_poisoned steps all history total later views after t j a f tally after_tally few has many below changes each = record {
+filled_poisoned steps all history total later views after t j sealed a f tally after_tally few has many below changes each = record {
   logged = f.logged;
   placed = (((f.owned t a has).many ∙ many, below), f.placed);
   owned = λ u state there. elim (title_tells t u) [
-    | inl y ↦ subst (λ (x : Title). 0 < later (OwnAs x state) → IsFilled (Spoiled t j ∷ steps) x (content_of (history x)) (progress state)) y.1 (here state) there
+    | inl y ↦ subst (λ (x : Title). 0 < later (OwnAs x state) →
+        IsFilled (Spoiled t j ∷ steps) x (content_of (history x)) (progress state)) y.1 (here state) there
     | inr n ↦
-        let c = changes (OwnAs u state) in let l = (own_none t u a n.1).state state in let g = (own_none t u (Poisoned (j + 1)) n.1).state state in
+        let c = changes (OwnAs u state) in let l = (own_none sealed t u a n.1).state state in
+        let g = (own_none sealed t u (Poisoned (j + 1)) n.1).state state in
         let old = f.owned u state (omega arith) in
         record {
           many = spoiled_same t u j steps n.0 ∙ old.many;
@@ -80,11 +87,12 @@ filled_poisoned steps all history total later views after t j a f tally after_ta
   left = λ u none. elim (title_tells t u) [
     | inl y ↦
         let gone : later (OwnOf t) ≡ 0 = subst (λ (x : Title). later (OwnOf x) ≡ 0) (sym y.1) none in
-        let c = changes (OwnOf t) in let l = own_self t a in let g = own_self t (Poisoned (j + 1)) in
+        let c = changes (OwnOf t) in let l = own_self sealed t a in let g = own_self sealed t (Poisoned (j + 1)) in
         let p = tally.part t a in
         absurd (omega arith)
     | inr n ↦
-        let c = changes (OwnOf u) in let l = (own_none t u a n.1).own in let g = (own_none t u (Poisoned (j + 1)) n.1).own in
+        let c = changes (OwnOf u) in let l = (own_none sealed t u a n.1).own in
+        let g = (own_none sealed t u (Poisoned (j + 1)) n.1).own in
         let d = changes (RefOf u) in
         let old = f.left u (omega arith) in
         record {
@@ -97,26 +105,29 @@ filled_poisoned steps all history total later views after t j a f tally after_ta
   where
     here : (state : OwnState) → 0 < later (OwnAs t state) → IsFilled (Spoiled t j ∷ steps) t (content_of (history t)) (progress state)
     here state there =
-        let o = changes (OwnOf t) in let l = own_self t a in let g = own_self t (Poisoned (j + 1)) in
-        let c = changes (OwnAs t (Poisoned (j + 1))) in let now = state_here t (Poisoned (j + 1)) in
+        let o = changes (OwnOf t) in let l = own_self sealed t a in let g = own_self sealed t (Poisoned (j + 1)) in
+        let c = changes (OwnAs t (Poisoned (j + 1))) in let now = state_here sealed t (Poisoned (j + 1)) in
         let lost = lost_few in
         let same = one_state later t (Poisoned (j + 1)) state after_tally (omega arith) (omega arith) there in
         subst (λ (s : OwnState). IsFilled (Spoiled t j ∷ steps) t (content_of (history t)) (progress s)) same
-        (filled_more steps t (content_of (history t)) j (subst (λ (n : ℕ). IsFilled steps t (content_of (history t)) n) many (f.owned t a has)))
+        (filled_more steps t (content_of (history t)) j
+        (subst (λ (n : ℕ). IsFilled steps t (content_of (history t)) n) many (f.owned t a has)))
       where
-        lost_within : (s : OwnState) → 0 < total (OwnAs t s) → held_in (OwnPiece t s ∷ []) (OwnAs t (Poisoned (j + 1))) ≤ total (OwnAs t (Poisoned (j + 1)))
+        lost_within : (s : OwnState) → 0 < total (OwnAs t s) →
+            held_in (OwnPiece sealed t s ∷ []) (OwnAs t (Poisoned (j + 1))) ≤ total (OwnAs t (Poisoned (j + 1)))
         lost_within s there_before = elim (state_tells s (Poisoned (j + 1))) [
           | inl y ↦ let now : 0 < total (OwnAs t (Poisoned (j + 1))) = subst (λ (x : OwnState). 0 < total (OwnAs t x)) y.1 there_before in
-              rw (y.1, state_here t (Poisoned (j + 1))) (omega arith)
-          | inr n ↦ rw (state_apart t s (Poisoned (j + 1)) n.1) (omega arith)
+              rw (y.1, state_here sealed t (Poisoned (j + 1))) (omega arith)
+          | inr n ↦ rw (state_apart sealed t s (Poisoned (j + 1)) n.1) (omega arith)
         ]
 
-        lost_few : held_in (OwnPiece t a ∷ []) (OwnAs t (Poisoned (j + 1))) ≤ total (OwnAs t (Poisoned (j + 1)))
+        lost_few : held_in (OwnPiece sealed t a ∷ []) (OwnAs t (Poisoned (j + 1))) ≤ total (OwnAs t (Poisoned (j + 1)))
         lost_few = lost_within a has
 
 -- an Own that has words poisoned is poisoned
 begun : (v : View) (t : Title) (j : ℕ) → own_to v t (suc j) ≤ poisoned_of v t
-begun v t j = sum_by-le-sum_by (λ (o : OwnTitle). one (same_title o.title t && (progress o.state == suc j))) (λ (o : OwnTitle). one (same_title o.title t && is_poisoned o.state)) v.owns
+begun v t j = sum_by-le-sum_by (λ (o : OwnTitle). one (same_title o.title t && (progress o.state == suc j)))
+    (λ (o : OwnTitle). one (same_title o.title t && is_poisoned o.state)) v.owns
     (λ o. each (same_title o.title t) o.state)
   where
     zero_before : (n : ℕ) → one (0 == suc n) ≡ 0
@@ -134,11 +145,13 @@ begun v t j = sum_by-le-sum_by (λ (o : OwnTitle). one (same_title o.title t && 
 
 -- of another title as many Owns are poisoned as before
 beside_poisoned : (t u : Title) (j : ℕ) (v : View) → (t ≡ u → ⊥) → poisoned_of (after_poison t j v) u ≡ poisoned_of v u
-beside_poisoned t u j v ne = sum_changed (λ (o : OwnTitle). one (same_title o.title u && is_poisoned o.state)) (is_own_of t) (poisoned_to (j + 1)) v.owns
+beside_poisoned t u j v ne =
+    sum_changed (λ (o : OwnTitle). one (same_title o.title u && is_poisoned o.state)) (is_own_of t) (poisoned_to (j + 1)) v.owns
     (λ o here. own_else t u (Poisoned (j + 1)) o ne here ∙ sym (own_else t u o.state o ne here))
 
 -- the view that poisons finds the steps steady after it
-poison_near : (steps : List OneStep) (t : Title) (j : ℕ) (v : View) → GoesOn j v → 0 < own_to v t j → spoiled t steps ≡ j → IsSteady steps v → (u : Title) →
+poison_near : (steps : List OneStep) (t : Title) (j : ℕ) (v : View) → GoesOn j v → 0 < own_to v t j → spoiled t steps ≡ j →
+    IsSteady steps v → (u : Title) →
     0 < poisoned_of (after_poison t j v) u → IsAlone (least_stake v.stakes) u steps
 poison_near steps t zero v goes has many s u some_own = elim (title_tells t u) [
   | inl y ↦ subst (λ (x : Title). IsAlone (least_stake v.stakes) x steps) y.1 (alone_none (least_stake v.stakes) t steps many)
@@ -149,7 +162,8 @@ poison_near steps t (suc j) v goes has many s u some_own = elim (title_tells t u
   | inr n ↦ let e = beside_poisoned t u (suc j) v n.1 in s.near u goes (omega arith)
 ]
 
-pub poison_steady : (steps : List OneStep) (t : Title) (j : ℕ) (views : List View) (i : ℕ) (v : View) → get_elem? views i ≡ some v → CanPoison t j v → spoiled t steps ≡ j →
+pub poison_steady : (steps : List OneStep) (t : Title) (j : ℕ) (views : List View) (i : ℕ) (v : View) → get_elem? views i ≡ some v →
+    CanPoison t j v → spoiled t steps ≡ j →
     ((k : ℕ) (u : View) → get_elem? views k ≡ some u → IsSteady steps u) →
     (k : ℕ) (u : View) → get_elem? (set views i (after_poison t j v)) k ≡ some u → IsSteady (Spoiled t j ∷ steps) u
 poison_steady steps t j views i v at_i can many each =

@@ -57,9 +57,11 @@ abbrev pub views_read : List ℕ → List View → ℕ → View → Title → �
 views_read words views i v t place = set views i (after_read t place (value_read words t place) v)
 
 -- what a read knows of its log's last entry
-read_last : (words : List ℕ) (views : List View) (i : ℕ) (v : View) (t : Title) (place : ℕ) (k : IsKept words views) → get_elem? views i ≡ some v → IsUser t v →
+read_last : (words : List ℕ) (views : List View) (i : ℕ) (v : View) (t : Title) (place : ℕ) (k : IsKept words views) →
+    get_elem? views i ≡ some v → IsUser t v →
     HasStake v → Reads k.history (byte_words words) views →
-    HasLast k.history (byte_words words) v t (last_entry (least_log v.stakes)) (logged_by (views_read words views i v t place) (least_stake v.stakes))
+    HasLast k.history (byte_words words) v t (last_entry (least_log v.stakes))
+    (logged_by (views_read words views i v t place) (least_stake v.stakes))
 read_last words views i v t place k at_i has stake reads = record {
   legal = (k.logs.chain t).legal;
   at_end = k.logs.last t (user_in_all words views i v t at_i has);
@@ -67,16 +69,20 @@ read_last words views i v t place k at_i has stake reads = record {
   waits = λ found is quiet. (reads.each_view i v at_i).waits t found is quiet;
   own_log = λ n.
       none_more (eqb (least_stake v.stakes) (least_stake v.stakes)) (counted_at t n (read_entry t place (value_read words t place) v)) _ _
-      (logged_by_set views i v (after_read t place (value_read words t place) v) (read_entry t place (value_read words t place) v) at_i refl stake (least_stake v.stakes) (counted_at t n)) refl
+      (logged_by_set views i v (after_read t place (value_read words t place) v)
+      (read_entry t place (value_read words t place) v) at_i refl stake (least_stake v.stakes) (counted_at t n)) refl
       ∙ own_log (counted_at t n) views i v at_i stake (once stake);
 }
   where
     once : HasStake v → stakes_in views (least_stake v.stakes) ≡ 1
-    once small = k.logs.each_stake (least_stake v.stakes) ∙ elim (one_lt (least_stake v.stakes) 16) [ inl y ↦ y.0 | inr n ↦ let z = n.1 in absurd (omega arith) ]
+    once small = k.logs.each_stake (least_stake v.stakes) ∙
+        elim (one_lt (least_stake v.stakes) 16) [ inl y ↦ y.0 | inr n ↦ let z = n.1 in absurd (omega arith) ]
 
 -- a read keeps what the rule says of reads
-reads_read : (words : List ℕ) (views : List View) (i : ℕ) (v : View) (t : Title) (place : ℕ) (k : IsKept words views) → get_elem? views i ≡ some v → IsUser t v →
-    HasStake v → place < content_count t → Reads k.history (byte_words words) views → Reads k.history (byte_words words) (views_read words views i v t place)
+reads_read : (words : List ℕ) (views : List View) (i : ℕ) (v : View) (t : Title) (place : ℕ) (k : IsKept words views) →
+    get_elem? views i ≡ some v → IsUser t v →
+    HasStake v → place < content_count t → Reads k.history (byte_words words) views →
+    Reads k.history (byte_words words) (views_read words views i v t place)
 reads_read words views i v t place k at_i has stake below reads =
     let value = value_read words t place in
     let w = after_read t place value v in
@@ -88,11 +94,15 @@ reads_read words views i v t place k at_i has stake below reads =
     let word = word_read words views i v t place k at_i has stake below in
     record {
       right = right_both k.history (paired_in views) (λ weight. weight_after weight last e) (paired_in (set views i w)) (paired_by views)
-          (λ r weight. if eqb least r then weight_after weight last e else 0) (paired_by (set views i w)) (logged_by (set views i w)) (poisoned_apart (set views i w))
-          (right_same k.history (paired_in views) (paired_in views) (paired_by views) (paired_by views) (logged_by views) (logged_by (set views i w))
+          (λ r weight. if eqb least r then weight_after weight last e else 0) (paired_by (set views i w)) (logged_by (set views i w))
+          (poisoned_apart (set views i w))
+          (right_same k.history (paired_in views) (paired_in views) (paired_by views) (paired_by views) (logged_by views)
+          (logged_by (set views i w))
           (poisoned_apart views) (poisoned_apart (set views i w)) reads.right refl (λ own u found given. refl) (λ r own u found given. refl)
-          (λ r u n. none_more (eqb least r) (counted_at u n e) _ _ (logged_by_set views i v w e at_i refl stake r (counted_at u n)) refl) grows)
-          (right_read k.history (byte_words words) v t place value (has_own v t) (has_unclean v t) last least (logged_by (set views i w)) (poisoned_apart (set views i w))
+          (λ r u n. none_more (eqb least r) (counted_at u n e) _ _ (logged_by_set views i v w e at_i refl stake r (counted_at u n)) refl)
+          grows)
+          (right_read k.history (byte_words words) v t place value (has_own v t) (has_unclean v t) last least (logged_by (set views i w))
+          (poisoned_apart (set views i w))
           (read_last words views i v t place k at_i has stake reads)
           (record {
             freed = word.freed;
@@ -103,7 +113,8 @@ reads_read words views i v t place k at_i has stake below reads =
           (λ r weight. paired_by_set views i v w e at_i refl stake r weight);
       each_view = each_set (IsReader k.history (byte_words words)) (IsReader k.history (byte_words words)) views i v w at_i reads.each_view
           (record {
-            waits = λ u found is quiet. let no_look : Some e ≡ Some (Looked u found) = sym (last_noted e v.stakes stake) ∙ is in absurd (cc);
+            waits = λ u found is quiet. let no_look : Some e ≡ Some (Looked u found) = sym (last_noted e v.stakes stake) ∙ is in
+                absurd (cc);
             stake = λ some_own. stake_noted e v w refl stake;
           })
           (λ j u ne at_j reader. reader);
@@ -113,10 +124,12 @@ reads_read words views i v t place k at_i has stake below reads =
 read_shown : (words : List ℕ) (views : List View) (i : ℕ) (v : View) (t : Title) (place value : ℕ) → get_elem? views i ≡ some v →
     shown words (set views i (after_read t place value v)) ≡ shown words views
 read_shown words views i v t place value at_i =
-    ap (λ (hs : List (List Piece)). record { words = byte_words words; holdings = hs }) (map_same pieces_of views i v (after_read t place value v) at_i refl)
+    ap (λ (hs : List (List Piece)). record { words = byte_words words; holdings = hs })
+    (map_same pieces_of views i v (after_read t place value v) at_i refl)
 
 -- a read is a load of the core
-pub read_event : (words : List ℕ) (views : List View) (i : ℕ) (v : View) (t : Title) (place : ℕ) → IsKept words views → get_elem? views i ≡ some v → IsUser t v →
+pub read_event : (words : List ℕ) (views : List View) (i : ℕ) (v : View) (t : Title) (place : ℕ) → IsKept words views →
+    get_elem? views i ≡ some v → IsUser t v →
     place < content_count t →
     IsEnabled (Load i (content_offset t place)) (shown words views) ×
     Happens (Load i (content_offset t place)) (shown words views) (shown words (views_read words views i v t place))
@@ -124,13 +137,19 @@ read_event words views i v t place k at_i has below = (
   (
     shown_actor words views i v at_i,
     (let z : (content_offset t place) % 8 ≡ 0 = omega arith in z),
-    inr (t, (content_covered (length (byte_words words)) t place (k.holders.good.divided.well t (user_in_all words views i v t at_i has)) below).0, title_in_core words views i v t at_i (omega arith)),
+    inr (
+      t,
+      (content_covered (length (byte_words words)) t place
+          (k.holders.good.divided.well t (user_in_all words views i v t at_i has)) below).0,
+      title_in_core words views i v t at_i (omega arith),
+    ),
   ),
   read_shown words views i v t place (value_read words t place) at_i,
 )
 
 -- the rule after a read
-pub read_keeps : (words : List ℕ) (views : List View) (i : ℕ) (v : View) (t : Title) (place : ℕ) → IsKept words views → get_elem? views i ≡ some v → IsUser t v →
+pub read_keeps : (words : List ℕ) (views : List View) (i : ℕ) (v : View) (t : Title) (place : ℕ) → IsKept words views →
+    get_elem? views i ≡ some v → IsUser t v →
     HasStake v → place < content_count t → IsKept words (views_read words views i v t place)
 read_keeps words views i v t place k at_i has stake below =
     let value = value_read words t place in
@@ -139,7 +158,8 @@ read_keeps words views i v t place k at_i has stake below =
     let held = user_in_all words views i v t at_i has in
     let logged : (weight : Entry → ℕ) → logged_of w weight ≡ logged_of v weight + weight e = λ weight. noted_logs e v.stakes weight stake in
     let more = logged_set views i v w e at_i logged in
-    let same : (x : Thing) → total_of (shown words (set views i w)) x ≡ total_of (shown words views) x = λ x. let c = total_set words words views i v w at_i x in omega arith in
+    let same : (x : Thing) → total_of (shown words (set views i w)) x ≡ total_of (shown words views) x = λ x. let c =
+    total_set words words views i v w at_i x in omega arith in
     let back : (u : Title) → IsTitleHeld (total_of (shown words (set views i w))) u → IsTitleHeld (total_of (shown words views)) u =
     λ u y. let p = same (FreeTitle u) in let q = same (OwnOf u) in let r = same (RefOf u) in omega arith in
     let forth : (u : Title) → IsTitleHeld (total_of (shown words views)) u → IsTitleHeld (total_of (shown words (set views i w))) u =
@@ -149,13 +169,15 @@ read_keeps words views i v t place k at_i has stake below =
       list = k.list;
       all = ending e v k.all;
       steps = logging e v ∷ k.steps;
-      holders = holders_same (byte_words words) (total_of (shown words views)) _ (idle_in views) (idle_in (set views i w)) (budget_in views) (budget_in (set views i w))
+      holders = holders_same (byte_words words) (total_of (shown words views)) _ (idle_in views) (idle_in (set views i w)) (budget_in views)
+          (budget_in (set views i w))
           (logged_in views counted) (logged_in (set views i w) counted) k.holders same
           (λ u some_idle. let c = sum_set (λ (z : View). idle_of z u) views i v w at_i in k.holders.known u (omega arith))
           (let b = sum_set (λ (u : View). u.budget) views i v w at_i in omega arith)
           (let m = more counted in omega arith);
       values = values_same (byte_words words) views i v w at_i k.values refl (λ q knows. knows);
-      reservations = reservations_count t (byte_words words) (total_of (shown words views)) _ (idle_in views) (budget_in views) (logged_in views counted)
+      reservations = reservations_count t (byte_words words) (total_of (shown words views)) _ (idle_in views) (budget_in views)
+          (logged_in views counted)
           (low_in views) (low_in (set views i w)) _ _ (uncut_in views) (uncut_in (set views i w))
           k.reservations k.holders held back (low_set views i v w at_i refl) (low_raw words views)
           (λ u. more (names u)) (λ u. let m = more (uncuts u) in omega arith);
@@ -171,7 +193,8 @@ read_keeps words views i v t place k at_i has stake below =
       };
       content = rw (read_shown words views i v t place value at_i) k.content;
       reads = reads_read words views i v t place k at_i has stake below k.reads;
-      seen = seen_same (logged_in views) (logged_in (set views i w)) (ahead_in views) (ahead_in (set views i w)) (unseen_in views) (unseen_in (set views i w)) k.seen
+      seen = seen_same (logged_in views) (logged_in (set views i w)) (ahead_in views) (ahead_in (set views i w)) (unseen_in views)
+          (unseen_in (set views i w)) k.seen
           (λ u. let m = more (counted_on u) in omega arith)
           (λ u n. let c = sum_set (λ z. ahead_of z u n) views i v w at_i in omega arith)
           (let c = sum_set unseen_of views i v w at_i in let d = logged (unseen_by v.seen) in omega arith);
@@ -184,9 +207,13 @@ read_keeps words views i v t place k at_i has stake below =
         handles = λ u has. inl has;
       }) (k.lists.free_seen i v at_i);
       undone = undone_set views i v w at_i refl (λ u. let m = more (uncuts u) in omega arith) k.undone;
-      totals = totals_other words words views i v w e at_i refl stake k.totals (words_stay words) more (λ n. refl) (λ q. refl) (λ q. omega arith);
-      ordered = order_plain k.all k.list views i v w e at_i refl stake k.logs.each_stake (λ n. refl) (λ u word touch. absurd touch) k.ordered;
-      filled = filled_entry k.steps k.all k.history (total_of (shown words views)) (total_of (shown words (set views i w))) views i v w e at_i refl refl
-          (record { frees = λ u. refl; keeps = λ u x. refl; fills = λ u. tt }) (read_in_place words views i v t place k at_i has stake below)
+      totals = totals_other words words views i v w e at_i refl stake k.totals (words_stay words) more (λ n. refl) (λ q. refl)
+          (λ q. omega arith);
+      ordered = order_plain k.all k.list views i v w e at_i refl stake k.logs.each_stake (λ n. refl)
+          (λ u word touch. absurd touch) k.ordered;
+      filled = filled_entry k.steps k.all k.history (total_of (shown words views))
+          (total_of (shown words (set views i w))) views i v w e at_i refl refl
+          (record { frees = λ u. refl; keeps = λ u x. refl; fills = λ u. tt })
+          (read_in_place words views i v t place k at_i has stake below)
           (others_apart words views i v k at_i stake) (eased_same _ _ same) k.filled;
     }

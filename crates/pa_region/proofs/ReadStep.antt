@@ -29,13 +29,15 @@ use Rattle.pa_region.proofs.OneRead.{IsWordRead}
 use Rattle.pa_region.proofs.OneLog.{some_member, stake_alone}
 
 -- a user's title is held
-pub user_in_all : (words : List ℕ) (views : List View) (i : ℕ) (v : View) (t : Title) → get_elem? views i ≡ some v → IsUser t v → IsTitleHeld (total_of (shown words views)) t
+pub user_in_all : (words : List ℕ) (views : List View) (i : ℕ) (v : View) (t : Title) → get_elem? views i ≡ some v → IsUser t v →
+    IsTitleHeld (total_of (shown words views)) t
 user_in_all words views i v t at_i has = held_in_all words views i v t at_i (title_held v t (omega arith))
 
 -- an Own is clean, or it isn't
 pub clean_or : (t : Title) (os : List OwnTitle) →
     sum_by (λ (o : OwnTitle). one (same_title o.title t)) os ≤
-    sum_by (λ (o : OwnTitle). one (same_title o.title t && same_state o.state Clean)) os + sum_by (λ (o : OwnTitle). one (same_title o.title t && is_unclean o.state)) os
+    sum_by (λ (o : OwnTitle). one (same_title o.title t && same_state o.state Clean)) os + sum_by
+    (λ (o : OwnTitle). one (same_title o.title t && is_unclean o.state)) os
 clean_or t [] = omega arith
 clean_or t (o ∷ os) =
     let again = clean_or t os in
@@ -63,7 +65,8 @@ test_no n e = elim (cases_lt 0 n) [ inl y ↦ absurd (true≢false (sym (lt-ltb 
 -- a view that has an Own in a poisoned state has it poisoned
 pub as_poisoned : (v : View) (t : Title) (j : ℕ) → own_as v t (Poisoned j) ≤ poisoned_of v t
 as_poisoned v t j =
-    sum_by-le-sum_by (λ (o : OwnTitle). one (same_title o.title t && same_state o.state (Poisoned j))) (λ (o : OwnTitle). one (same_title o.title t && is_poisoned o.state)) v.owns
+    sum_by-le-sum_by (λ (o : OwnTitle). one (same_title o.title t && same_state o.state (Poisoned j)))
+    (λ (o : OwnTitle). one (same_title o.title t && is_poisoned o.state)) v.owns
     (λ o. go (same_title o.title t) o.state)
   where
     go : (b : Bool) (a : OwnState) → one (b && same_state a (Poisoned j)) ≤ one (b && is_poisoned a)
@@ -90,9 +93,11 @@ live_own words views t some_own =
 
 -- What a content word is to a view that uses its title. If the title is quarantined it is poison. Through a clean Own it is the
 -- content. Through a Ref it is the content, or poison while the Own is poisoned elsewhere.
-pub word_read : (words : List ℕ) (views : List View) (i : ℕ) (v : View) (t : Title) (place : ℕ) (k : IsKept words views) → get_elem? views i ≡ some v → IsUser t v →
+pub word_read : (words : List ℕ) (views : List View) (i : ℕ) (v : View) (t : Title) (place : ℕ) (k : IsKept words views) →
+    get_elem? views i ≡ some v → IsUser t v →
     HasStake v → place < content_count t →
-    IsWordRead (k.history t) (count_word (byte_words words) t) (content_at (byte_words words) t place) (has_own v t) (has_unclean v t) (poisoned_apart views t (least_stake v.stakes))
+    IsWordRead (k.history t) (count_word (byte_words words) t) (content_at (byte_words words) t place) (has_own v t) (has_unclean v t)
+    (poisoned_apart views t (least_stake v.stakes))
 word_read words views i v t place k at_i has stake below = record {
   freed = λ low.
       let p = counted.owns in let q = counted.refs in
@@ -123,25 +128,31 @@ word_read words views i v t place k at_i has stake below = record {
 
     not_mine : (u : View) → v ≡ u → (n : ℕ) → 0 < held_of_view u (OwnAs t (Poisoned n)) → own_of v t ≡ 0 → ⊥
     not_mine u same n here none =
-        let mine : 0 < held_of_view v (OwnAs t (Poisoned n)) = subst (λ (x : View). 0 < held_of_view x (OwnAs t (Poisoned n))) (sym same) here in
+        let mine : 0 < held_of_view v (OwnAs t (Poisoned n)) =
+        subst (λ (x : View). 0 < held_of_view x (OwnAs t (Poisoned n))) (sym same) here in
         let e = owns_as_have v t (Poisoned n) in
         let l = own_as_own v t (Poisoned n) in
         absurd (omega arith)
 
     once : HasStake v → stakes_in views (least_stake v.stakes) ≡ 1
-    once small = k.logs.each_stake (least_stake v.stakes) ∙ elim (one_lt (least_stake v.stakes) 16) [ inl y ↦ y.0 | inr n ↦ let z = n.1 in absurd (omega arith) ]
+    once small = k.logs.each_stake (least_stake v.stakes) ∙
+        elim (one_lt (least_stake v.stakes) 16) [ inl y ↦ y.0 | inr n ↦ let z = n.1 in absurd (omega arith) ]
 
-    through : (j : ℕ) (u : View) → get_elem? views j ≡ some u → own_of v t ≡ 0 → 0 < total_of (shown words views) (RefOf t) → (a : OwnState) → 0 < held_of_view u (OwnAs t a) →
-        (content_at (byte_words words) t place ≡ content_of (k.history t)) ⊎ ((content_at (byte_words words) t place ≡ poison) × (0 < poisoned_apart views t (least_stake v.stakes)))
+    through : (j : ℕ) (u : View) → get_elem? views j ≡ some u → own_of v t ≡ 0 → 0 < total_of (shown words views) (RefOf t) →
+        (a : OwnState) → 0 < held_of_view u (OwnAs t a) →
+        (content_at (byte_words words) t place ≡ content_of (k.history t)) ⊎
+        ((content_at (byte_words words) t place ≡ poison) × (0 < poisoned_apart views t (least_stake v.stakes)))
     through j u at_j none refs a mine =
         let w = held_within words views j u at_j (OwnAs t a) in
         let q = counted.refs in
         elim ((k.holders.good.content_kept t held).shared a (omega arith) (omega arith)) [
           | inl clean ↦
-              let now : 0 < total_of (shown words views) (OwnAs t Clean) = subst (λ (s : OwnState). 0 < total_of (shown words views) (OwnAs t s)) clean (omega arith) in
+              let now : 0 < total_of (shown words views) (OwnAs t Clean) =
+              subst (λ (s : OwnState). 0 < total_of (shown words views) (OwnAs t s)) clean (omega arith) in
               inl (k.content.clean t now place (omega arith) below)
           | inr p ↦
-              let now : 0 < total_of (shown words views) (OwnAs t (Poisoned p.0)) = subst (λ (s : OwnState). 0 < total_of (shown words views) (OwnAs t s)) p.1 (omega arith) in
+              let now : 0 < total_of (shown words views) (OwnAs t (Poisoned p.0)) =
+              subst (λ (s : OwnState). 0 < total_of (shown words views) (OwnAs t s)) p.1 (omega arith) in
               let here : 0 < held_of_view u (OwnAs t (Poisoned p.0)) = subst (λ (s : OwnState). 0 < held_of_view u (OwnAs t s)) p.1 mine in
               elim (cases_lt place p.0) [
                 | inl done ↦ inr (((k.holders.good.poison_kept t held).progress p.0 now).1 place done, apart j u at_j none p.0 here)
@@ -149,12 +160,15 @@ word_read words views i v t place k at_i has stake below = record {
               ]
         ]
       where
-        apart : (j : ℕ) (u : View) → get_elem? views j ≡ some u → own_of v t ≡ 0 → (n : ℕ) → 0 < held_of_view u (OwnAs t (Poisoned n)) → 0 < poisoned_apart views t (least_stake v.stakes)
+        apart : (j : ℕ) (u : View) → get_elem? views j ≡ some u → own_of v t ≡ 0 → (n : ℕ) → 0 < held_of_view u (OwnAs t (Poisoned n)) →
+            0 < poisoned_apart views t (least_stake v.stakes)
         apart j u at_j none n here =
             let e = owns_as_have u t (Poisoned n) in
             let l = as_poisoned u t n in
             let no_stake = stake_alone views i j v u at_i at_j
-            (λ same. not_mine u (some-injective v u (sym at_i ∙ subst (λ (m : ℕ). get_elem? views m ≡ some u) same at_j)) n here none) stake (once stake) in
+            (λ same. not_mine u (some-injective v u (sym at_i ∙ subst (λ (m : ℕ). get_elem? views m ≡ some u) same at_j)) n here none) stake
+            (once stake) in
             let part = sum_part (λ (x : View). if ltb 0 (stake_of x (least_stake v.stakes)) then 0 else poisoned_of x t) views j u at_j in
-            let amount : (if ltb 0 (stake_of u (least_stake v.stakes)) then 0 else poisoned_of u t) ≡ poisoned_of u t = rw (no_stake) refl in
+            let amount : (if ltb 0 (stake_of u (least_stake v.stakes)) then 0 else poisoned_of u t) ≡ poisoned_of u t =
+            rw (no_stake) refl in
             omega arith

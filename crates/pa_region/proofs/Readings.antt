@@ -85,7 +85,8 @@ quiet_looked own t found value (Entered keeper numbers) b = omega arith
 quiet_looked own t found value (Uncut again) b = omega arith
 
 -- pairs that weigh at most their first entry
-pairs_first : (weight : Entry → Entry → ℕ) (f : Entry → ℕ) → ((a b : Entry) → weight a b ≤ f a) → (log : List Entry) → pairs weight log ≤ sum_by f log
+pairs_first : (weight : Entry → Entry → ℕ) (f : Entry → ℕ) → ((a b : Entry) → weight a b ≤ f a) → (log : List Entry) →
+    pairs weight log ≤ sum_by f log
 pairs_first weight f less [] = omega arith
 pairs_first weight f less (a ∷ []) = omega arith
 pairs_first weight f less (a ∷ b ∷ log) =
@@ -94,31 +95,40 @@ pairs_first weight f less (a ∷ b ∷ log) =
     omega (arith, sum_by-cons f a (b ∷ log))
 
 -- over all views
-pub paired_looked : (views : List View) (own : Bool) (t : Title) (found value : ℕ) → paired_in views (quiet_read own t found value) ≤ logged_in views (looked_at t found)
+pub paired_looked : (views : List View) (own : Bool) (t : Title) (found value : ℕ) →
+    paired_in views (quiet_read own t found value) ≤ logged_in views (looked_at t found)
 paired_looked views own t found value =
-    sum_by-le-sum_by (λ (v : View). sum_by (λ (s : Stake). pairs (quiet_read own t found value) s.log) v.stakes) (λ v. logged_of v (looked_at t found)) views
-    (λ v. sum_by-le-sum_by (λ (s : Stake). pairs (quiet_read own t found value) s.log) (λ (s : Stake). sum_by (looked_at t found) s.log) v.stakes
+    sum_by-le-sum_by (λ (v : View). sum_by (λ (s : Stake). pairs (quiet_read own t found value) s.log) v.stakes)
+    (λ v. logged_of v (looked_at t found)) views
+    (λ v. sum_by-le-sum_by (λ (s : Stake). pairs (quiet_read own t found value) s.log)
+    (λ (s : Stake). sum_by (looked_at t found) s.log) v.stakes
     (λ s. pairs_first (quiet_read own t found value) (looked_at t found) (quiet_looked own t found value) s.log))
 
 -- what two sums of pairs gave is right together
 pub right_both : (history : Title → List Done) (p q pairs : (Entry → Entry → ℕ) → ℕ) (p_by q_by pairs_by : ℕ → (Entry → Entry → ℕ) → ℕ)
-    (logs_by : ℕ → (Entry → ℕ) → ℕ) (poisoned : Title → ℕ → ℕ) → AreRight history p p_by logs_by poisoned → AreRight history q q_by logs_by poisoned →
-    ((weight : Entry → Entry → ℕ) → pairs weight ≡ p weight + q weight) → ((r : ℕ) (weight : Entry → Entry → ℕ) → pairs_by r weight ≡ p_by r weight + q_by r weight) →
+    (logs_by : ℕ → (Entry → ℕ) → ℕ) (poisoned : Title → ℕ → ℕ) → AreRight history p p_by logs_by poisoned →
+    AreRight history q q_by logs_by poisoned →
+    ((weight : Entry → Entry → ℕ) → pairs weight ≡ p weight + q weight) →
+    ((r : ℕ) (weight : Entry → Entry → ℕ) → pairs_by r weight ≡ p_by r weight + q_by r weight) →
     AreRight history pairs pairs_by logs_by poisoned
 right_both history p q pairs p_by q_by pairs_by logs_by poisoned a b sums sums_by = record {
   freed = let x = a.freed in let y = b.freed in let s = sums gave_no_poison in omega arith;
   own = λ t found value set some_pair.
       let s = sums (quiet_read true t found value) in
-      elim (cases_lt 0 (p (quiet_read true t found value))) [ inl y ↦ a.own t found value set y | inr n ↦ b.own t found value set (omega arith) ];
+      elim (cases_lt 0 (p (quiet_read true t found value)))
+      [ inl y ↦ a.own t found value set y | inr n ↦ b.own t found value set (omega arith) ];
   ref = λ r t found value set some_pair.
       let s = sums_by r (quiet_read false t found value) in
-      elim (cases_lt 0 (p_by r (quiet_read false t found value))) [ inl y ↦ a.ref r t found value set y | inr n ↦ b.ref r t found value set (omega arith) ];
+      elim (cases_lt 0 (p_by r (quiet_read false t found value)))
+      [ inl y ↦ a.ref r t found value set y | inr n ↦ b.ref r t found value set (omega arith) ];
 }
 
 -- no pairs are right
-pub right_none : (history : Title → List Done) (pairs : (Entry → Entry → ℕ) → ℕ) (pairs_by : ℕ → (Entry → Entry → ℕ) → ℕ) (logs_by : ℕ → (Entry → ℕ) → ℕ) (poisoned : Title → ℕ → ℕ) →
+pub right_none : (history : Title → List Done) (pairs : (Entry → Entry → ℕ) → ℕ) (pairs_by : ℕ → (Entry → Entry → ℕ) → ℕ)
+    (logs_by : ℕ → (Entry → ℕ) → ℕ) (poisoned : Title → ℕ → ℕ) →
     pairs gave_no_poison ≡ 0 → ((own : Bool) (t : Title) (found value : ℕ) → pairs (quiet_read own t found value) ≡ 0) →
-    ((r : ℕ) (own : Bool) (t : Title) (found value : ℕ) → pairs_by r (quiet_read own t found value) ≡ 0) → AreRight history pairs pairs_by logs_by poisoned
+    ((r : ℕ) (own : Bool) (t : Title) (found value : ℕ) → pairs_by r (quiet_read own t found value) ≡ 0) →
+    AreRight history pairs pairs_by logs_by poisoned
 right_none history pairs pairs_by logs_by poisoned freed none none_by = record {
   freed = freed;
   own = λ t found value set some_pair. let z = none true t found value in absurd (omega arith);
@@ -135,9 +145,12 @@ freeing_same logs_by after_by poisoned later history t r k same grows (inr f) = 
 -- reads right after looks stay right if the numbers of such reads and of counted steps stay, and no poisoned Own is lost
 pub right_same : (history : Title → List Done) (pairs after : (Entry → Entry → ℕ) → ℕ) (pairs_by after_by : ℕ → (Entry → Entry → ℕ) → ℕ)
     (logs_by logs_after : ℕ → (Entry → ℕ) → ℕ) (poisoned later : Title → ℕ → ℕ) → AreRight history pairs pairs_by logs_by poisoned →
-    (after gave_no_poison ≡ pairs gave_no_poison) → ((own : Bool) (t : Title) (found value : ℕ) → after (quiet_read own t found value) ≡ pairs (quiet_read own t found value)) →
-    ((r : ℕ) (own : Bool) (t : Title) (found value : ℕ) → after_by r (quiet_read own t found value) ≡ pairs_by r (quiet_read own t found value)) →
-    ((r : ℕ) (t : Title) (n : ℕ) → logs_after r (counted_at t n) ≡ logs_by r (counted_at t n)) → ((t : Title) (r : ℕ) → 0 < poisoned t r → 0 < later t r) →
+    (after gave_no_poison ≡ pairs gave_no_poison) →
+    ((own : Bool) (t : Title) (found value : ℕ) → after (quiet_read own t found value) ≡ pairs (quiet_read own t found value)) →
+    ((r : ℕ) (own : Bool) (t : Title) (found value : ℕ) →
+    after_by r (quiet_read own t found value) ≡ pairs_by r (quiet_read own t found value)) →
+    ((r : ℕ) (t : Title) (n : ℕ) → logs_after r (counted_at t n) ≡ logs_by r (counted_at t n)) →
+    ((t : Title) (r : ℕ) → 0 < poisoned t r → 0 < later t r) →
     AreRight history after after_by logs_after later
 right_same history pairs after pairs_by after_by logs_by logs_after poisoned later a gave quiet quiet_by logs grows = record {
   freed = gave ∙ a.freed;

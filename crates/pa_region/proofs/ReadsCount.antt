@@ -38,7 +38,8 @@ use Rattle.pa_region.proofs.PoisonedOwns.{poisoned_moved, apart_set, none_beside
 use Rattle.pa_region.proofs.ReadsSame.{each_set, stake_noted, none_more}
 
 -- what two views hold, all views hold
-both_held : (words : List ℕ) (views : List View) (i j : ℕ) (v u : View) → get_elem? views i ≡ some v → get_elem? views j ≡ some u → (j ≡ i → ⊥) → (t : Title) →
+both_held : (words : List ℕ) (views : List View) (i j : ℕ) (v u : View) → get_elem? views i ≡ some v → get_elem? views j ≡ some u →
+    (j ≡ i → ⊥) → (t : Title) →
     (held_of_view v (FreeTitle t) + held_of_view u (FreeTitle t) ≤ total_of (shown words views) (FreeTitle t)) ×
     (held_of_view v (OwnOf t) + held_of_view u (OwnOf t) ≤ total_of (shown words views) (OwnOf t))
 both_held words views i j v u at_i at_j ne t =
@@ -49,7 +50,8 @@ both_held words views i j v u at_i at_j ne t =
     (omega arith, omega arith)
 
 -- while another view has the title, no view issues or writes it
-pub others_keep : (step : Step) (t : Title) (words : List ℕ) (views : List View) (i j : ℕ) (v u : View) → IsKept words views → get_elem? views i ≡ some v → get_elem? views j ≡ some u →
+pub others_keep : (step : Step) (t : Title) (words : List ℕ) (views : List View) (i j : ℕ) (v u : View) → IsKept words views →
+    get_elem? views i ≡ some v → get_elem? views j ≡ some u →
     (j ≡ i → ⊥) → CanCount step t v → HasTitle u t → (step ≡ Issue → ⊥) × (step ≡ Write → ⊥)
 others_keep Issue t words views i j v u k at_i at_j ne can title =
     let held = held_in_all words views i v t at_i (handle_held Issue t v can.0) in
@@ -85,7 +87,8 @@ others_keep Reset t words views i j v u k at_i at_j ne can title = (λ e. absurd
 others_keep Free t words views i j v u k at_i at_j ne can title = (λ e. absurd (cc), λ e. absurd (cc))
 
 -- a look that a view's log ends with is within its title's history
-pub last_within : (words : List ℕ) (views : List View) (j : ℕ) (u : View) (k : IsKept words views) → get_elem? views j ≡ some u → (t : Title) (found : ℕ) →
+pub last_within : (words : List ℕ) (views : List View) (j : ℕ) (u : View) (k : IsKept words views) → get_elem? views j ≡ some u →
+    (t : Title) (found : ℕ) →
     last_entry (least_log u.stakes) ≡ Some (Looked t found) → 0 < logged_in views (looked_at t found)
 last_within words views j u k at_j t found is =
     let a = last_counts (looked_at t found) (least_log u.stakes) (Looked t found) is in
@@ -95,7 +98,8 @@ last_within words views j u k at_j t found is =
     omega arith
 
 -- what a counted step does to logs and poisoned Owns
-counted_by : (step : Step) (t : Title) (words : List ℕ) (views : List View) (i : ℕ) (v : View) → IsKept words views → get_elem? views i ≡ some v → CanCount step t v →
+counted_by : (step : Step) (t : Title) (words : List ℕ) (views : List View) (i : ℕ) (v : View) → IsKept words views →
+    get_elem? views i ≡ some v → CanCount step t v →
     IsCountedBy t step (value_of step t v) (count_word (byte_words words) t) (least_stake v.stakes) (logged_by views)
     (logged_by (set views i (after_count step t (count_word (byte_words words) t) v))) (poisoned_apart views)
     (poisoned_apart (set views i (after_count step t (count_word (byte_words words) t) v)))
@@ -106,9 +110,12 @@ counted_by step t words views i v k at_i can =
     let few = few_owns words views t k held in
     let few_here : own_of v t ≤ 1 = let p = sum_part (λ u. own_of u t) views i v at_i in omega arith in
     let stakes : w.stakes ≡ noted (entry_of step t word v) v.stakes = ap (noted (entry_of step t word v)) (moved_stakes step t word v) in
-    let same : (n : ℕ) → stake_of w n ≡ stake_of v n = λ n. rw (moved_stakes step t word v) (noted_stakes (entry_of step t word v) v.stakes n can.1) in
-    let kept : (u : Title) (r : ℕ) → (t ≡ u → is_free step ≡ false) → 0 < poisoned_apart views u r → 0 < poisoned_apart (set views i w) u r =
-    λ u r other some_own. let l = apart_set views i v w at_i same u r (poisoned_moved step t u word v can.0 few_here other) in omega arith in
+    let same : (n : ℕ) → stake_of w n ≡ stake_of v n =
+    λ n. rw (moved_stakes step t word v) (noted_stakes (entry_of step t word v) v.stakes n can.1) in
+    let kept : (u : Title) (r : ℕ) → (t ≡ u → is_free step ≡ false) → 0 < poisoned_apart views u r →
+    0 < poisoned_apart (set views i w) u r =
+    λ u r other some_own. let l = apart_set views i v w at_i same u r (poisoned_moved step t u word v can.0 few_here other) in
+    omega arith in
     record {
       entry = λ r weight. logged_by_set views i v w (entry_of step t word v) at_i stakes can.1 r weight;
       owns = λ u r some_own. elim (title_tells t u) [
@@ -136,22 +143,27 @@ counted_by step t words views i v k at_i can =
     own_there Write t v has free = absurd (true≢false (sym free))
 
 -- the title's word after the step, and those of the others that are held
-words_after : (step : Step) (t : Title) (words : List ℕ) (views : List View) → IsKept words views → IsTitleHeld (total_of (shown words views)) t → (x : ℕ) →
+words_after : (step : Step) (t : Title) (words : List ℕ) (views : List View) → IsKept words views →
+    IsTitleHeld (total_of (shown words views)) t → (x : ℕ) →
     (count_word (byte_words (set words (count_place t) x)) t ≡ x) ×
-    ((u : Title) → IsTitleHeld (total_of (shown words views)) u → (t ≡ u → ⊥) → count_word (byte_words (set words (count_place t) x)) u ≡ count_word (byte_words words) u)
+    ((u : Title) → IsTitleHeld (total_of (shown words views)) u → (t ≡ u → ⊥) →
+    count_word (byte_words (set words (count_place t) x)) u ≡ count_word (byte_words words) u)
 words_after step t words views k held x =
     let below = place_below words views t k held in
     let long = bytes_length words in (
       rw (bytes_set words (count_place t) x below) (get_or-set_same (byte_words words) (count_place t) x 0 (omega arith)),
       λ u other ne. rw (bytes_set words (count_place t) x below) (
           get_or-set_other (byte_words words) (count_place t) (count_place u) x 0 (λ e.
-          apart_words (length (byte_words words)) (total_of (shown words views)) t u (count_place t) k.holders.good.divided held other ne (omega arith, omega arith) (omega arith, omega arith))),
+          apart_words (length (byte_words words)) (total_of (shown words views)) t u (count_place t) k.holders.good.divided held other ne
+          (omega arith, omega arith) (omega arith, omega arith))),
     )
 
 -- a counted step keeps what the rule says of reads
-pub reads_count : (step : Step) (t : Title) (words : List ℕ) (views : List View) (i : ℕ) (v : View) (k : IsKept words views) → get_elem? views i ≡ some v → CanCount step t v →
+pub reads_count : (step : Step) (t : Title) (words : List ℕ) (views : List View) (i : ℕ) (v : View) (k : IsKept words views) →
+    get_elem? views i ≡ some v → CanCount step t v →
     Reads k.history (byte_words words) views →
-    Reads (history_by step t (value_of step t v) k.history) (byte_words (set words (count_place t) (stepped step (count_word (byte_words words) t))))
+    Reads (history_by step t (value_of step t v) k.history)
+    (byte_words (set words (count_place t) (stepped step (count_word (byte_words words) t))))
     (set views i (after_count step t (count_word (byte_words words) t) v))
 reads_count step t words views i v k at_i can reads =
     let word = count_word (byte_words words) t in
@@ -162,21 +174,27 @@ reads_count step t words views i v k at_i can reads =
     let stakes : w.stakes ≡ noted e v.stakes = ap (noted e) (moved_stakes step t word v) in
     let new = words_after step t words views k held (stepped step word) in
     record {
-      right = right_counted t step (value_of step t v) word (least_stake v.stakes) k.history (paired_in views) (paired_in (set views i w)) (paired_by views) (paired_by (set views i w))
-          (logged_in views) (logged_by views) (logged_by (set views i w)) (poisoned_apart views) (poisoned_apart (set views i w)) reads.right
+      right = right_counted t step (value_of step t v) word (least_stake v.stakes) k.history (paired_in views) (paired_in (set views i w))
+          (paired_by views) (paired_by (set views i w))
+          (logged_in views) (logged_by views) (logged_by (set views i w)) (poisoned_apart views)
+          (poisoned_apart (set views i w)) reads.right
           k.logs.chain (number_length words views t k held) (paired_looked views) (paired_by_within views) (logged_by_within views)
           (let p = paired_set views i v w e at_i stakes can.1 gave_no_poison in
           let z = gave_none_after (last_entry (least_log v.stakes)) e refl in omega arith)
           (λ own u found value.
           let p = paired_set views i v w e at_i stakes can.1 (quiet_read own u found value) in
           let z = quiet_none_after own u found value (last_entry (least_log v.stakes)) e refl in omega arith)
-          (λ r own u found value. none_more (eqb (least_stake v.stakes) r) (weight_after (quiet_read own u found value) (last_entry (least_log v.stakes)) e) _ _
-          (paired_by_set views i v w e at_i stakes can.1 r (quiet_read own u found value)) (quiet_none_after own u found value (last_entry (least_log v.stakes)) e refl))
+          (λ r own u found value. none_more (eqb (least_stake v.stakes) r)
+          (weight_after (quiet_read own u found value) (last_entry (least_log v.stakes)) e) _ _
+          (paired_by_set views i v w e at_i stakes can.1 r (quiet_read own u found value))
+          (quiet_none_after own u found value (last_entry (least_log v.stakes)) e refl))
           (counted_by step t words views i v k at_i can);
-      each_view = each_set (IsReader k.history (byte_words words)) (IsReader (history_by step t (value_of step t v) k.history) (byte_words after)) views i v w at_i reads.each_view
+      each_view = each_set (IsReader k.history (byte_words words))
+          (IsReader (history_by step t (value_of step t v) k.history) (byte_words after)) views i v w at_i reads.each_view
           (record {
             waits = λ u found is quiet.
-                let no_look : Some e ≡ Some (Looked u found) = sym (last_noted e v.stakes can.1) ∙ (sym (ap (λ ss. last_entry (least_log ss)) stakes) ∙ is) in
+                let no_look : Some e ≡ Some (Looked u found) = sym (last_noted e v.stakes can.1) ∙
+                (sym (ap (λ ss. last_entry (least_log ss)) stakes) ∙ is) in
                 absurd (cc);
             stake = λ some_own. stake_noted e v w stakes can.1;
           })

@@ -20,7 +20,8 @@ pub first_log : (k from count : ℕ) → log_among k (stakes_from from count) �
 first_log k from zero = refl
 first_log k from (suc count) = elim (cases_Bool (eqb from k)) [ inl y ↦ rw y refl | inr n ↦ rw n (first_log k (suc from) count) ]
 
-first_sum : (amount : Stake → ℕ) (from count : ℕ) → ((n : ℕ) → amount (record { number = n; log = [] }) ≡ 0) → sum_by amount (stakes_from from count) ≡ 0
+first_sum : (amount : Stake → ℕ) (from count : ℕ) → ((n : ℕ) → amount (record { number = n; log = [] }) ≡ 0) →
+    sum_by amount (stakes_from from count) ≡ 0
 first_sum amount from zero none = refl
 first_sum amount from (suc count) none =
     let again = first_sum amount (suc from) count none in
@@ -44,7 +45,8 @@ reads_first words budget bytes = record {
   right = right_none (λ t. []) (paired_in views) (paired_by views) (logged_by views) (poisoned_apart views)
       (first_all (λ (s : Stake). pairs gave_no_poison s.log) words budget (λ n. refl))
       (λ own t found value. first_all (λ (s : Stake). pairs (quiet_read own t found value) s.log) words budget (λ n. refl))
-      (λ r own t found value. first_all (amount_by r (pairs (quiet_read own t found value))) words budget (λ n. no_amount r n (pairs (quiet_read own t found value)) refl));
+      (λ r own t found value. first_all (amount_by r (pairs (quiet_read own t found value))) words budget
+      (λ n. no_amount r n (pairs (quiet_read own t found value)) refl));
   each_view = λ i v at_i. subst (λ (u : View). IsReader (λ t. []) bytes u) (only i v at_i) first;
 }
   where

@@ -34,7 +34,8 @@ use Rattle.pa_region.proofs.PoisonedOwns.{looked_same, apart_set}
 
 -- a fact of each view, after one changed
 pub each_set : (P Q : View → Type 0) (views : List View) (i : ℕ) (v w : View) → get_elem? views i ≡ some v →
-    ((j : ℕ) (u : View) → get_elem? views j ≡ some u → P u) → Q w → ((j : ℕ) (u : View) → (j ≡ i → ⊥) → get_elem? views j ≡ some u → P u → Q u) →
+    ((j : ℕ) (u : View) → get_elem? views j ≡ some u → P u) → Q w →
+    ((j : ℕ) (u : View) → (j ≡ i → ⊥) → get_elem? views j ≡ some u → P u → Q u) →
     (j : ℕ) (u : View) → get_elem? (set views i w) j ≡ some u → Q u
 each_set P Q views i v w at_i each here beside j u at_j = elim (eqb_tells j i) [
   | inl y ↦
@@ -47,7 +48,8 @@ each_set P Q views i v w at_i each here beside j u at_j = elim (eqb_tells j i) [
 
 -- the least stake stays when an entry is made
 pub stake_noted : (e : Entry) (v w : View) → w.stakes ≡ noted e v.stakes → HasStake v → HasStake w
-stake_noted e v w stakes has = let l : least_stake w.stakes ≡ least_stake v.stakes = ap least_stake stakes ∙ least_noted e v.stakes in omega arith
+stake_noted e v w stakes has = let l : least_stake w.stakes ≡ least_stake v.stakes = ap least_stake stakes ∙ least_noted e v.stakes in
+    omega arith
 
 -- an amount is the same if none is added
 pub none_more : (b : Bool) (more was now : ℕ) → now ≡ was + (if b then more else 0) → more ≡ 0 → now ≡ was
@@ -55,7 +57,8 @@ none_more true more was now e z = omega arith
 none_more false more was now e z = omega arith
 
 -- A view that handed something over since its last entry waits with nothing.
-pub reader_handed : (history : Title → List Done) (words : List ℕ) (v : View) → v.since.handed ≡ true → (0 < unclean_of v → HasStake v) → IsReader history words v
+pub reader_handed : (history : Title → List Done) (words : List ℕ) (v : View) → v.since.handed ≡ true → (0 < unclean_of v → HasStake v) →
+    IsReader history words v
 reader_handed history words v handed stake = record {
   waits = λ t found is quiet. absurd (true≢false (sym handed ∙ quiet));
   stake = stake;
@@ -64,21 +67,26 @@ reader_handed history words v handed stake = record {
 -- Other views that are each a reader: what the rule says of reads goes over if they have the logs of each stake as
 -- before, and no poisoned Own is clean, freed, or in a view with a stake that it was apart from.
 pub reads_over : (history : Title → List Done) (words after : List ℕ) (views later : List View) → Reads history words views →
-    ((weight : Entry → Entry → ℕ) → paired_in later weight ≡ paired_in views weight) → ((r : ℕ) (weight : Entry → Entry → ℕ) → paired_by later r weight ≡ paired_by views r weight) →
-    ((r : ℕ) (weight : Entry → ℕ) → logged_by later r weight ≡ logged_by views r weight) → ((t : Title) (r : ℕ) → 0 < poisoned_apart views t r → 0 < poisoned_apart later t r) →
+    ((weight : Entry → Entry → ℕ) → paired_in later weight ≡ paired_in views weight) →
+    ((r : ℕ) (weight : Entry → Entry → ℕ) → paired_by later r weight ≡ paired_by views r weight) →
+    ((r : ℕ) (weight : Entry → ℕ) → logged_by later r weight ≡ logged_by views r weight) →
+    ((t : Title) (r : ℕ) → 0 < poisoned_apart views t r → 0 < poisoned_apart later t r) →
     ((i : ℕ) (v : View) → get_elem? later i ≡ some v → IsReader history after v) → Reads history after later
 reads_over history words after views later reads paired by_number logged poisoned each = record {
   right = right_same history (paired_in views) (paired_in later) (paired_by views) (paired_by later) (logged_by views) (logged_by later)
-      (poisoned_apart views) (poisoned_apart later) reads.right (paired gave_no_poison) (λ own t found value. paired (quiet_read own t found value))
+      (poisoned_apart views) (poisoned_apart later) reads.right (paired gave_no_poison)
+      (λ own t found value. paired (quiet_read own t found value))
       (λ r own t found value. by_number r (quiet_read own t found value)) (λ r t n. logged r (counted_at t n)) poisoned;
   each_view = each;
 }
 
 -- A step that logs nothing keeps what the rule says of reads, if its view has its stakes and titles as before, each
 -- poisoned Own stays one, an Own is unclean only with a stake, and the words of held titles stay.
-pub reads_other : (history : Title → List Done) (words after : List ℕ) (views : List View) (i : ℕ) (v w : View) → get_elem? views i ≡ some v →
+pub reads_other : (history : Title → List Done) (words after : List ℕ) (views : List View) (i : ℕ) (v w : View) →
+    get_elem? views i ≡ some v →
     Reads history (byte_words words) views → w.stakes ≡ v.stakes → ((t : Title) → HasTitle v t → HasTitle w t) →
-    (w.since.handed ≡ false → v.since.handed ≡ false) → (0 < unclean_of w → HasStake w) → ((t : Title) → poisoned_of v t ≤ poisoned_of w t) →
+    (w.since.handed ≡ false → v.since.handed ≡ false) → (0 < unclean_of w → HasStake w) →
+    ((t : Title) → poisoned_of v t ≤ poisoned_of w t) →
     ((t : Title) → IsTitleHeld (total_of (shown words views)) t → count_word (byte_words after) t ≡ count_word (byte_words words) t) →
     Reads history (byte_words after) (set views i w)
 reads_other history words after views i v w at_i reads stakes titles handed unclean poisoned same =
@@ -86,7 +94,8 @@ reads_other history words after views i v w at_i reads stakes titles handed uncl
     (λ weight. by_same (λ (s : Stake). pairs weight s.log) views i v w at_i stakes)
     (λ r weight. by_same (amount_by r (pairs weight)) views i v w at_i stakes)
     (λ r weight. by_same (amount_by r (sum_by weight)) views i v w at_i stakes)
-    (λ t r some_own. let l = apart_set views i v w at_i (λ k. ap (λ ss. sum_by (λ (s : Stake). one (eqb s.number k)) ss) stakes) t r (poisoned t) in omega arith)
+    (λ t r some_own. let l =
+    apart_set views i v w at_i (λ k. ap (λ ss. sum_by (λ (s : Stake). one (eqb s.number k)) ss) stakes) t r (poisoned t) in omega arith)
     (each_set (IsReader history (byte_words words)) (IsReader history (byte_words after)) views i v w at_i reads.each_view
     (record {
       waits = λ t found is quiet.
@@ -116,18 +125,23 @@ reads_look t words views i v k at_i mine has reads =
     let w = after_look t word v in
     let e = Looked t word in
     record {
-      right = right_same k.history (paired_in views) (paired_in (set views i w)) (paired_by views) (paired_by (set views i w)) (logged_by views) (logged_by (set views i w))
+      right = right_same k.history (paired_in views) (paired_in (set views i w)) (paired_by views) (paired_by (set views i w))
+          (logged_by views) (logged_by (set views i w))
           (poisoned_apart views) (poisoned_apart (set views i w)) reads.right
           (let p = paired_set views i v w e at_i refl has gave_no_poison in
           let z = gave_none_after (last_entry (least_log v.stakes)) e refl in omega arith)
           (λ own u found value.
           let p = paired_set views i v w e at_i refl has (quiet_read own u found value) in
           let z = quiet_none_after own u found value (last_entry (least_log v.stakes)) e refl in omega arith)
-          (λ r own u found value. none_more (eqb (least_stake v.stakes) r) (weight_after (quiet_read own u found value) (last_entry (least_log v.stakes)) e) _ _
-          (paired_by_set views i v w e at_i refl has r (quiet_read own u found value)) (quiet_none_after own u found value (last_entry (least_log v.stakes)) e refl))
-          (λ r u n. none_more (eqb (least_stake v.stakes) r) (counted_at u n e) _ _ (logged_by_set views i v w e at_i refl has r (counted_at u n)) refl)
+          (λ r own u found value. none_more (eqb (least_stake v.stakes) r)
+          (weight_after (quiet_read own u found value) (last_entry (least_log v.stakes)) e) _ _
+          (paired_by_set views i v w e at_i refl has r (quiet_read own u found value))
+          (quiet_none_after own u found value (last_entry (least_log v.stakes)) e refl))
+          (λ r u n. none_more (eqb (least_stake v.stakes) r) (counted_at u n e) _ _
+          (logged_by_set views i v w e at_i refl has r (counted_at u n)) refl)
           (λ u r some_own.
-          let same : poisoned_of w u ≡ poisoned_of v u = looked_same (λ title state. one (same_title title u && is_poisoned state)) t word v.owns in
+          let same : poisoned_of w u ≡ poisoned_of v u =
+          looked_same (λ title state. one (same_title title u && is_poisoned state)) t word v.owns in
           let l = apart_set views i v w at_i (λ n. noted_stakes e v.stakes n has) u r (omega arith) in omega arith);
       each_view = each_set (IsReader k.history (byte_words words)) (IsReader k.history (byte_words words)) views i v w at_i reads.each_view
           (record {
@@ -140,7 +154,8 @@ reads_look t words views i v k at_i mine has reads =
           (λ j u ne at_j reader. reader);
     }
   where
-    now : HasStake v → HasTitle v t → Waits k.history (byte_words words) (after_look t (count_word (byte_words words) t) v) t (count_word (byte_words words) t)
+    now : HasStake v → HasTitle v t →
+        Waits k.history (byte_words words) (after_look t (count_word (byte_words words) t) v) t (count_word (byte_words words) t)
     now stake title =
         let word = count_word (byte_words words) t in
         let w = after_look t word v in

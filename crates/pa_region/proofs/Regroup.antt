@@ -1,5 +1,5 @@
 -- Steps that only regroup what the views have: if all sums stay, the rule's parts do.
-use Rattle.std.proofs.Common.{◌≡◌, ℕ, ◌+◌, ◌<◌, ◌≤◌, ◌&&◌, List, [], ◌∷◌, ◌++◌, length, set, refl, sym, ◌∙◌, ap, subst, arith, ◌⊎◌, inl, inr}
+use Rattle.std.proofs.Common.{◌≡◌, ℕ, ◌+◌, ◌<◌, ◌≤◌, ◌&&◌, ◌||◌, List, [], ◌∷◌, ◌++◌, length, set, refl, sym, ◌∙◌, ap, subst, arith, ◌⊎◌, inl, inr}
 use Rattle.std.specs.List.{sum_by}
 use Rattle.std.specs.Prelude.{nat_lt, if◌then◌else◌}
 use Rattle.std.proofs.lemmas.Bool.{cases_lt, lt-ltb, le-ltb}
@@ -55,7 +55,8 @@ pub record IsRegrouped (before after : List View) : Type 0 where
   pub undone : (t : Title) → undone_in after t ≡ undone_in before t
 
 -- contents stay if the totals do
-content_regrouped : (words : List ℕ) (before after : List View) (last : Title → ℕ) → ((x : Thing) → total_of (shown words after) x ≡ total_of (shown words before) x) →
+content_regrouped : (words : List ℕ) (before after : List View) (last : Title → ℕ) →
+    ((x : Thing) → total_of (shown words after) x ≡ total_of (shown words before) x) →
     KeepsContent (shown words before) last → KeepsContent (shown words after) last
 content_regrouped words before after last same k = record {
   clean = λ t has. let e = same (OwnAs t Clean) in k.clean t (omega arith);
@@ -63,8 +64,10 @@ content_regrouped words before after last same k = record {
 }
 
 -- the rule's parts after such a step
-pub kept_regrouped : (words : List ℕ) (before after : List View) (k : IsKept words before) → IsRegrouped before after → Values (byte_words words) after →
-    ((i : ℕ) (v : View) → get_elem? after i ≡ some v → IsListed k.list v) → ((i : ℕ) (v : View) → get_elem? after i ≡ some v → HasSeenFree v) →
+pub kept_regrouped : (words : List ℕ) (before after : List View) (k : IsKept words before) → IsRegrouped before after →
+    Values (byte_words words) after →
+    ((i : ℕ) (v : View) → get_elem? after i ≡ some v → IsListed k.list v) →
+    ((i : ℕ) (v : View) → get_elem? after i ≡ some v → HasSeenFree v) →
     ((i : ℕ) (v : View) → get_elem? after i ≡ some v → IsReader k.history (byte_words words) v) →
     ((i : ℕ) (v : View) → get_elem? after i ≡ some v → IsLoggedIn k.all v) →
     ((i : ℕ) (v : View) → get_elem? after i ≡ some v → IsSteady k.steps v) → IsKept words after
@@ -80,15 +83,18 @@ kept_regrouped words before after k g values listed free readers logged steady =
       list = k.list;
       all = k.all;
       steps = k.steps;
-      holders = holders_same (byte_words words) (total_of (shown words before)) (total_of (shown words after)) (idle_in before) (idle_in after) (budget_in before) (budget_in after)
+      holders = holders_same (byte_words words) (total_of (shown words before)) (total_of (shown words after)) (idle_in before)
+          (idle_in after) (budget_in before) (budget_in after)
           (logged_in before counted) (logged_in after counted) k.holders same
           (λ u some_idle. let e = g.idle u in k.holders.known u (omega arith)) g.budget (g.logs counted);
       values = values;
       reservations =
           subst (λ total_now. Reservations total_now (low_in after) (λ t. logged_in after (names t)) (uncut_in after)) total
           (subst (λ low_now. Reservations (total_of (shown words before)) low_now (λ t. logged_in after (names t)) (uncut_in after)) low
-          (subst (λ (ls : (Entry → ℕ) → ℕ). Reservations (total_of (shown words before)) (low_in before) (λ t. ls (names t)) (λ t. ls (uncuts t))) logs k.reservations));
-      named = named_same (length (byte_words words)) (length (byte_words words)) (total_of (shown words before)) (total_of (shown words after)) _ _ (uncut_in before) (uncut_in after)
+          (subst (λ (ls : (Entry → ℕ) → ℕ). Reservations (total_of (shown words before)) (low_in before) (λ t. ls (names t))
+          (λ t. ls (uncuts t))) logs k.reservations));
+      named = named_same (length (byte_words words)) (length (byte_words words)) (total_of (shown words before))
+          (total_of (shown words after)) _ _ (uncut_in before) (uncut_in after)
           k.named refl (λ u y. let p = same (FreeTitle u) in let q = same (OwnOf u) in let s = same (RefOf u) in omega arith)
           (λ u. g.logs (names u)) (λ u. g.logs (uncuts u));
       logs =
@@ -113,7 +119,8 @@ kept_regrouped words before after k g values listed free readers logged steady =
       undone = λ t. let a = g.undone t in let b = g.logs (uncuts t) in let c = k.undone t in omega arith;
       totals = totals_same words before after g.logs g.logs_by k.totals;
       ordered = order_over k.all k.list before after k.ordered logged;
-      filled = filled_over k.steps k.all k.history (total_of (shown words before)) (total_of (shown words after)) before after (eased_same _ _ same) k.filled steady;
+      filled = filled_over k.steps k.all k.history (total_of (shown words before)) (total_of (shown words after)) before after
+          (eased_same _ _ same) k.filled steady;
     }
 
 -- how many times a view that doesn't have stake k has the title's Own poisoned
@@ -121,14 +128,16 @@ abbrev pub apart_of : View → Title → ℕ → ℕ
 apart_of v t k = if nat_lt 0 (stake_of v k) then 0 else poisoned_of v t
 
 -- with the stake it counts nothing, and without it all
-apart_is : (v : View) (t : Title) (k : ℕ) → ((0 < stake_of v k) × (apart_of v t k ≡ 0)) ⊎ ((stake_of v k ≡ 0) × (apart_of v t k ≡ poisoned_of v t))
+apart_is : (v : View) (t : Title) (k : ℕ) → ((0 < stake_of v k) × (apart_of v t k ≡ 0)) ⊎
+    ((stake_of v k ≡ 0) × (apart_of v t k ≡ poisoned_of v t))
 apart_is v t k = elim (cases_lt 0 (stake_of v k)) [
   | inl y ↦ inl (y, rw (lt-ltb 0 (stake_of v k) y) refl)
   | inr n ↦ inr (omega arith, rw (le-ltb 0 (stake_of v k) n) refl)
 ]
 
 -- parting a view doesn't hide a poisoned Own
-apart_parted : (v l r : View) (t : Title) (k : ℕ) → stake_of l k + stake_of r k ≡ stake_of v k → poisoned_of l t + poisoned_of r t ≡ poisoned_of v t →
+apart_parted : (v l r : View) (t : Title) (k : ℕ) → stake_of l k + stake_of r k ≡ stake_of v k →
+    poisoned_of l t + poisoned_of r t ≡ poisoned_of v t →
     apart_of v t k ≤ apart_of l t k + apart_of r t k
 apart_parted v l r t k stakes poisoned = elim (apart_is v t k) [
   | inl y ↦ let z = y.1 in omega arith
@@ -136,43 +145,51 @@ apart_parted v l r t k stakes poisoned = elim (apart_is v t k) [
       let n0 = n.0 in let n1 = n.1 in
       elim (apart_is l t k) [
         | inl y ↦ let z = y.0 in absurd (omega arith)
-        | inr m ↦ let m1 = m.1 in elim (apart_is r t k) [ inl y ↦ let z = y.0 in absurd (omega arith) | inr o ↦ let o1 = o.1 in omega arith ]
+        | inr m ↦ let m1 = m.1 in
+            elim (apart_is r t k) [ inl y ↦ let z = y.0 in absurd (omega arith) | inr o ↦ let o1 = o.1 in omega arith ]
       ]
 ]
 
 -- nor does a join, if the stakes that come find none
-apart_joined : (v w both : View) (t : Title) (k : ℕ) → stake_of both k ≡ stake_of v k + stake_of w k → poisoned_of both t ≡ poisoned_of v t + poisoned_of w t →
+apart_joined : (v w both : View) (t : Title) (k : ℕ) → stake_of both k ≡ stake_of v k + stake_of w k →
+    poisoned_of both t ≡ poisoned_of v t + poisoned_of w t →
     CanTake v w → apart_of v t k + apart_of w t k ≤ apart_of both t k
 apart_joined v w both t k stakes poisoned can = elim (apart_is both t k) [
   | inl y ↦
       let y0 = y.0 in let none = poisoned_unclean w t in let clean = can.clean in
       elim (apart_is w t k) [
-        | inl a ↦ let a0 = a.0 in let a1 = a.1 in let z = can.apart k t a0 in elim (apart_is v t k) [ inl b ↦ let b1 = b.1 in omega arith | inr b ↦ let b1 = b.1 in omega arith ]
-        | inr a ↦ let a0 = a.0 in let a1 = a.1 in elim (apart_is v t k) [ inl b ↦ let b1 = b.1 in omega arith | inr b ↦ let b0 = b.0 in absurd (omega arith) ]
+        | inl a ↦ let a0 = a.0 in let a1 = a.1 in let z = can.apart k t a0 in
+            elim (apart_is v t k) [ inl b ↦ let b1 = b.1 in omega arith | inr b ↦ let b1 = b.1 in omega arith ]
+        | inr a ↦ let a0 = a.0 in let a1 = a.1 in
+            elim (apart_is v t k) [ inl b ↦ let b1 = b.1 in omega arith | inr b ↦ let b0 = b.0 in absurd (omega arith) ]
       ]
   | inr n ↦
       let n0 = n.0 in let n1 = n.1 in
       elim (apart_is v t k) [
         | inl y ↦ let z = y.0 in absurd (omega arith)
-        | inr m ↦ let m1 = m.1 in elim (apart_is w t k) [ inl y ↦ let z = y.0 in absurd (omega arith) | inr o ↦ let o1 = o.1 in omega arith ]
+        | inr m ↦ let m1 = m.1 in
+            elim (apart_is w t k) [ inl y ↦ let z = y.0 in absurd (omega arith) | inr o ↦ let o1 = o.1 in omega arith ]
       ]
 ]
 
 -- a sum in which one view is parted
-part_sum : (f : View → ℕ) (views : List View) (i : ℕ) (v l r : View) → get_elem? views i ≡ some v → f l + f r ≡ f v → sum_by f (set views i l ++ r ∷ []) ≡ sum_by f views
+part_sum : (f : View → ℕ) (views : List View) (i : ℕ) (v l r : View) → get_elem? views i ≡ some v → f l + f r ≡ f v →
+    sum_by f (set views i l ++ r ∷ []) ≡ sum_by f views
 part_sum f views i v l r at_i e =
     let a = sum_by_push f (set views i l) r in
     let b = sum_set f views i v l at_i in
     omega arith
 
-part_less : (f : View → ℕ) (views : List View) (i : ℕ) (v l r : View) → get_elem? views i ≡ some v → f l + f r ≤ f v → sum_by f (set views i l ++ r ∷ []) ≤ sum_by f views
+part_less : (f : View → ℕ) (views : List View) (i : ℕ) (v l r : View) → get_elem? views i ≡ some v → f l + f r ≤ f v →
+    sum_by f (set views i l ++ r ∷ []) ≤ sum_by f views
 part_less f views i v l r at_i e =
     let a = sum_by_push f (set views i l) r in
     let b = sum_set f views i v l at_i in
     omega arith
 
 -- a view is parted, and both parts have seen what it has seen
-pub parted_regroups : (views : List View) (i : ℕ) (v l r : View) → get_elem? views i ≡ some v → IsParted v l r → l.seen ≡ v.seen → r.seen ≡ v.seen →
+pub parted_regroups : (views : List View) (i : ℕ) (v l r : View) → get_elem? views i ≡ some v → IsParted v l r → l.seen ≡ v.seen →
+    r.seen ≡ v.seen →
     IsRegrouped views (set views i l ++ r ∷ [])
 parted_regroups views i v l r at_i p left right = record {
   things = λ x. part_sum (λ u. held_of_view u x) views i v l r at_i (p.things x);
@@ -208,14 +225,16 @@ parted_regroups views i v l r at_i p left right = record {
     sums = rw (left, right) (p.logs _)
 
 -- a sum in which one view takes over what another has
-join_sum : (f : View → ℕ) (views : List View) (i j : ℕ) (v w both spent : View) → get_elem? views i ≡ some v → get_elem? (set views i both) j ≡ some w →
+join_sum : (f : View → ℕ) (views : List View) (i j : ℕ) (v w both spent : View) → get_elem? views i ≡ some v →
+    get_elem? (set views i both) j ≡ some w →
     f both ≡ f v + f w → f spent ≡ 0 → sum_by f (set (set views i both) j spent) ≡ sum_by f views
 join_sum f views i j v w both spent at_i at_j e none =
     let a = sum_set f views i v both at_i in
     let b = sum_set f (set views i both) j w spent at_j in
     omega arith
 
-join_less : (f : View → ℕ) (views : List View) (i j : ℕ) (v w both spent : View) → get_elem? views i ≡ some v → get_elem? (set views i both) j ≡ some w →
+join_less : (f : View → ℕ) (views : List View) (i j : ℕ) (v w both spent : View) → get_elem? views i ≡ some v →
+    get_elem? (set views i both) j ≡ some w →
     f both ≤ f v + f w → f spent ≡ 0 → sum_by f (set (set views i both) j spent) ≤ sum_by f views
 join_less f views i j v w both spent at_i at_j e none =
     let a = sum_set f views i v both at_i in
@@ -224,29 +243,40 @@ join_less f views i j v w both spent at_i at_j e none =
 
 -- a view that has no Own knows of none that no Ref of it is left
 idle_within : (v : View) (t : Title) → idle_of v t ≤ own_of v t
-idle_within v t = sum_by-le-sum_by (λ (o : OwnTitle). one (same_title o.title t && o.idle)) (λ (o : OwnTitle). one (same_title o.title t)) v.owns (λ o. one_and (same_title o.title t) o.idle)
+idle_within v t = sum_by-le-sum_by (λ (o : OwnTitle). one (same_title o.title t && (o.idle || o.sealed)))
+    (λ (o : OwnTitle). one (same_title o.title t)) v.owns (λ o. one_and (same_title o.title t) (o.idle || o.sealed))
 
 -- Two views are joined: the one has what both had, and has seen what either has seen, and the other is left with
 -- nothing.
-pub joined_regroups : (views : List View) (i j : ℕ) (v w both spent : View) → get_elem? views i ≡ some v → get_elem? (set views i both) j ≡ some w →
-    IsParted both v w → ((t : Title) → idle_of both t ≤ idle_of v t + idle_of w t) → IsParted spent spent spent → both.seen ≡ v.seen ++ w.seen → spent.seen ≡ [] →
+pub joined_regroups : (views : List View) (i j : ℕ) (v w both spent : View) → get_elem? views i ≡ some v →
+    get_elem? (set views i both) j ≡ some w →
+    IsParted both v w → ((t : Title) → idle_of both t ≤ idle_of v t + idle_of w t) → IsParted spent spent spent → both.seen ≡ v.seen ++
+    w.seen → spent.seen ≡ [] →
     CanTake v w → IsRegrouped views (set (set views i both) j spent)
 joined_regroups views i j v w both spent at_i at_j p idle none seen no_note can = record {
-  things = λ x. join_sum (λ u. held_of_view u x) views i j v w both spent at_i at_j (sym (p.things x)) (let z = none.things x in omega arith);
-  floors = λ b n. join_sum (λ u. low_of u b n) views i j v w both spent at_i at_j (sym (p.floors b n)) (let z = none.floors b n in omega arith);
+  things = λ x. join_sum (λ u. held_of_view u x) views i j v w both spent at_i at_j (sym (p.things x))
+      (let z = none.things x in omega arith);
+  floors = λ b n. join_sum (λ u. low_of u b n) views i j v w both spent at_i at_j (sym (p.floors b n))
+      (let z = none.floors b n in omega arith);
   idle = λ t. join_less (λ u. idle_of u t) views i j v w both spent at_i at_j (idle t) (no_idle t);
   budget = join_sum (λ (u : View). u.budget) views i j v w both spent at_i at_j (sym p.budget) (let z = none.budget in omega arith);
-  logs = λ weight. join_sum (λ u. logged_of u weight) views i j v w both spent at_i at_j (sym (p.logs weight)) (let z = none.logs weight in omega arith);
+  logs = λ weight. join_sum (λ u. logged_of u weight) views i j v w both spent at_i at_j (sym (p.logs weight))
+      (let z = none.logs weight in omega arith);
   stakes = λ k. join_sum (λ u. stake_of u k) views i j v w both spent at_i at_j (sym (p.stakes k)) (let z = none.stakes k in omega arith);
-  keepers = λ k. join_sum (λ u. keeper_of u k) views i j v w both spent at_i at_j (sym (p.keepers k)) (let z = none.keepers k in omega arith);
+  keepers = λ k. join_sum (λ u. keeper_of u k) views i j v w both spent at_i at_j (sym (p.keepers k))
+      (let z = none.keepers k in omega arith);
   leases = λ n. join_sum (λ u. lease_of u n) views i j v w both spent at_i at_j (sym (p.leases n)) (let z = none.leases n in omega arith);
   ahead = λ t n zero.
-      let e : ahead_of both t n ≡ ahead_of v t n + ahead_of w t n = rw seen (sum_by-append (λ (s : SeenNumber). one (same_title s.title t && nat_lt n s.number)) v.seen w.seen) in
+      let e : ahead_of both t n ≡ ahead_of v t n + ahead_of w t n =
+      rw seen (sum_by-append (λ (s : SeenNumber). one (same_title s.title t && nat_lt n s.number)) v.seen w.seen) in
       join_sum (λ u. ahead_of u t n) views i j v w both spent at_i at_j e (rw no_note refl) ∙ zero;
   unseen = λ zero. let l = join_less unseen_of views i j v w both spent at_i at_j less spent_less in omega arith;
-  pairs = λ weight. join_sum (λ u. paired_of u weight) views i j v w both spent at_i at_j (sym (p.pairs weight)) (let z = none.pairs weight in omega arith);
-  pairs_by = λ k weight. join_sum (λ u. paired_of_by u k weight) views i j v w both spent at_i at_j (sym (p.pairs_by k weight)) (let z = none.pairs_by k weight in omega arith);
-  logs_by = λ k weight. join_sum (λ u. logged_of_by u k weight) views i j v w both spent at_i at_j (sym (p.logs_by k weight)) (let z = none.logs_by k weight in omega arith);
+  pairs = λ weight. join_sum (λ u. paired_of u weight) views i j v w both spent at_i at_j (sym (p.pairs weight))
+      (let z = none.pairs weight in omega arith);
+  pairs_by = λ k weight. join_sum (λ u. paired_of_by u k weight) views i j v w both spent at_i at_j (sym (p.pairs_by k weight))
+      (let z = none.pairs_by k weight in omega arith);
+  logs_by = λ k weight. join_sum (λ u. logged_of_by u k weight) views i j v w both spent at_i at_j (sym (p.logs_by k weight))
+      (let z = none.logs_by k weight in omega arith);
   poisoned = λ t k.
       let a = sum_set (λ u. apart_of u t k) views i v both at_i in
       let b = sum_set (λ u. apart_of u t k) (set views i both) j w spent at_j in

@@ -30,10 +30,12 @@ stakes_equal v w e k = ap (λ ss. sum_by (λ (s : Stake). one (eqb s.number k)) 
 
 -- how many times a number is among those that pass a test on numbers
 pub filter_number : (test : ℕ → Bool) (k : ℕ) (ss : List Stake) →
-    sum_by (λ (s : Stake). one (eqb s.number k)) (filter (λ (s : Stake). test s.number) ss) ≡ (if test k then sum_by (λ (s : Stake). one (eqb s.number k)) ss else 0)
+    sum_by (λ (s : Stake). one (eqb s.number k))
+    (filter (λ (s : Stake). test s.number) ss) ≡ (if test k then sum_by (λ (s : Stake). one (eqb s.number k)) ss else 0)
 filter_number test k [] = nothing (test k)
   where
-    nothing : (b : Bool) → sum_by (λ (s : Stake). one (eqb s.number k)) [] ≡ (if b then sum_by (λ (s : Stake). one (eqb s.number k)) [] else 0)
+    nothing : (b : Bool) → sum_by (λ (s : Stake). one (eqb s.number k))
+        [] ≡ (if b then sum_by (λ (s : Stake). one (eqb s.number k)) [] else 0)
     nothing true = refl
     nothing false = refl
 filter_number test k (s ∷ ss) =
@@ -50,10 +52,13 @@ filter_number test k (s ∷ ss) =
     ]
   where
     here : (a b : Bool) → a ≡ b →
-        sum_by (λ (s : Stake). one (eqb s.number k)) (filter (λ (s : Stake). test s.number) ss) ≡ (if b then sum_by (λ (s : Stake). one (eqb s.number k)) ss else 0) →
+        sum_by (λ (s : Stake). one (eqb s.number k))
+        (filter (λ (s : Stake). test s.number) ss) ≡ (if b then sum_by (λ (s : Stake). one (eqb s.number k)) ss else 0) →
         sum_by (λ (s : Stake). one (eqb s.number k)) (s ∷ ss) ≡ 1 + sum_by (λ (s : Stake). one (eqb s.number k)) ss →
-        sum_by (λ (s : Stake). one (eqb s.number k)) (s ∷ filter (λ (s : Stake). test s.number) ss) ≡ 1 + sum_by (λ (s : Stake). one (eqb s.number k)) (filter (λ (s : Stake). test s.number) ss) →
-        sum_by (λ (s : Stake). one (eqb s.number k)) (cond a (s ∷ filter (λ (s : Stake). test s.number) ss) (filter (λ (s : Stake). test s.number) ss))
+        sum_by (λ (s : Stake). one (eqb s.number k)) (s ∷ filter (λ (s : Stake). test s.number) ss) ≡ 1 + sum_by
+        (λ (s : Stake). one (eqb s.number k)) (filter (λ (s : Stake). test s.number) ss) →
+        sum_by (λ (s : Stake). one (eqb s.number k))
+        (cond a (s ∷ filter (λ (s : Stake). test s.number) ss) (filter (λ (s : Stake). test s.number) ss))
         ≡ (if b then sum_by (λ (s : Stake). one (eqb s.number k)) (s ∷ ss) else 0)
     here true true e again c d = omega arith
     here true false e again c d = absurd (true≢false e)
@@ -61,10 +66,13 @@ filter_number test k (s ∷ ss) =
     here false false e again c d = again
 
     other : (a b : Bool) →
-        sum_by (λ (s : Stake). one (eqb s.number k)) (filter (λ (s : Stake). test s.number) ss) ≡ (if b then sum_by (λ (s : Stake). one (eqb s.number k)) ss else 0) →
+        sum_by (λ (s : Stake). one (eqb s.number k))
+        (filter (λ (s : Stake). test s.number) ss) ≡ (if b then sum_by (λ (s : Stake). one (eqb s.number k)) ss else 0) →
         sum_by (λ (s : Stake). one (eqb s.number k)) (s ∷ ss) ≡ sum_by (λ (s : Stake). one (eqb s.number k)) ss →
-        sum_by (λ (s : Stake). one (eqb s.number k)) (s ∷ filter (λ (s : Stake). test s.number) ss) ≡ sum_by (λ (s : Stake). one (eqb s.number k)) (filter (λ (s : Stake). test s.number) ss) →
-        sum_by (λ (s : Stake). one (eqb s.number k)) (cond a (s ∷ filter (λ (s : Stake). test s.number) ss) (filter (λ (s : Stake). test s.number) ss))
+        sum_by (λ (s : Stake). one (eqb s.number k)) (s ∷ filter (λ (s : Stake). test s.number) ss) ≡ sum_by
+        (λ (s : Stake). one (eqb s.number k)) (filter (λ (s : Stake). test s.number) ss) →
+        sum_by (λ (s : Stake). one (eqb s.number k))
+        (cond a (s ∷ filter (λ (s : Stake). test s.number) ss) (filter (λ (s : Stake). test s.number) ss))
         ≡ (if b then sum_by (λ (s : Stake). one (eqb s.number k)) (s ∷ ss) else 0)
     other true true again c d = omega arith
     other true false again c d = omega arith
@@ -86,19 +94,23 @@ test_sum m n = elim (cases_lt 0 m) [
 pub left_stakes : (p : Parcel) (v : View) (has now : List Bool) → AreStakes has v →
     ((k : ℕ) → k < 16 → slice_index_or now k false ≡ (slice_index_or has k false && not (p.stakes k))) → AreStakes now (left_after p v)
 left_stakes p v has now s e k below =
-    e k below ∙ (ap (λ b. b && not (p.stakes k)) (s k below) ∙ (sym (test_if (not (p.stakes k)) (stake_of v k)) ∙ ap (ltb 0) (sym (filter_number (λ n. not (p.stakes n)) k v.stakes))))
+    e k below ∙ (ap (λ b. b && not (p.stakes k)) (s k below) ∙
+    (sym (test_if (not (p.stakes k)) (stake_of v k)) ∙ ap (ltb 0) (sym (filter_number (λ n. not (p.stakes n)) k v.stakes))))
 
 pub given_stakes : (p : Parcel) (v : View) (has now : List Bool) → AreStakes has v →
     ((k : ℕ) → k < 16 → slice_index_or now k false ≡ (slice_index_or has k false && p.stakes k)) → AreStakes now (given_after p v)
 given_stakes p v has now s e k below =
-    e k below ∙ (ap (λ b. b && p.stakes k) (s k below) ∙ (sym (test_if (p.stakes k) (stake_of v k)) ∙ ap (ltb 0) (sym (filter_number p.stakes k v.stakes))))
+    e k below ∙ (ap (λ b. b && p.stakes k) (s k below) ∙
+    (sym (test_if (p.stakes k) (stake_of v k)) ∙ ap (ltb 0) (sym (filter_number p.stakes k v.stakes))))
 
 -- after a join the seat has the stakes of both
 pub both_stakes : (v w : View) (has others now : List Bool) → AreStakes has v → AreStakes others w →
-    ((k : ℕ) → k < 16 → slice_index_or now k false ≡ (slice_index_or has k false || slice_index_or others k false)) → AreStakes now (united v w)
+    ((k : ℕ) → k < 16 → slice_index_or now k false ≡ (slice_index_or has k false || slice_index_or others k false)) →
+    AreStakes now (united v w)
 both_stakes v w has others now s t e k below =
     e k below ∙ (ap (λ b. b || slice_index_or others k false) (s k below) ∙ (ap (λ b. ltb 0 (stake_of v k) || b) (t k below)
-    ∙ (sym (test_sum (stake_of v k) (stake_of w k)) ∙ ap (ltb 0) (sym (sum_by-append (λ (s : Stake). one (eqb s.number k)) v.stakes w.stakes)))))
+    ∙ (sym (test_sum (stake_of v k) (stake_of w k)) ∙
+    ap (ltb 0) (sym (sum_by-append (λ (s : Stake). one (eqb s.number k)) v.stakes w.stakes)))))
 
 -- the first seat has all
 pub first_stakes : (words budget : ℕ) → AreStakes (replicate 16 true) (first_view words budget)
@@ -125,13 +137,15 @@ test_tells b n e = elim (cases_lt 0 n) [
 ]
 
 -- the first number at which the seat has a stake is that of its least one
-pub least_is : (has : List Bool) (v : View) (r : ℕ) → AreStakes has v → HasStake v → r ≤ 16 → ((k : ℕ) → k < r → slice_index_or has k false ≡ false) →
+pub least_is : (has : List Bool) (v : View) (r : ℕ) → AreStakes has v → HasStake v → r ≤ 16 →
+    ((k : ℕ) → k < r → slice_index_or has k false ≡ false) →
     (r < 16 → slice_index_or has r false ≡ true) → r ≡ least_stake v.stakes
 least_is has v r s some_stake few none there =
     let l = least_there v.stakes some_stake in
     elim (cases_lt (least_stake v.stakes) r) [
       | inl y ↦
-          let z = (test_tells (slice_index_or has (least_stake v.stakes) false) (stake_of v (least_stake v.stakes)) (s (least_stake v.stakes) some_stake)).1 (none (least_stake v.stakes) y) in
+          let z = (test_tells (slice_index_or has (least_stake v.stakes) false) (stake_of v (least_stake v.stakes))
+          (s (least_stake v.stakes) some_stake)).1 (none (least_stake v.stakes) y) in
           absurd (omega arith)
       | inr m ↦
           let here : r < 16 = omega arith in

@@ -24,7 +24,8 @@ pub seen_right : (t : Title) (a b : List SeenNumber) → seen_among t b ≤ seen
 seen_right t a b = let e = seen_append t a b in omega arith
 
 -- a view that has seen more has seen what entries say
-pub unseen_grown : (notes more : List SeenNumber) → ((t : Title) → seen_among t notes ≤ seen_among t more) → (e : Entry) → unseen_by more e ≤ unseen_by notes e
+pub unseen_grown : (notes more : List SeenNumber) → ((t : Title) → seen_among t notes ≤ seen_among t more) → (e : Entry) →
+    unseen_by more e ≤ unseen_by notes e
 unseen_grown notes more h (Counted u step found value) = lt_antitone (seen_among u notes) (seen_among u more) (number_of found + 1) (h u)
 unseen_grown notes more h (Looked u found) = lt_antitone (seen_among u notes) (seen_among u more) (number_of found) (h u)
 unseen_grown notes more h (Read u place read since owned unclean) = omega arith

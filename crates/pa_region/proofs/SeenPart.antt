@@ -79,7 +79,8 @@ note_here t number notes = rw (title_self t) (le-max_left number (seen_among t n
 pub lt_antitone : (a b k : ℕ) → a ≤ b → one (ltb b k) ≤ one (ltb a k)
 lt_antitone a b k h =
     elim (one_lt b k) [
-      | inl y ↦ let p = y.1 in let q = y.0 in elim (one_lt a k) [ inl z ↦ let r = z.0 in omega arith | inr z ↦ let r = z.1 in absurd (omega arith) ]
+      | inl y ↦ let p = y.1 in let q = y.0 in
+          elim (one_lt a k) [ inl z ↦ let r = z.0 in omega arith | inr z ↦ let r = z.1 in absurd (omega arith) ]
       | inr n ↦ let q = n.0 in omega arith
     ]
 
@@ -96,13 +97,15 @@ unseen_less t number notes (Uncut again) = omega arith
 
 -- greater weights give greater sums
 pub logged_mono : (v : View) (f g : Entry → ℕ) → ((e : Entry) → f e ≤ g e) → logged_of v f ≤ logged_of v g
-logged_mono v f g h = sum_by-le-sum_by (λ (s : Stake). sum_by f s.log) (λ (s : Stake). sum_by g s.log) v.stakes (λ s. sum_by-le-sum_by f g s.log h)
+logged_mono v f g h = sum_by-le-sum_by (λ (s : Stake). sum_by f s.log) (λ (s : Stake). sum_by g s.log) v.stakes
+    (λ s. sum_by-le-sum_by f g s.log h)
 
 -- fewer notes are ahead of a greater number
 ahead_antitone : (views : List View) (t : Title) (a b : ℕ) → a ≤ b → ahead_in views t b ≤ ahead_in views t a
 ahead_antitone views t a b h =
     sum_by-le-sum_by (λ v. ahead_of v t b) (λ v. ahead_of v t a) views
-    (λ v. sum_by-le-sum_by (λ (s : SeenNumber). one (same_title s.title t && ltb b s.number)) (λ (s : SeenNumber). one (same_title s.title t && ltb a s.number)) v.seen
+    (λ v. sum_by-le-sum_by (λ (s : SeenNumber). one (same_title s.title t && ltb b s.number))
+    (λ (s : SeenNumber). one (same_title s.title t && ltb a s.number)) v.seen
     (λ s. go (same_title s.title t) s.number))
   where
     go : (x : Bool) (n : ℕ) → one (x && ltb b n) ≤ one (x && ltb a n)
@@ -113,7 +116,8 @@ ahead_antitone views t a b h =
 -- that many counted steps on the title, and the entry is seen.
 pub seen_entered : (views : List View) (i : ℕ) (v w : View) (logs after : (Entry → ℕ) → ℕ) (e : Entry) (t : Title) (number : ℕ) →
     get_elem? views i ≡ some v → w.seen ≡ note t number ∷ v.seen → ((f : Entry → ℕ) → logged_of w f ≡ logged_of v f + f e) →
-    ((weight : Entry → ℕ) → after weight ≡ logs weight + weight e) → number ≤ after (counted_on t) → unseen_by (note t number ∷ v.seen) e ≡ 0 →
+    ((weight : Entry → ℕ) → after weight ≡ logs weight + weight e) → number ≤ after (counted_on t) →
+    unseen_by (note t number ∷ v.seen) e ≡ 0 →
     Seen logs (ahead_in views) (unseen_in views) → Seen after (ahead_in (set views i w)) (unseen_in (set views i w))
 seen_entered views i v w logs after e t number at_i seen_is logged with_entry enough fresh s = record {
   numbers = λ u.
@@ -121,10 +125,13 @@ seen_entered views i v w logs after e t number at_i seen_is logged with_entry en
       let n = s.numbers u in
       let c = sum_set (λ x. ahead_of x u (after (counted_on u))) views i v w at_i in
       let less = ahead_antitone views u (logs (counted_on u)) (after (counted_on u)) (omega arith) in
-      let d : ahead_of w u (after (counted_on u)) ≡ one (same_title t u && ltb (after (counted_on u)) number) + ahead_of v u (after (counted_on u)) =
-      rw seen_is (sum_by-cons (λ (x : SeenNumber). one (same_title x.title u && ltb (after (counted_on u)) x.number)) (note t number) v.seen) in
+      let d : ahead_of w u (after (counted_on u)) ≡ one (same_title t u && ltb (after (counted_on u)) number) + ahead_of v u
+      (after (counted_on u)) =
+      rw seen_is (sum_by-cons (λ (x : SeenNumber). one (same_title x.title u && ltb (after (counted_on u)) x.number))
+      (note t number) v.seen) in
       let z : one (same_title t u && ltb (after (counted_on u)) number) ≡ 0 = elim (title_tells t u) [
-        | inl y ↦ subst (λ (k : Title). one (same_title t k && ltb (after (counted_on k)) number) ≡ 0) y.1 (here (one_lt (after (counted_on t)) number))
+        | inl y ↦ subst (λ (k : Title). one (same_title t k && ltb (after (counted_on k)) number) ≡ 0) y.1
+            (here (one_lt (after (counted_on t)) number))
         | inr m ↦ rw m.0 refl
       ] in
       omega arith;
@@ -139,14 +146,16 @@ seen_entered views i v w logs after e t number at_i seen_is logged with_entry en
       omega arith;
 }
   where
-    here : ((one (ltb (after (counted_on t)) number) ≡ 1) × (after (counted_on t) < number)) ⊎ ((one (ltb (after (counted_on t)) number) ≡ 0) × (number ≤ after (counted_on t))) →
+    here : ((one (ltb (after (counted_on t)) number) ≡ 1) × (after (counted_on t) < number)) ⊎
+        ((one (ltb (after (counted_on t)) number) ≡ 0) × (number ≤ after (counted_on t))) →
         one (same_title t t && ltb (after (counted_on t)) number) ≡ 0
     here (inl y) = let a = y.1 in absurd (omega arith)
     here (inr n) = rw (title_self t) n.0
 
 -- nothing that is read changes
 pub seen_same : (logs after : (Entry → ℕ) → ℕ) (ahead ahead_after : Title → ℕ → ℕ) (unseen unseen_after : ℕ) → Seen logs ahead unseen →
-    ((t : Title) → after (counted_on t) ≡ logs (counted_on t)) → ((t : Title) (n : ℕ) → ahead_after t n ≡ ahead t n) → unseen_after ≡ unseen →
+    ((t : Title) → after (counted_on t) ≡ logs (counted_on t)) → ((t : Title) (n : ℕ) → ahead_after t n ≡ ahead t n) →
+    unseen_after ≡ unseen →
     Seen after ahead_after unseen_after
 seen_same logs after ahead ahead_after unseen unseen_after s same_logs same_ahead same = record {
   numbers = λ t. ap (ahead_after t) (same_logs t) ∙ (same_ahead t (logs (counted_on t)) ∙ s.numbers t);

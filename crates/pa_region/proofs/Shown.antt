@@ -69,15 +69,18 @@ get_held vs k x = held_in (get_or (map pieces_of vs) k []) x
 
 -- what a view loses and gains, its actor does in the core that is shown
 pub is_after : (words after : List ℕ) (views : List View) (i : ℕ) (v w : View) (lost gained : List Piece) → get_elem? views i ≡ some v →
-    Changes (held_of_view v) lost gained (held_of_view w) → IsAfter (shown words views) i lost gained (byte_words after) (shown after (set views i w))
+    Changes (held_of_view v) lost gained (held_of_view w) →
+    IsAfter (shown words views) i lost gained (byte_words after) (shown after (set views i w))
 is_after words after views i v w lost gained at_i c = record {
   words = refl;
   holdings = (
     map_length pieces_of views i w,
     λ actor x below. elim (eqb_tells actor i) [
-      | inl y ↦ subst (λ (k : ℕ). get_held (set views i w) k x + held_in (of_actor i lost k) x ≡ get_held views k x + held_in (of_actor i gained k) x) (sym y.1) (here x)
+      | inl y ↦ subst (λ (k : ℕ). get_held (set views i w) k x + held_in (of_actor i lost k) x ≡ get_held views k x + held_in
+          (of_actor i gained k) x) (sym y.1) (here x)
       | inr n ↦
-          let same : get_held (set views i w) actor x ≡ get_held views actor x = ap (λ ps. held_in ps x) (map_beside pieces_of views i actor w [] n.1) in
+          let same : get_held (set views i w) actor x ≡ get_held views actor x =
+          ap (λ ps. held_in ps x) (map_beside pieces_of views i actor w [] n.1) in
           let a = of_actor_apart i actor lost x n.1 in
           let b = of_actor_apart i actor gained x n.1 in
           omega arith

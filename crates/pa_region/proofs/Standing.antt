@@ -47,7 +47,8 @@ pub record IsAs (step : Step) (word value : ℕ) (p : Step) (found written : ℕ
   pub word_same : found ≡ word
   pub value_same : written ≡ value
 
-pub as_tells : (t : Title) (step : Step) (word value : ℕ) (u : Title) (p : Step) (found written : ℕ) → 0 < counted_as t step word value (Counted u p found written) →
+pub as_tells : (t : Title) (step : Step) (word value : ℕ) (u : Title) (p : Step) (found written : ℕ) →
+    0 < counted_as t step word value (Counted u p found written) →
     IsAs step word value p found written
 as_tells t step word value u p found written h =
     let all = and_parts (same_title u t) (eqb (step_number p) (step_number step) && (eqb found word && eqb written value)) (one_true _ h) in
@@ -66,7 +67,8 @@ one_of_two : (t : Title) (step other : Step) (word value found written : ℕ) �
 one_of_two t step other word value found written same differ (Counted u p w x) =
     let a = as_at t step word value (Counted u p w x) in
     let b = as_at t other found written (Counted u p w x) in
-    let c : counted_at t (number_of found) (Counted u p w x) ≡ counted_at t (number_of word) (Counted u p w x) = ap (λ n. counted_at t n (Counted u p w x)) (sym same) in
+    let c : counted_at t (number_of found) (Counted u p w x) ≡ counted_at t (number_of word) (Counted u p w x) =
+    ap (λ n. counted_at t n (Counted u p w x)) (sym same) in
     let small : counted_as t step word value (Counted u p w x) ≤ 1 = one_small _ in
     let small2 : counted_as t other found written (Counted u p w x) ≤ 1 = one_small _ in
     elim (cases_lt 0 (counted_as t step word value (Counted u p w x))) [
@@ -100,21 +102,24 @@ sum_two f g h (x ∷ xs) each =
 -- the logs of a view add up
 pub logged_two : (v : View) → AddsUp (logged_of v)
 logged_two v f g h each =
-    sum_two (λ (s : Stake). sum_by f s.log) (λ (s : Stake). sum_by g s.log) (λ (s : Stake). sum_by h s.log) v.stakes (λ s. sum_two f g h s.log each)
+    sum_two (λ (s : Stake). sum_by f s.log) (λ (s : Stake). sum_by g s.log) (λ (s : Stake). sum_by h s.log) v.stakes
+    (λ s. sum_two f g h s.log each)
 
 -- what is in a history at a number
 pub record IsAtNumber (logs : (Entry → ℕ) → ℕ) (t : Title) (history : List Done) (k : ℕ) (d : Done) : Type 0 where
   pub stands : up_to (k + 1) history ≡ d ∷ up_to k history
   pub logged : logs (counted_as t d.step (word_at_number k history) d.value) ≡ 1
 
-pub at_number : (logs : (Entry → ℕ) → ℕ) (t : Title) (history : List Done) (k : ℕ) → IsLogged logs t history → k < length history → (d : Done) × IsAtNumber logs t history k d
+pub at_number : (logs : (Entry → ℕ) → ℕ) (t : Title) (history : List Done) (k : ℕ) → IsLogged logs t history → k < length history →
+    (d : Done) × IsAtNumber logs t history k d
 at_number logs t [] k logged below = absurd (omega arith)
 at_number logs t (d ∷ older) k logged below = elim (cases_lt k (length older)) [
   | inl y ↦
       let again = at_number logs t older k logged.1 y in (
         again.0,
         record {
-          stands = up_to_more (k + 1) d older (omega arith) ∙ (again.1.stands ∙ ap (λ hs. again.0 ∷ hs) (sym (up_to_more k d older (omega arith))));
+          stands = up_to_more (k + 1) d older (omega arith) ∙
+              (again.1.stands ∙ ap (λ hs. again.0 ∷ hs) (sym (up_to_more k d older (omega arith))));
           logged = rw (up_to_more k d older (omega arith)) again.1.logged;
         },
       )
@@ -133,7 +138,8 @@ at_number logs t (d ∷ older) k logged below = elim (cases_lt k (length older))
 adds_less : (logs : (Entry → ℕ) → ℕ) → AddsUp logs → (f g : Entry → ℕ) → ((e : Entry) → f e ≤ g e) → logs f ≤ logs g
 adds_less logs adds f g less = let two = adds f (λ e. 0) g (λ e. let l = less e in omega arith) in omega arith
 
-pub step_stands : (logs : (Entry → ℕ) → ℕ) (t : Title) (history : List Done) (step : Step) (word value : ℕ) → AddsUp logs → IsChained logs t history → 0 < logs (counted_as t step word value) →
+pub step_stands : (logs : (Entry → ℕ) → ℕ) (t : Title) (history : List Done) (step : Step) (word value : ℕ) → AddsUp logs →
+    IsChained logs t history → 0 < logs (counted_as t step word value) →
     (number_of word < length history) × (word_at_number (number_of word) history ≡ word) ×
     (up_to (number_of word + 1) history ≡ record { step = step; value = value } ∷ up_to (number_of word) history)
 step_stands logs t history step word value adds chain logged =
@@ -146,13 +152,15 @@ step_stands logs t history step word value adds chain logged =
     let same : number_of (word_at_number k history) ≡ k =
     reached_number (up_to k history) (up_to_legal k history chain.legal) ∙ up_to_length k history (omega arith) in
     let one_there = there.1.logged in
-    let is = is_as logs adds t step d.step word value (word_at_number k history) d.value (sym same) logged one_there (n ∙ ap one (lt-ltb k (length history) below)) in
+    let is = is_as logs adds t step d.step word value (word_at_number k history) d.value (sym same) logged one_there
+    (n ∙ ap one (lt-ltb k (length history) below)) in
     (below, is.word_same, there.1.stands ∙ ap (λ x. x ∷ up_to k history) (done_is d step value is.step_same is.value_same))
   where
     done_is : (d : Done) (p : Step) (x : ℕ) → d.step ≡ p → d.value ≡ x → d ≡ record { step = p; value = x }
     done_is d p x e f = let g : Step → ℕ → Done = λ q y. record { step = q; value = y } in ap (λ q. g q d.value) e ∙ ap (g p) f
 
-    is_as : (logs : (Entry → ℕ) → ℕ) → AddsUp logs → (t : Title) (step other : Step) (word value found written : ℕ) → number_of word ≡ number_of found →
+    is_as : (logs : (Entry → ℕ) → ℕ) → AddsUp logs → (t : Title) (step other : Step) (word value found written : ℕ) →
+        number_of word ≡ number_of found →
         0 < logs (counted_as t step word value) → logs (counted_as t other found written) ≡ 1 → logs (counted_at t (number_of word)) ≡ 1 →
         IsAs step word value other found written
     is_as logs adds t step other word value found written same some_log one_log only =
@@ -169,7 +177,8 @@ step_stands logs t history step word value adds chain logged =
       where
         apart : (IsAs step word value other found written → ⊥) → ⊥
         apart differ =
-            let two = adds (counted_as t step word value) (counted_as t other found written) (counted_at t (number_of word)) (one_of_two t step other word value found written same differ) in
+            let two = adds (counted_as t step word value) (counted_as t other found written) (counted_at t (number_of word))
+            (one_of_two t step other word value found written same differ) in
             absurd (omega arith)
 
 -- a longer history
@@ -186,7 +195,8 @@ first_longer [] history k n first = first
 first_longer (d ∷ later) history k n first = first_stays d (later ++ history) k n (first_longer later history k n first)
 
 -- the histories of logs that grew: what stood at a number still does
-same_below : (logs after : (Entry → ℕ) → ℕ) (t : Title) (older newer : List Done) → AddsUp after → ((weight : Entry → ℕ) → logs weight ≤ after weight) →
+same_below : (logs after : (Entry → ℕ) → ℕ) (t : Title) (older newer : List Done) → AddsUp after →
+    ((weight : Entry → ℕ) → logs weight ≤ after weight) →
     IsChained logs t older → IsChained after t newer → (k : ℕ) → k ≤ length older → up_to k newer ≡ up_to k older
 same_below logs after t older newer adds grows old new zero within = up_to_none newer ∙ sym (up_to_none older)
 same_below logs after t older newer adds grows old new (suc k) within =
@@ -198,7 +208,8 @@ same_below logs after t older newer adds grows old new (suc k) within =
     let logged = there.1.logged in
     let more = grows (counted_as t d.step word d.value) in
     let stands = step_stands after t newer d.step word d.value adds new (omega arith) in
-    let next : up_to (k + 1) newer ≡ d ∷ up_to k newer = ap (λ n. up_to (n + 1) newer) (sym number) ∙ (stands.2 ∙ ap (λ n. d ∷ up_to n newer) number) in
+    let next : up_to (k + 1) newer ≡ d ∷ up_to k newer = ap (λ n. up_to (n + 1) newer) (sym number) ∙
+    (stands.2 ∙ ap (λ n. d ∷ up_to n newer) number) in
     let plus : suc k ≡ k + 1 = omega arith in
     rw plus (next ∙ (ap (λ hs. d ∷ hs) again ∙ sym there.1.stands))
 
@@ -213,7 +224,8 @@ split_at_number k (d ∷ older) within = elim (cases_lt (length older) k) [
 ]
 
 -- the history of logs that grew goes on from what it was
-pub history_grows : (logs after : (Entry → ℕ) → ℕ) (t : Title) (older newer : List Done) → AddsUp after → ((weight : Entry → ℕ) → logs weight ≤ after weight) →
+pub history_grows : (logs after : (Entry → ℕ) → ℕ) (t : Title) (older newer : List Done) → AddsUp after →
+    ((weight : Entry → ℕ) → logs weight ≤ after weight) →
     IsChained logs t older → IsChained after t newer → (later : List Done) × (newer ≡ later ++ older)
 history_grows logs after t older newer adds grows old new =
     let a = old.all in let b = new.all in let c = grows (counted_on t) in

@@ -13,14 +13,16 @@ use Rattle.pa_region.proofs.Adding.{one_and, sum_set}
 use Rattle.pa_region.proofs.Pieces.{held_split, total_sum}
 
 -- floors stay if a view's raw ranges do
-pub low_set : (views : List View) (i : ℕ) (v w : View) → get_elem? views i ≡ some v → w.raws ≡ v.raws → (b n : ℕ) → low_in (set views i w) b n ≡ low_in views b n
+pub low_set : (views : List View) (i : ℕ) (v w : View) → get_elem? views i ≡ some v → w.raws ≡ v.raws → (b n : ℕ) →
+    low_in (set views i w) b n ≡ low_in views b n
 low_set views i v w at_i e b n =
     let c = sum_set (λ u. low_of u b n) views i v w at_i in
     let same : low_of w b n ≡ low_of v b n = rw e refl in
     omega arith
 
 -- stakes stay
-pub stakes_set : (views : List View) (i : ℕ) (v w : View) → get_elem? views i ≡ some v → ((k : ℕ) → stake_of w k ≡ stake_of v k) → (k : ℕ) → stakes_in (set views i w) k ≡ stakes_in views k
+pub stakes_set : (views : List View) (i : ℕ) (v w : View) → get_elem? views i ≡ some v → ((k : ℕ) → stake_of w k ≡ stake_of v k) → (k : ℕ) →
+    stakes_in (set views i w) k ≡ stakes_in views k
 stakes_set views i v w at_i same k =
     let c = sum_set (λ u. stake_of u k) views i v w at_i in
     let s = same k in
@@ -41,7 +43,8 @@ undone_set views i v w at_i e grows before t =
 pub low_held : (v : View) (b n : ℕ) → low_of v b n ≤ held_of_view v (RawByte b)
 low_held v b n =
     let h = held_split v (RawByte b) in
-    let l = sum_by-le-sum_by (λ (r : RawRange). one ((leb r.start b && ltb b (r.start + r.len)) && leb r.floor n)) (λ (r : RawRange). amount (RawByte b) (raw_piece r)) v.raws
+    let l = sum_by-le-sum_by (λ (r : RawRange). one ((leb r.start b && ltb b (r.start + r.len)) && leb r.floor n))
+    (λ (r : RawRange). amount (RawByte b) (raw_piece r)) v.raws
     (λ r. one_and (leb r.start b && ltb b (r.start + r.len)) (leb r.floor n)) in
     omega arith
 

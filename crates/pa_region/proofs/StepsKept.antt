@@ -37,12 +37,14 @@ pub once_there : (words : List ℕ) (views : List View) (k : IsKept words views)
 once_there words views k n small = k.logs.each_stake n ∙ elim (one_lt n 16) [ inl y ↦ y.0 | inr m ↦ let z = m.1 in absurd (omega arith) ]
 
 -- a view that has poisoned an Own has a stake
-pub poisoned_stake : (words : List ℕ) (views : List View) (j : ℕ) (u : View) (t : Title) → IsKept words views → get_elem? views j ≡ some u → 0 < poisoned_of u t → HasStake u
+pub poisoned_stake : (words : List ℕ) (views : List View) (j : ℕ) (u : View) (t : Title) → IsKept words views → get_elem? views j ≡ some u →
+    0 < poisoned_of u t → HasStake u
 poisoned_stake words views j u t k at_j some_own = (k.reads.each_view j u at_j).stake (let l = poisoned_unclean u t in omega arith)
 
 -- the least stake of a view isn't that of another view
 pub others_apart : (words : List ℕ) (views : List View) (i : ℕ) (v : View) → IsKept words views → get_elem? views i ≡ some v → HasStake v →
-    (j : ℕ) (u : View) → (j ≡ i → ⊥) → get_elem? views j ≡ some u → (t : Title) → 0 < poisoned_of u t → least_stake v.stakes ≡ least_stake u.stakes → ⊥
+    (j : ℕ) (u : View) → (j ≡ i → ⊥) → get_elem? views j ≡ some u → (t : Title) → 0 < poisoned_of u t →
+    least_stake v.stakes ≡ least_stake u.stakes → ⊥
 others_apart words views i v k at_i has j u ne at_j t some_own same =
     let none = stake_alone views i j v u at_i at_j ne has (once_there words views k (least_stake v.stakes) has) in
     let mine = least_there u.stakes (poisoned_stake words views j u t k at_j some_own) in
@@ -50,7 +52,8 @@ others_apart words views i v k at_i has j u ne at_j t some_own same =
     absurd (omega arith)
 
 -- the log of a number that a view has is what its stake did
-log_is : (n : ℕ) (ss : List Stake) (f : ℕ → List Entry) → Each (λ (s : Stake). s.log ≡ f s.number) ss → 0 < sum_by (λ (s : Stake). one (eqb s.number n)) ss → log_among n ss ≡ f n
+log_is : (n : ℕ) (ss : List Stake) (f : ℕ → List Entry) → Each (λ (s : Stake). s.log ≡ f s.number) ss →
+    0 < sum_by (λ (s : Stake). one (eqb s.number n)) ss → log_among n ss ≡ f n
 log_is n [] f each has = absurd (omega arith)
 log_is n (s ∷ ss) f each has = elim (eqb_tells s.number n) [
   | inl y ↦ rw y.0 (each.0 ∙ ap f y.1)
@@ -60,14 +63,16 @@ log_is n (s ∷ ss) f each has = elim (eqb_tells s.number n) [
       rw m.0 (log_is n ss f each.1 (omega arith))
 ]
 
-pub least_log_is : (words : List ℕ) (views : List View) (i : ℕ) (v : View) (k : IsKept words views) → get_elem? views i ≡ some v → HasStake v →
+pub least_log_is : (words : List ℕ) (views : List View) (i : ℕ) (v : View) (k : IsKept words views) → get_elem? views i ≡ some v →
+    HasStake v →
     least_log v.stakes ≡ by_stake (least_stake v.stakes) (logged_among k.steps)
 least_log_is words views i v k at_i has =
     log_is (least_stake v.stakes) v.stakes (λ n. by_stake n k.all) (k.ordered.logs i v at_i) (least_there v.stakes has)
     ∙ ap (by_stake (least_stake v.stakes)) (sym k.filled.logged)
 
 -- a content word that is read is what the steps left
-pub word_left : (words : List ℕ) (views : List View) (i : ℕ) (v : View) (t : Title) (place : ℕ) (k : IsKept words views) → get_elem? views i ≡ some v → IsUser t v →
+pub word_left : (words : List ℕ) (views : List View) (i : ℕ) (v : View) (t : Title) (place : ℕ) (k : IsKept words views) →
+    get_elem? views i ≡ some v → IsUser t v →
     place < content_count t → has_unclean v t ≡ false → content_at (byte_words words) t place ≡ content_in t place k.steps
 word_left words views i v t place k at_i has below clean = elim (cases_lt 0 (own_of v t)) [
   | inl mine ↦
@@ -98,7 +103,8 @@ word_left words views i v t place k at_i has below clean = elim (cases_lt 0 (own
         elim ((k.holders.good.content_kept t held).shared a (omega arith) now) [
           | inl c ↦ as_clean (subst (λ (s : OwnState). 0 < total_of (shown words views) (OwnAs t s)) c now)
           | inr p ↦
-              let there : 0 < total_of (shown words views) (OwnAs t (Poisoned p.0)) = subst (λ (s : OwnState). 0 < total_of (shown words views) (OwnAs t s)) p.1 now in
+              let there : 0 < total_of (shown words views) (OwnAs t (Poisoned p.0)) =
+              subst (λ (s : OwnState). 0 < total_of (shown words views) (OwnAs t s)) p.1 now in
               let f = k.filled.owned t (Poisoned p.0) there in
               elim (cases_lt place p.0) [
                 | inl done ↦ ((k.holders.good.poison_kept t held).progress p.0 there).1 place done ∙ sym (f.poisoned place done)
@@ -115,19 +121,24 @@ word_left words views i v t place k at_i has below clean = elim (cases_lt 0 (own
           by_state l.4.0 (omega arith) refs
       | inr dead ↦
           let o = counted.owns in let q = counted.refs in
-          (k.holders.good.poison_kept t held).quarantine (omega arith, omega arith) place below ∙ sym ((k.filled.left t (omega arith)).poisoned refs place below)
+          (k.holders.good.poison_kept t held).quarantine (omega arith, omega arith) place below ∙
+          sym ((k.filled.left t (omega arith)).poisoned refs place below)
     ]
 
 -- a read is in place after the steps
-pub read_in_place : (words : List ℕ) (views : List View) (i : ℕ) (v : View) (t : Title) (place : ℕ) (k : IsKept words views) → get_elem? views i ≡ some v → IsUser t v →
-    HasStake v → place < content_count t → IsReadInPlace (least_stake v.stakes) t place (content_at (byte_words words) t place) v.since (has_unclean v t) k.steps
+pub read_in_place : (words : List ℕ) (views : List View) (i : ℕ) (v : View) (t : Title) (place : ℕ) (k : IsKept words views) →
+    get_elem? views i ≡ some v → IsUser t v →
+    HasStake v → place < content_count t →
+    IsReadInPlace (least_stake v.stakes) t place (content_at (byte_words words) t place) v.since (has_unclean v t) k.steps
 read_in_place words views i v t place k at_i has stake below = record {
   right = λ clean. word_left words views i v t place k at_i has below clean;
-  calm = λ found is handed. (k.filled.each_view i v at_i).waits t found (ap last_entry (least_log_is words views i v k at_i stake) ∙ is) handed;
+  calm = λ found is handed. (k.filled.each_view i v at_i).waits t found
+      (ap last_entry (least_log_is words views i v k at_i stake) ∙ is) handed;
 }
 
 -- to a view with every stake each poisoning of a title has a free after it, but of an Own that it has poisoned itself
-pub freed_after : (words : List ℕ) (views : List View) (i : ℕ) (v : View) (k : IsKept words views) → get_elem? views i ≡ some v → HasEveryStake v → (t : Title) →
+pub freed_after : (words : List ℕ) (views : List View) (i : ℕ) (v : View) (k : IsKept words views) → get_elem? views i ≡ some v →
+    HasEveryStake v → (t : Title) →
     poisoned_of v t ≡ 0 → spoiled t k.steps ≡ 0
 freed_after words views i v k at_i every t none = elim (cases_lt 0 (total_of (shown words views) (OwnOf t))) [
   | inl live ↦

@@ -36,7 +36,8 @@ bytes_stay words p x below = record {
 }
 
 -- a log gets an entry that adds nothing to a totals word, and that owes only as a counted step of at most 134,217,728 bytes
-pub totals_other : (words after : List ℕ) (views : List View) (i : ℕ) (v w : View) (e : Entry) → get_elem? views i ≡ some v → w.stakes ≡ noted e v.stakes → HasStake v →
+pub totals_other : (words after : List ℕ) (views : List View) (i : ℕ) (v w : View) (e : Entry) → get_elem? views i ≡ some v →
+    w.stakes ≡ noted e v.stakes → HasStake v →
     Totals words (logged_in views) (logged_by views) → TotalsStay words after →
     ((weight : Entry → ℕ) → logged_in (set views i w) weight ≡ logged_in views weight + weight e) →
     ((k : ℕ) → added_to k e ≡ 0) → ((q : ℕ) → added_as q e ≡ 0) → ((q : ℕ) → owes_as q e ≤ 134217728 * counted e) →
@@ -59,7 +60,8 @@ totals_other words after views i v w e at_i stakes has t stay more to kind owes 
 
 -- no log gets an entry
 pub totals_stay : (words after : List ℕ) (views : List View) (i : ℕ) (v w : View) → get_elem? views i ≡ some v → w.stakes ≡ v.stakes →
-    Totals words (logged_in views) (logged_by views) → TotalsStay words after → Totals after (logged_in (set views i w)) (logged_by (set views i w))
+    Totals words (logged_in views) (logged_by views) → TotalsStay words after →
+    Totals after (logged_in (set views i w)) (logged_by (set views i w))
 totals_stay words after views i v w at_i stakes t stay = record {
   wide = let l = stay.long in let w = t.wide in omega arith;
   small = let l = stay.long in let s = t.small in omega arith;
@@ -77,7 +79,8 @@ totals_stay words after views i v w at_i stakes t stay = record {
 
 -- views are regrouped
 pub totals_same : (words : List ℕ) (before after : List View) → ((weight : Entry → ℕ) → logged_in after weight ≡ logged_in before weight) →
-    ((r : ℕ) (weight : Entry → ℕ) → logged_by after r weight ≡ logged_by before r weight) → Totals words (logged_in before) (logged_by before) →
+    ((r : ℕ) (weight : Entry → ℕ) → logged_by after r weight ≡ logged_by before r weight) →
+    Totals words (logged_in before) (logged_by before) →
     Totals words (logged_in after) (logged_by after)
 totals_same words before after logs logs_by t = record {
   wide = t.wide;
@@ -92,7 +95,8 @@ owes_at_most : (b : Bool) (n : ℕ) → n ≤ 134217728 → (if b then n else 0)
 owes_at_most true n h = h
 owes_at_most false n h = omega arith
 
-pub owes_few : (words : List ℕ) (t : Title) (step : Step) (found value : ℕ) → IsWellFormed (length (byte_words words)) t → length words ≤ 16777232 → (q : ℕ) →
+pub owes_few : (words : List ℕ) (t : Title) (step : Step) (found value : ℕ) → IsWellFormed (length (byte_words words)) t →
+    length words ≤ 16777232 → (q : ℕ) →
     owes_as q (Counted t step found value) ≤ 134217728 * counted (Counted t step found value)
 owes_few words t step found value well small q =
     let l = bytes_length words in

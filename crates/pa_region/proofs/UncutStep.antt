@@ -47,22 +47,27 @@ use Rattle.pa_region.proofs.StepsPart.{logging, eased_titles, filled_entry}
 use Rattle.pa_region.proofs.StepsKept.{others_apart}
 
 -- what an uncut changes of what the view holds
-pub uncut_changes : (t : Title) (v : View) → 0 < free_of v t → Changes (held_of_view v) (FreePiece t ∷ []) (RawPiece t.start t.len ∷ []) (held_of_view (after_uncut t v))
+pub uncut_changes : (t : Title) (v : View) → 0 < free_of v t →
+    Changes (held_of_view v) (FreePiece t ∷ []) (RawPiece t.start t.len ∷ []) (held_of_view (after_uncut t v))
 uncut_changes t v has x =
     let before = held_split v x in
     let after = held_split (after_uncut t v) x in
     let first = first_of (is_title_of t) v.frees has in
     let f = first.1.left_out (λ u. amount x (FreePiece u)) in
-    let same : amount x (FreePiece first.0) ≡ amount x (FreePiece t) = ap (λ u. amount x (FreePiece u)) (found_title t first.0 first.1.passes) in
+    let same : amount x (FreePiece first.0) ≡ amount x (FreePiece t) =
+    ap (λ u. amount x (FreePiece u)) (found_title t first.0 first.1.passes) in
     omega (arith, sum_by-cons (λ r. amount x (raw_piece r)) (raw_again t) v.raws)
 
 -- no title is free more often than before
 pub uncut_fewer : (t : Title) (v : View) → 0 < free_of v t → (u : Title) → free_of (after_uncut t v) u ≤ free_of v u
-uncut_fewer t v has u = let first = first_of (is_title_of t) v.frees has in let f = first.1.left_out (λ x. one (same_title x u)) in omega arith
+uncut_fewer t v has u = let first = first_of (is_title_of t) v.frees has in let f = first.1.left_out (λ x. one (same_title x u)) in
+    omega arith
 
 -- an uncut is an event of the core that is shown
-pub uncut_event : (t : Title) (words : List ℕ) (views : List View) (i : ℕ) (v : View) → IsKept words views → get_elem? views i ≡ some v → CanUncut t v →
-    IsEnabled (UncutEvent i t) (shown words views) × Happens (UncutEvent i t) (shown words views) (shown words (set views i (after_uncut t v)))
+pub uncut_event : (t : Title) (words : List ℕ) (views : List View) (i : ℕ) (v : View) → IsKept words views → get_elem? views i ≡ some v →
+    CanUncut t v →
+    IsEnabled (UncutEvent i t) (shown words views) ×
+    Happens (UncutEvent i t) (shown words views) (shown words (set views i (after_uncut t v)))
 uncut_event t words views i v k at_i can =
     let has = can.0 in
     let s = shown_held words views i v at_i (FreeTitle t) in
@@ -72,11 +77,13 @@ uncut_event t words views i v k at_i can =
     )
 
 -- the stakes are the same
-pub uncut_stakes : (t : Title) (v : View) → CanUncut t v → (k : ℕ) → sum_by (λ (s : Stake). one (s.number == k)) (after_uncut t v).stakes ≡ sum_by (λ (s : Stake). one (s.number == k)) v.stakes
+pub uncut_stakes : (t : Title) (v : View) → CanUncut t v → (k : ℕ) →
+    sum_by (λ (s : Stake). one (s.number == k)) (after_uncut t v).stakes ≡ sum_by (λ (s : Stake). one (s.number == k)) v.stakes
 uncut_stakes t v can k = noted_stakes (Uncut t) v.stakes k can.1
 
 -- an uncut keeps the rule
-pub uncut_keeps : (t : Title) (words : List ℕ) (views : List View) (i : ℕ) (v : View) → IsKept words views → get_elem? views i ≡ some v → CanUncut t v →
+pub uncut_keeps : (t : Title) (words : List ℕ) (views : List View) (i : ℕ) (v : View) → IsKept words views → get_elem? views i ≡ some v →
+    CanUncut t v →
     IsKept words (set views i (after_uncut t v))
 uncut_keeps t words views i v k at_i can =
     let w = after_uncut t v in
@@ -90,7 +97,8 @@ uncut_keeps t words views i v k at_i can =
       list = k.list;
       all = ending e v k.all;
       steps = logging e v ∷ k.steps;
-      holders = holders_written (byte_words words) (byte_words words) (total_of (shown words views)) (total_of after) (idle_in views) (idle_in (set views i w))
+      holders = holders_written (byte_words words) (byte_words words) (total_of (shown words views)) (total_of after) (idle_in views)
+          (idle_in (set views i w))
           (budget_in views) (budget_in (set views i w)) (logged_in views counted) (logged_in (set views i w) counted) k.holders
           (happens_good (UncutEvent i t) (shown words views) after k.holders.good event.0 event.1) back (λ u held. refl)
           (λ u. let c = sum_set (λ (z : View). idle_of z u) views i v w at_i in omega arith)
@@ -100,7 +108,8 @@ uncut_keeps t words views i v k at_i can =
       values = values_same (byte_words words) views i v w at_i k.values refl knows;
       reservations = record {
         floors = λ u b known covers. elim (title_one t u) [
-          | inl y ↦ subst (λ (z : Title). low_in (set views i w) b z.born ≡ 0) y.1 (here b (subst (λ (z : Title). Covers z b) (sym y.1) covers))
+          | inl y ↦ subst (λ (z : Title). low_in (set views i w) b z.born ≡ 0) y.1
+              (here b (subst (λ (z : Title). Covers z b) (sym y.1) covers))
           | inr n ↦
               let z = n.0 in
               let m = more (names u) in
@@ -116,7 +125,8 @@ uncut_keeps t words views i v k at_i can =
               ]
         ];
         later = λ u x b known other ne covers inside. elim (title_one t u) [
-          | inl y ↦ absurd (ne (sym y.1 ∙ k.holders.good.divided.apart t x b held (back x other) (subst (λ (z : Title). Covers z b) (sym y.1) covers) inside))
+          | inl y ↦ absurd (ne (sym y.1 ∙
+              k.holders.good.divided.apart t x b held (back x other) (subst (λ (z : Title). Covers z b) (sym y.1) covers) inside))
           | inr n ↦ let z = n.0 in let m = more (names u) in k.reservations.later u x b (omega arith) (back x other) ne covers inside
         ];
         gone = λ u known other. elim (title_one t u) [
@@ -124,9 +134,14 @@ uncut_keeps t words views i v k at_i can =
           | inr n ↦ let z = n.0 in let m = more (uncuts u) in k.reservations.gone u (omega arith) (back u other)
         ];
       };
-      named = named_more t (length (byte_words words)) (length (byte_words words)) (total_of (shown words views)) (total_of after) (low_in views) _ _ (uncut_in views) (uncut_in (set views i w))
+      named = named_more t (length (byte_words words)) (length (byte_words words)) (total_of (shown words views)) (total_of after)
+          (low_in views) _ _ (uncut_in views) (uncut_in (set views i w))
           k.named k.reservations k.holders.good.divided held refl
-          (λ u none y. elim (title_one t u) [ inl s ↦ let z = s.0 in let m = more (uncuts u) in absurd (omega arith) | inr n ↦ stays u n.1 y ])
+          (λ u none y. elim (title_one t u) [
+            | inl s ↦ let z = s.0 in let m = more (uncuts u) in
+                absurd (omega arith)
+            | inr n ↦ stays u n.1 y
+          ])
           (λ u. more (names u)) (λ u. let m = more (uncuts u) in omega arith);
       logs = record {
         chain = λ u. chain_other (logged_in views) (logged_in (set views i w)) e u (k.history u) (k.logs.chain u) more refl (λ n. refl)
@@ -134,9 +149,11 @@ uncut_keeps t words views i v k at_i can =
         last = λ u y. k.logs.last u (back u y);
         each_stake = λ n. stakes_set views i v w at_i (uncut_stakes t v can) n ∙ k.logs.each_stake n;
       };
-      content = keeps_content (UncutEvent i t) (shown words views) after (λ u. content_of (k.history u)) k.holders.good event.0 event.1 k.content;
+      content = keeps_content (UncutEvent i t) (shown words views) after
+          (λ u. content_of (k.history u)) k.holders.good event.0 event.1 k.content;
       reads = entry_reads k.history words views i v w e at_i k.reads refl refl can.1 refl (λ u found look. absurd (cc)) (λ u n. refl);
-      seen = seen_same (logged_in views) (logged_in (set views i w)) (ahead_in views) (ahead_in (set views i w)) (unseen_in views) (unseen_in (set views i w)) k.seen
+      seen = seen_same (logged_in views) (logged_in (set views i w)) (ahead_in views) (ahead_in (set views i w)) (unseen_in views)
+          (unseen_in (set views i w)) k.seen
           (λ u. let m = more (counted_on u) in omega arith)
           (λ u n. let c = sum_set (λ z. ahead_of z u n) views i v w at_i in omega arith)
           (let c = sum_set unseen_of views i v w at_i in let d = logged (unseen_by v.seen) in omega arith);
@@ -155,14 +172,18 @@ uncut_keeps t words views i v k at_i can =
           let m = more (uncuts u) in
           let b = k.undone u in
           omega arith;
-      totals = totals_other words words views i v w e at_i refl can.1 k.totals (words_stay words) more (λ n. refl) (λ q. refl) (λ q. omega arith);
-      ordered = order_plain k.all k.list views i v w e at_i refl can.1 k.logs.each_stake (λ n. refl) (λ u word touch. absurd touch) k.ordered;
+      totals = totals_other words words views i v w e at_i refl can.1 k.totals (words_stay words) more (λ n. refl) (λ q. refl)
+          (λ q. omega arith);
+      ordered = order_plain k.all k.list views i v w e at_i refl can.1 k.logs.each_stake (λ n. refl)
+          (λ u word touch. absurd touch) k.ordered;
       filled = filled_entry k.steps k.all k.history (total_of (shown words views)) (total_of after) views i v w e at_i refl refl
           (record { frees = λ u. refl; keeps = λ u x. refl; fills = λ u. tt }) tt (others_apart words views i v k at_i can.1)
-          (eased_titles _ _ (λ u state. let c = changes (OwnAs u state) in omega arith) (λ u. let c = changes (OwnOf u) in omega arith) (λ u. let c = changes (RefOf u) in omega arith)) k.filled;
+          (eased_titles _ _ (λ u state. let c = changes (OwnAs u state) in omega arith) (λ u. let c = changes (OwnOf u) in omega arith)
+          (λ u. let c = changes (RefOf u) in omega arith)) k.filled;
     }
   where
-    changes : Changes (total_of (shown words views)) (FreePiece t ∷ []) (RawPiece t.start t.len ∷ []) (total_of (shown words (set views i (after_uncut t v))))
+    changes : Changes (total_of (shown words views)) (FreePiece t ∷ []) (RawPiece t.start t.len ∷ [])
+        (total_of (shown words (set views i (after_uncut t v))))
     changes =
         let event = uncut_event t words views i v k at_i can in
         after_changes (shown words views) (shown words (set views i (after_uncut t v))) i _ _ _ event.0.0 event.1
@@ -173,14 +194,16 @@ uncut_keeps t words views i v k at_i can =
     held : IsTitleHeld (total_of (shown words views)) t
     held = let f = free in omega arith
 
-    back : (u : Title) → IsTitleHeld (total_of (shown words (set views i (after_uncut t v)))) u → IsTitleHeld (total_of (shown words views)) u
+    back : (u : Title) → IsTitleHeld (total_of (shown words (set views i (after_uncut t v)))) u →
+        IsTitleHeld (total_of (shown words views)) u
     back u other =
         let l = raw_none t.start t.len u in
         let l0 = l.free in let l1 = l.own in let l2 = l.ref in
         let a = changes (FreeTitle u) in let b = changes (OwnOf u) in let c = changes (RefOf u) in
         omega arith
 
-    stays : (u : Title) → (t ≡ u → ⊥) → IsTitleHeld (total_of (shown words views)) u → IsTitleHeld (total_of (shown words (set views i (after_uncut t v)))) u
+    stays : (u : Title) → (t ≡ u → ⊥) → IsTitleHeld (total_of (shown words views)) u →
+        IsTitleHeld (total_of (shown words (set views i (after_uncut t v)))) u
     stays u ne other =
         let g = free_none t u ne in
         let g0 = g.free in let g1 = g.own in let g2 = g.ref in

@@ -36,7 +36,8 @@ any_of v t = sole v t + held_of_view v (RefOf t)
 knows_where : (v : View) (q : ℕ) → Knows v q → (0 < held_of_view v (RawByte (8 * q))) ⊎ ((t : Title) × (0 < sole v t) × Covers t (8 * q))
 knows_where v q (inl raw) = inl raw
 knows_where v q (inr (inl free)) = let e = frees_have v free.0 in let h = free.1 in inr (free.0, omega arith, free.2)
-knows_where v q (inr (inr own)) = let e = owns_have v own.0 in let h = own.1 in let c = own.2.1 in inr (own.0, omega arith, (own.2.0, omega arith))
+knows_where v q (inr (inr own)) = let e = owns_have v own.0 in let h = own.1 in let c = own.2.1 in
+    inr (own.0, omega arith, (own.2.0, omega arith))
 
 -- no title is free or an Own in two views
 sole_once : (words : List ℕ) (views : List View) (i j : ℕ) (v u : View) (t : Title) → ShownGood words views → get_elem? views i ≡ some v →
@@ -89,7 +90,8 @@ raw_once words total b g = elim (cases_lt b (8 * length words)) [
   | inr past ↦ let z = g.divided.outside b past in omega arith
 ]
 
-pub raw_outside : (words : List ℕ) (total : Thing → ℕ) (b : ℕ) (t : Title) → IsGood words total → IsTitleHeld total t → Covers t b → total (RawByte b) ≡ 0
+pub raw_outside : (words : List ℕ) (total : Thing → ℕ) (b : ℕ) (t : Title) → IsGood words total → IsTitleHeld total t → Covers t b →
+    total (RawByte b) ≡ 0
 raw_outside words total b t g held covers = elim (cases_lt b (8 * length words)) [
   | inl below ↦ elim (g.divided.bytes b below) [ inl r ↦ absurd (r.1 t held covers) | inr r ↦ r.0 ]
   | inr past ↦ g.divided.outside b past
@@ -126,7 +128,8 @@ knows_apart words views i j v u q g at_i at_j ne mine other = go (knows_where v 
         sole_once words views i j v u r.0 g at_i at_j ne (subst (λ (z : Title). 0 < sole v z) same t.1) r.1
 
 -- only a view that has the title knows its count word
-pub place_unknown : (words : List ℕ) (views : List View) (i j : ℕ) (v u : View) (t : Title) → ShownGood words views → get_elem? views i ≡ some v →
+pub place_unknown : (words : List ℕ) (views : List View) (i j : ℕ) (v u : View) (t : Title) → ShownGood words views →
+    get_elem? views i ≡ some v →
     get_elem? views j ≡ some u → (j ≡ i → ⊥) → IsTitleHeld (held_of_view v) t → Knows u (count_place t) → ⊥
 place_unknown words views i j v u t g at_i at_j ne mine other = go other
   where

@@ -48,7 +48,8 @@ pub last_noted : (e : Entry) (ss : List Stake) → least_stake ss < 16 → last_
 last_noted e ss has = ap last_entry (least_log_noted e ss has) ∙ last_more (least_log ss) e
 
 -- the log of a number is among all of a view
-log_within : (k : ℕ) (weight : Entry → ℕ) (ss : List Stake) → sum_by weight (log_among k ss) ≤ sum_by (λ (s : Stake). sum_by weight s.log) ss
+log_within : (k : ℕ) (weight : Entry → ℕ) (ss : List Stake) →
+    sum_by weight (log_among k ss) ≤ sum_by (λ (s : Stake). sum_by weight s.log) ss
 log_within k weight [] = omega arith
 log_within k weight (s ∷ ss) =
     let c = sum_by-cons (λ (x : Stake). sum_by weight x.log) s ss in
@@ -97,12 +98,14 @@ bit_other Free word can no_issue low = (stepped_is Free word can).1
 bit_other Write word can no_issue low = let s = stepped_is Write word can in s.1 ∙ low
 
 -- a look goes on waiting over a counted step of another view: on its title that is no Issue and no Write
-pub waits_counted : (t : Title) (step : Step) (value : ℕ) (history : Title → List Done) (words after : List ℕ) (v : View) (u : Title) (found : ℕ) →
+pub waits_counted : (t : Title) (step : Step) (value : ℕ) (history : Title → List Done) (words after : List ℕ) (v : View) (u : Title)
+    (found : ℕ) →
     Waits history words v u found → number_of found ≤ length (history u) → CanStep step (count_word words t) →
     (t ≡ u → (step ≡ Issue → ⊥) × (step ≡ Write → ⊥)) → (count_word after t ≡ stepped step (count_word words t)) →
     ((t ≡ u → ⊥) → count_word after u ≡ count_word words u) → Waits (history_by step t value history) after v u found
 waits_counted t step value history words after v u found waits within can shared here others = elim (title_tells t u) [
-  | inl y ↦ subst (λ (x : Title). Waits history words v x found → number_of found ≤ length (history x) → Waits (history_by step t value history) after v x found) y.1
+  | inl y ↦ subst (λ (x : Title). Waits history words v x found → number_of found ≤ length (history x) →
+      Waits (history_by step t value history) after v x found) y.1
       (λ old inside. record {
         has = old.has;
         content = rw (title_self t) (content_other step value (content_of (history t)) (shared y.1).0 (shared y.1).1
@@ -119,7 +122,8 @@ waits_counted t step value history words after v u found waits within can shared
 ]
 
 -- a look that was made now waits
-pub waits_now : (history : Title → List Done) (words : List ℕ) (v w : View) (t : Title) (word : ℕ) → HasTitle w t → least_stake v.stakes < 16 →
+pub waits_now : (history : Title → List Done) (words : List ℕ) (v w : View) (t : Title) (word : ℕ) → HasTitle w t →
+    least_stake v.stakes < 16 →
     w.stakes ≡ noted (Looked t word) v.stakes → number_of word ≡ length (history t) → word ≡ count_word words t →
     ((n : ℕ) → length (history t) ≤ n → sum_by (counted_at t n) (least_log v.stakes) ≡ 0) → Waits history words w t word
 waits_now history words v w t word has stake stakes at_end is none = record {

@@ -30,7 +30,8 @@ use Rattle.pa_region.proofs.Entering.{least_there}
 use Rattle.pa_region.proofs.PairSums.{pair_at, by_none}
 
 -- no stake of any number has an amount
-pub any_none : (amount : List Entry → ℕ) (ss : List Stake) → ((k : ℕ) → sum_by (λ (s : Stake). one (eqb s.number k)) ss ≡ 0) → sum_by (λ (s : Stake). amount s.log) ss ≡ 0
+pub any_none : (amount : List Entry → ℕ) (ss : List Stake) → ((k : ℕ) → sum_by (λ (s : Stake). one (eqb s.number k)) ss ≡ 0) →
+    sum_by (λ (s : Stake). amount s.log) ss ≡ 0
 any_none amount [] none = refl
 any_none amount (s ∷ ss) none =
     let c = sum_by-cons (λ (x : Stake). one (eqb x.number s.number)) s ss in
@@ -38,7 +39,8 @@ any_none amount (s ∷ ss) none =
     elim (one_eq s.number s.number) [ inl y ↦ let a = y.0 in absurd (omega arith) | inr n ↦ absurd (n.1 refl) ]
 
 -- a view that has every stake leaves none to another
-pub others_none : (views : List View) (i : ℕ) (v : View) → get_elem? views i ≡ some v → HasEveryStake v → ((k : ℕ) → stakes_in views k ≡ one (nat_lt k 16)) →
+pub others_none : (views : List View) (i : ℕ) (v : View) → get_elem? views i ≡ some v → HasEveryStake v →
+    ((k : ℕ) → stakes_in views k ≡ one (nat_lt k 16)) →
     (j : ℕ) (u : View) → get_elem? views j ≡ some u → (j ≡ i → ⊥) → (k : ℕ) → stake_of u k ≡ 0
 others_none views i v at_i every each j u at_j ne k =
     let all = each k in
@@ -49,16 +51,19 @@ others_none views i v at_i every each j u at_j ne k =
     ]
 
 -- what all views' stakes have, those of a view with every stake have
-pub all_of : (amount : Stake → ℕ) (views : List View) (i : ℕ) (v : View) → get_elem? views i ≡ some v → HasEveryStake v → ((k : ℕ) → stakes_in views k ≡ one (nat_lt k 16)) →
+pub all_of : (amount : Stake → ℕ) (views : List View) (i : ℕ) (v : View) → get_elem? views i ≡ some v → HasEveryStake v →
+    ((k : ℕ) → stakes_in views k ≡ one (nat_lt k 16)) →
     ((u : View) → ((k : ℕ) → stake_of u k ≡ 0) → sum_by amount u.stakes ≡ 0) →
     sum_by (λ (u : View). sum_by amount u.stakes) views ≡ sum_by amount v.stakes
 all_of amount views i v at_i every each none =
-    sum_alone (λ (u : View). sum_by amount u.stakes) views i v at_i (λ j u at_j ne. none u (others_none views i v at_i every each j u at_j ne))
+    sum_alone (λ (u : View). sum_by amount u.stakes) views i v at_i
+    (λ j u at_j ne. none u (others_none views i v at_i every each j u at_j ne))
 
 -- a poisoned Own isn't clean
 pub poisoned_unclean : (v : View) (t : Title) → poisoned_of v t ≤ unclean_of v
 poisoned_unclean v t =
-    sum_by-le-sum_by (λ (o : OwnTitle). one (same_title o.title t && is_poisoned o.state)) (λ (o : OwnTitle). one (is_unclean o.state)) v.owns
+    sum_by-le-sum_by (λ (o : OwnTitle). one (same_title o.title t && is_poisoned o.state))
+    (λ (o : OwnTitle). one (is_unclean o.state)) v.owns
     (λ o. go (same_title o.title t) o.state)
   where
     go : (b : Bool) (a : OwnState) → one (b && is_poisoned a) ≤ one (is_unclean a)
@@ -72,13 +77,17 @@ pub no_least : (u : View) → ((k : ℕ) → stake_of u k ≡ 0) → least_stake
 no_least u none has = let there = least_there u.stakes has in let z = none (least_stake u.stakes) in absurd (omega arith)
 
 -- no view has an Own poisoned apart from a stake that the view with every stake has
-none_apart : (history : Title → List Done) (words : List ℕ) (views : List View) (i : ℕ) (v : View) → Reads history words views → get_elem? views i ≡ some v →
-    HasEveryStake v → ((k : ℕ) → stakes_in views k ≡ one (nat_lt k 16)) → (t : Title) (r : ℕ) → 0 < stake_of v r → poisoned_apart views t r ≡ 0
+none_apart : (history : Title → List Done) (words : List ℕ) (views : List View) (i : ℕ) (v : View) → Reads history words views →
+    get_elem? views i ≡ some v →
+    HasEveryStake v → ((k : ℕ) → stakes_in views k ≡ one (nat_lt k 16)) → (t : Title) (r : ℕ) → 0 < stake_of v r →
+    poisoned_apart views t r ≡ 0
 none_apart history words views i v reads at_i every each t r mine =
-    sum_alone (λ u. if ltb 0 (stake_of u r) then 0 else poisoned_of u t) views i v at_i (λ j u at_j ne. other j u at_j (others_none views i v at_i every each j u at_j ne))
+    sum_alone (λ u. if ltb 0 (stake_of u r) then 0 else poisoned_of u t) views i v at_i
+    (λ j u at_j ne. other j u at_j (others_none views i v at_i every each j u at_j ne))
     ∙ rw (lt-ltb 0 (stake_of v r) mine) refl
   where
-    other : (j : ℕ) (u : View) → get_elem? views j ≡ some u → ((k : ℕ) → stake_of u k ≡ 0) → (if ltb 0 (stake_of u r) then 0 else poisoned_of u t) ≡ 0
+    other : (j : ℕ) (u : View) → get_elem? views j ≡ some u → ((k : ℕ) → stake_of u k ≡ 0) →
+        (if ltb 0 (stake_of u r) then 0 else poisoned_of u t) ≡ 0
     other j u at_j none =
         let p = poisoned_unclean u t in
         let z : poisoned_of u t ≡ 0 = elim (cases_lt 0 (unclean_of u)) [
@@ -88,7 +97,8 @@ none_apart history words views i v reads at_i every each t r mine =
         elim (cases_Bool (ltb 0 (stake_of u r))) [ inl y ↦ rw y refl | inr n ↦ rw n z ]
 
 -- what the rule says of reads, to a view with every stake
-pub whole_reads : (history : Title → List Done) (words : List ℕ) (views : List View) (i : ℕ) (v : View) → Reads history words views → get_elem? views i ≡ some v →
+pub whole_reads : (history : Title → List Done) (words : List ℕ) (views : List View) (i : ℕ) (v : View) → Reads history words views →
+    get_elem? views i ≡ some v →
     HasEveryStake v → ((k : ℕ) → stakes_in views k ≡ one (nat_lt k 16)) → HasReads history v
 whole_reads history words views i v reads at_i every each = record {
   freed = sym (paired gave_no_poison) ∙ reads.right.freed;
@@ -96,7 +106,8 @@ whole_reads history words views i v reads at_i every each = record {
       let e = paired (quiet_read true t found value) in
       reads.right.own t found value set (omega arith);
   ref = λ r t found value set some_pair.
-      let e = all_of (amount_by r (pairs (quiet_read false t found value))) views i v at_i every each (λ u none. by_none (pairs (quiet_read false t found value)) r u.stakes (none r)) in
+      let e = all_of (amount_by r (pairs (quiet_read false t found value))) views i v at_i every each
+      (λ u none. by_none (pairs (quiet_read false t found value)) r u.stakes (none r)) in
       elim (reads.right.ref r t found value set (omega arith)) [
         | inl y ↦ inl y
         | inr f ↦ inr (
@@ -104,7 +115,8 @@ whole_reads history words views i v reads at_i every each = record {
           elim f.1 [
             | inl free ↦
                 let n = free.0 in
-                let l = all_of (amount_by r (sum_by (counted_at t n))) views i v at_i every each (λ u none. by_none (sum_by (counted_at t n)) r u.stakes (none r)) in
+                let l = all_of (amount_by r (sum_by (counted_at t n))) views i v at_i every each
+                (λ u none. by_none (sum_by (counted_at t n)) r u.stakes (none r)) in
                 let z = free.2 in
                 (n, free.1, omega arith)
             | inr own ↦
@@ -126,7 +138,8 @@ whole_reads history words views i v reads at_i every each = record {
     ]
 
 -- the pair of a look and a read of its title, if the read is quiet
-quiet_pair : (own : Bool) (t : Title) (found place value : ℕ) (since : Deeds) (owned unclean : Bool) → is_quiet since ≡ true → unclean ≡ false → owned ≡ own →
+quiet_pair : (own : Bool) (t : Title) (found place value : ℕ) (since : Deeds) (owned unclean : Bool) → is_quiet since ≡ true →
+    unclean ≡ false → owned ≡ own →
     quiet_read own t found value (Looked t found) (Read t place value since owned unclean) ≡ 1
 quiet_pair true t found place value since owned unclean quiet clean owner =
     rw (title_self t, eq-eqb found found refl, eq-eqb value value refl, quiet, clean, owner) refl
@@ -134,7 +147,8 @@ quiet_pair false t found place value since owned unclean quiet clean owner =
     rw (title_self t, eq-eqb found found refl, eq-eqb value value refl, quiet, clean, owner) refl
 
 -- a look that found the bit 0 and a read after it that gave another value than poison weigh 1
-freed_pair : (t : Title) (found place value : ℕ) (since : Deeds) (owned unclean : Bool) → held_of found ≡ 0 → since.handed ≡ false → eqb value poison ≡ false →
+freed_pair : (t : Title) (found place value : ℕ) (since : Deeds) (owned unclean : Bool) → held_of found ≡ 0 → since.handed ≡ false →
+    eqb value poison ≡ false →
     gave_no_poison (Looked t found) (Read t place value since owned unclean) ≡ 1
 freed_pair t found place value since owned unclean low kept other = rw (title_self t, eq-eqb (held_of found) 0 low, kept, other) refl
 
@@ -166,7 +180,8 @@ reads_by_place history v reads i s before later t found place value since owned 
             let p = quiet_pair false t found place value since owned unclean quiet clean other in
             let a = here (quiet_read false t found value) in
             let c = sum_part (amount_by s.number (pairs (quiet_read false t found value))) v.stakes i s at_i in
-            let d : amount_by s.number (pairs (quiet_read false t found value)) s ≡ pairs (quiet_read false t found value) s.log = rw (eq-eqb s.number s.number refl) refl in
+            let d : amount_by s.number (pairs (quiet_read false t found value)) s ≡ pairs (quiet_read false t found value) s.log =
+            rw (eq-eqb s.number s.number refl) refl in
             reads.ref s.number t found value set (omega arith)
       ];
     }

@@ -87,7 +87,8 @@ write_values words views i v w p x k at_i h =
     ])
 
 -- the rule after it
-pub write_keeps : (words : List ℕ) (views : List View) (i : ℕ) (v w : View) (p x : ℕ) (k : IsKept words views) → get_elem? views i ≡ some v →
+pub write_keeps : (words : List ℕ) (views : List View) (i : ℕ) (v w : View) (p x : ℕ) (k : IsKept words views) →
+    get_elem? views i ≡ some v →
     IsWrite words views v w p x → ShownGood (set words p x) (set views i w) →
     KeepsContent (shown (set words p x) (set views i w)) (λ t. content_of (k.history t)) → (steps : List OneStep) →
     Filled steps k.all k.history (total_of (shown (set words p x) (set views i w))) (set views i w) → IsKept (set words p x) (set views i w)
@@ -98,8 +99,10 @@ write_keeps words views i v w p x k at_i h good content steps filled =
       list = k.list;
       all = k.all;
       steps = steps;
-      holders = rw at_place (holders_written (byte_words words) (set (byte_words words) p x) (total_of (shown words views)) (total_of (shown (set words p x) (set views i w)))
-          (idle_in views) (idle_in (set views i w)) (budget_in views) (budget_in (set views i w)) (logged_in views counted) (logged_in (set views i w) counted)
+      holders = rw at_place (holders_written (byte_words words) (set (byte_words words) p x) (total_of (shown words views))
+          (total_of (shown (set words p x) (set views i w)))
+          (idle_in views) (idle_in (set views i w)) (budget_in views) (budget_in (set views i w)) (logged_in views counted)
+          (logged_in (set views i w) counted)
           k.holders (rw at_place at good) back word
           (λ t. let c = sum_set (λ u. idle_of u t) views i v w at_i in let e = h.idle t in omega arith)
           (λ t some_idle. let z = idle_within words views t in omega arith)
@@ -112,7 +115,8 @@ write_keeps words views i v w p x k at_i h good content steps filled =
       named = named_same (length (byte_words words)) (length (byte_words (set words p x))) (total_of (shown words views))
           (total_of (shown (set words p x) (set views i w))) _ _ (uncut_in views) (uncut_in (set views i w))
           k.named (rw at_place (length-set (byte_words words) p x)) forth (λ t. logs (names t)) (λ t. logs (uncuts t));
-      logs = rw at_place (logs_same k.history (byte_words words) (set (byte_words words) p x) (total_of (shown words views)) (total_of (shown (set words p x) (set views i w)))
+      logs = rw at_place (logs_same k.history (byte_words words) (set (byte_words words) p x) (total_of (shown words views))
+          (total_of (shown (set words p x) (set views i w)))
           (logged_in views) (logged_in (set views i w)) (stakes_in views) (stakes_in (set views i w)) k.logs back word logs
           (stakes_set views i v w at_i (λ n. ap (λ (ss : List Stake). sum_by (λ (s : Stake). one (s.number == n)) ss) h.stakes)));
       content = content;
@@ -123,16 +127,19 @@ write_keeps words views i v w p x k at_i h good content steps filled =
           held_title w t (omega arith))
           (λ quiet. sym h.handed ∙ quiet) h.unclean h.poisoned
           (λ t held. rw at_place (word t held));
-      seen = seen_same (logged_in views) (logged_in (set views i w)) (ahead_in views) (ahead_in (set views i w)) (unseen_in views) (unseen_in (set views i w)) k.seen
+      seen = seen_same (logged_in views) (logged_in (set views i w)) (ahead_in views) (ahead_in (set views i w)) (unseen_in views)
+          (unseen_in (set views i w)) k.seen
           (λ t. logs (counted_on t))
-          (λ t n. let c = sum_set (λ u. ahead_of u t n) views i v w at_i in let e : ahead_of w t n ≡ ahead_of v t n = rw h.seen refl in omega arith)
+          (λ t n. let c = sum_set (λ u. ahead_of u t n) views i v w at_i in let e : ahead_of w t n ≡ ahead_of v t n = rw h.seen refl in
+          omega arith)
           (let c = sum_set unseen_of views i v w at_i in let e : unseen_of w ≡ unseen_of v = rw (h.stakes, h.seen) refl in omega arith);
       lists = lists_grown k.list views i v w at_i k.lists h.grown (λ t free.
           let a = frees_have v t in let b = frees_have w t in let e = h.free t in
           let held = held_in_all words views i v t at_i (omega arith) in
           let s = k.lists.free_seen i v at_i t (omega arith) in
           let more = h.grown.seen t in
-          let same : count_word w.words t ≡ count_word v.words t = ap (λ ws. count_word ws t) h.known ∙ get_or-set_other v.words p (count_place t) x 0 (λ e. h.content t held (sym e)) in
+          let same : count_word w.words t ≡ count_word v.words t = ap (λ ws. count_word ws t) h.known ∙
+          get_or-set_other v.words p (count_place t) x 0 (λ e. h.content t held (sym e)) in
           let n : number_of (count_word w.words t) ≡ number_of (count_word v.words t) = ap number_of same in
           omega arith);
       undone = undone_set views i v w at_i h.uncut (λ u. let l = logs (uncuts u) in omega arith) k.undone;
@@ -157,7 +164,8 @@ write_keeps words views i v w p x k at_i h good content steps filled =
         let d = h.free t in let e = h.own t in let f = h.ref t in
         omega arith
 
-    word : (t : Title) → IsTitleHeld (total_of (shown words views)) t → count_word (set (byte_words words) p x) t ≡ count_word (byte_words words) t
+    word : (t : Title) → IsTitleHeld (total_of (shown words views)) t →
+        count_word (set (byte_words words) p x) t ≡ count_word (byte_words words) t
     word t held = get_or-set_other (byte_words words) p (count_place t) x 0 (λ e. h.content t held (sym e))
 
     logs : (weight : Entry → ℕ) → logged_in (set views i w) weight ≡ logged_in views weight

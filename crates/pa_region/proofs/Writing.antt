@@ -22,12 +22,14 @@ Leaves w me after = (after.0 ≡ w) × (after.1 ≡ me.1)
 
 -- whatever the table is, a seat that may store may store
 pub store_allowed : (at_byte value slots id place : ℕ) (me : Me (Unit {0}) View) → place ≡ at_byte / 8 → CanStore at_byte me.0 →
-    Allows (λ (s : TableState (Unit {0}) View). IsKept s.words s.views) slots id me place (λ _. value) (λ _ after. Leaves (after_store at_byte value me.0) me after × StoreTells at_byte me.0 after.0)
+    Allows (λ (s : TableState (Unit {0}) View). IsKept s.words s.views) slots id me place (λ _. value)
+    (λ _ after. Leaves (after_store at_byte value me.0) me after × StoreTells at_byte me.0 after.0)
 store_allowed at_byte value slots id place me at_place can s k homes at_id small = (
   after_store at_byte value me.0,
   keeps,
   tt,
-  subst (λ (p : ℕ). IsKept (set s.words p value) (set s.views id (after_store at_byte value me.0))) (sym at_place) (store_keeps at_byte value s.words s.views id me.0 k at_id can),
+  subst (λ (p : ℕ). IsKept (set s.words p value) (set s.views id (after_store at_byte value me.0))) (sym at_place)
+      (store_keeps at_byte value s.words s.views id me.0 k at_id can),
   (
     (refl, refl),
     record {
@@ -39,19 +41,23 @@ store_allowed at_byte value slots id place me at_place can s k homes at_id small
 
 -- a seat that can poison the next content word may do so
 pub poison_allowed : (t : Title) (j slots id place : ℕ) (me : Me (Unit {0}) View) → place ≡ content_place t j → CanPoison t j me.0 →
-    Allows (λ (s : TableState (Unit {0}) View). IsKept s.words s.views) slots id me place (λ _. poison) (λ _ after. Leaves (after_poison t j me.0) me after)
+    Allows (λ (s : TableState (Unit {0}) View). IsKept s.words s.views) slots id me place (λ _. poison)
+    (λ _ after. Leaves (after_poison t j me.0) me after)
 poison_allowed t j slots id place me at_place can s k homes at_id small = (
   after_poison t j me.0,
   keeps,
   tt,
-  subst (λ (p : ℕ). IsKept (set s.words p poison) (set s.views id (after_poison t j me.0))) (sym at_place) (poison_keeps t j s.words s.views id me.0 k at_id can),
+  subst (λ (p : ℕ). IsKept (set s.words p poison) (set s.views id (after_poison t j me.0))) (sym at_place)
+      (poison_keeps t j s.words s.views id me.0 k at_id can),
   (refl, refl),
 )
 
 -- a view that holds the same, with as many words, is sound
 pub same_sound : (region : TableId) (v w : View) → IsSeatSound region v → length w.words ≡ length v.words →
-    ((b : ℕ) → held_of_view w (RawByte b) ≡ held_of_view v (RawByte b)) → ((t : Title) → held_of_view w (FreeTitle t) ≡ held_of_view v (FreeTitle t)) →
-    ((t : Title) → held_of_view w (OwnOf t) ≡ held_of_view v (OwnOf t)) → ((t : Title) → held_of_view w (RefOf t) ≡ held_of_view v (RefOf t)) → IsSeatSound region w
+    ((b : ℕ) → held_of_view w (RawByte b) ≡ held_of_view v (RawByte b)) →
+    ((t : Title) → held_of_view w (FreeTitle t) ≡ held_of_view v (FreeTitle t)) →
+    ((t : Title) → held_of_view w (OwnOf t) ≡ held_of_view v (OwnOf t)) →
+    ((t : Title) → held_of_view w (RefOf t) ≡ held_of_view v (RefOf t)) → IsSeatSound region w
 same_sound region v w sound long raw free own ref = record {
   small = sound.small;
   well = λ t has.
@@ -63,7 +69,8 @@ same_sound region v w sound long raw free own ref = record {
 }
 
 -- what the type of a seat keeps holds after a store
-pub store_sound : (region : TableId) (at_byte value : ℕ) (v : View) → IsSeatSound region v → IsSeatSound region (after_store at_byte value v)
+pub store_sound : (region : TableId) (at_byte value : ℕ) (v : View) → IsSeatSound region v →
+    IsSeatSound region (after_store at_byte value v)
 store_sound region at_byte value v sound =
     same_sound region v (after_store at_byte value v) sound (length-set v.words (at_byte / 8) value)
     (λ b. store_holds at_byte value v (RawByte b) (λ o. refl)) (λ t. store_holds at_byte value v (FreeTitle t) (λ o. refl))
@@ -77,7 +84,8 @@ poison_sound region t j v sound =
     (λ u. poison_holds t j v (OwnOf u) (λ o. refl)) (λ u. poison_holds t j v (RefOf u) (λ o. refl))
 
 -- the word that is stored is one of the region's
-pub store_inside : (region table : TableId) (at_byte place : ℕ) (v : View) → region ≡ table → IsSeatSound region v → CanStore at_byte v → place ≡ at_byte / 8 → place < table.words
+pub store_inside : (region table : TableId) (at_byte place : ℕ) (v : View) → region ≡ table → IsSeatSound region v → CanStore at_byte v →
+    place ≡ at_byte / 8 → place < table.words
 store_inside region table at_byte place v same sound can e = go can.1
   where
     words_are : region.words ≡ table.words
@@ -95,7 +103,8 @@ store_inside region table at_byte place v same sound can e = go can.1
         of_title own.0 own.3 (sound.well own.0 (omega arith))
 
 -- the word that is poisoned is in the region
-pub poison_inside : (region table : TableId) (t : Title) (j place : ℕ) (v : View) → region ≡ table → IsSeatSound region v → CanPoison t j v → place ≡ content_place t j → place < table.words
+pub poison_inside : (region table : TableId) (t : Title) (j place : ℕ) (v : View) → region ≡ table → IsSeatSound region v →
+    CanPoison t j v → place ≡ content_place t j → place < table.words
 poison_inside region table t j place v same sound can e =
     let w = ap (λ (z : TableId). z.words) same in
     let words_are : region.words ≡ table.words = w in

@@ -20,8 +20,8 @@ with_made m q = record q { entries = q.entries ++ m ∷ [] }
 abbrev pub is_keeper : ℕ → Keeper → Bool
 is_keeper k q = q.number == k
 
--- The view after the entry, which is now at the end of the list of keeper k, in the log of the least stake, and in what the
--- view has seen of the list
+-- The view after the entry, which is now at the end of the list of keeper k, in the log of the least stake,
+-- and in what the view has seen of the list
 abbrev pub after_enter : ℕ → List ℕ → View → View
 after_enter k numbers v = record v {
   stakes = noted (Entered k (new_entry numbers v)) v.stakes;

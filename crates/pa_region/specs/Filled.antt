@@ -35,7 +35,8 @@ pub record IsSteady (steps : List OneStep) (v : View) : Type 0 where
 -- The eighth part: one order of all that logs say and of all poisonings. Each step is in place after those before it. By the steps an
 -- Own has as many poisoned words as its state says, and in the others what its title's history says. A title without an Own has no
 -- poisoning without a free after it, and its content is poison while there are Refs. Each view finds the steps steady.
-pub record Filled (steps : List OneStep) (all : List Stamped) (history : Title → List Done) (total : Thing → ℕ) (views : List View) : Type 0 where
+pub record Filled (steps : List OneStep) (all : List Stamped) (history : Title → List Done) (total : Thing → ℕ)
+    (views : List View) : Type 0 where
   pub logged : logged_among steps ≡ all
   pub placed : AreInPlace steps
   pub owned : (t : Title) (state : OwnState) → 0 < total (OwnAs t state) → IsFilled steps t (content_of (history t)) (progress state)

@@ -47,6 +47,11 @@ inside a e (r ∷ rs) = inner_part a e r ∷ inside a e rs
 abbrev pub is_clean_of : Title → OwnTitle → Bool
 is_clean_of t o = same_title o.title t && same_state o.state Clean
 
+-- whether the first of these Owns that passes the test is sealed
+abbrev pub first_sealed : (OwnTitle → Bool) → List OwnTitle → Bool
+first_sealed test [] = false
+first_sealed test (o ∷ os) = if test o then o.sealed else first_sealed test os
+
 -- the view without one item
 abbrev pub without_item : Item → View → View
 without_item (Raw start len) v = record v { raws = outside start (start + len) v.raws }
@@ -54,11 +59,13 @@ without_item (Free t) v = record v { frees = without (is_title_of t) v.frees }
 without_item (Own t) v = record v { owns = without (is_clean_of t) v.owns }
 without_item (Ref t) v = record v { refs = without (is_title_of t) v.refs }
 
--- the view w with an item that v gives
+-- the view w with an item that v gives: an Own is sealed if v's is
 abbrev pub with_item : Item → View → View → View
 with_item (Raw start len) v w = record w { raws = inside start (start + len) v.raws ++ w.raws }
 with_item (Free t) v w = record w { frees = t ∷ w.frees }
-with_item (Own t) v w = record w { owns = record { title = t; state = Clean; idle = false } ∷ w.owns }
+with_item (Own t) v w = record w {
+  owns = record { title = t; state = Clean; idle = false; sealed = first_sealed (is_clean_of t) v.owns } ∷ w.owns;
+}
 with_item (Ref t) v w = record w { refs = t ∷ w.refs }
 
 -- The view holds the item: a range of whole words as raw, a title as free, the title's Own, which is clean, or a Ref of the title.
@@ -183,7 +190,7 @@ pub record CanHand (p : Parcel) (v : View) : Type 0 where
   pub clean : (k : ℕ) → p.stakes k ≡ true → unclean_of v ≡ 0
 
 -- What v has is what l and r have together: each thing, floors, the budget, the entries of the logs by any weight,
--- stakes, keepers, leases, Owns that aren't clean, and what was uncut. The knowledge that no Ref of a title is left may be
+-- stakes, keepers, leases, Owns that aren't clean, and what was uncut. What was found of an Own, that no Ref of it is left, may be
 -- forgotten.
 pub record IsParted (v l r : View) : Type 0 where
   pub things : (x : Thing) → held_of_view l x + held_of_view r x ≡ held_of_view v x

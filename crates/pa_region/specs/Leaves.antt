@@ -3,6 +3,7 @@ use Rattle.std.specs.Prelude.{◌≡◌, ℕ, ◌+◌, ◌-◌, ◌/◌, ◌<◌
 use Rattle.std.specs.List.{sum_by}
 use Rattle.pa_slot.specs.declared.title.Title.{Title}
 use Rattle.pa_slot.specs.declared.title.OwnState.{OwnState}
+use Rattle.pa_slot.specs.declared.title.OwnState.TheVariants.{Clean}
 use Rattle.pa_slot.specs.declared.word.Step.{Step}
 use Rattle.pa_slot.specs.declared.word.Step.TheVariants.{Issue, Copy, Reset, Free, Write}
 use Rattle.pa_slot.specs.Count.{stepped, number_of}
@@ -13,8 +14,9 @@ use Rattle.pa_region.specs.declared.view.OwnTitle.{OwnTitle}
 use Rattle.pa_region.specs.declared.view.Entry.{Entry}
 use Rattle.pa_region.specs.declared.view.Entry.TheVariants.{Counted, Looked, Added, Entered}
 use Rattle.pa_region.specs.declared.view.View.{View}
-use Rattle.pa_region.specs.Views.{free_of, own_of, own_as, ref_of, idle_of, stake_of, seen_of, logged_of, least_stake, HasStake}
-use Rattle.pa_region.specs.Moves.{HasHandle, CanCount, is_back, is_own_of, changed, filled_with, noted, value_of, after_count, after_look}
+use Rattle.pa_region.specs.Views.{free_of, own_of, own_as, unsealed_as, sealed_of, ref_of, idle_of, stake_of, seen_of, logged_of, least_stake, HasStake}
+use Rattle.pa_region.specs.Moves.{HasHandle, CanCount, is_back, is_own_of, changed, filled_with, noted, value_of, after_count, after_sealed, after_look}
+use Rattle.pa_region.specs.Hands.{is_clean_of, first_sealed}
 use Rattle.pa_region.specs.Pairs.{last_entry, least_log}
 use Rattle.pa_region.specs.Lists.{keeper_of, list_of}
 use Rattle.pa_region.specs.Stores.{after_store, after_poison}
@@ -101,6 +103,13 @@ pub record LeavesCount (step : Step) (t : Title) (word : ℕ) (v w : View) : Typ
 abbrev pub CountLeaves : Type 0
 CountLeaves = (step : Step) (t : Title) (word : ℕ) (v : View) → CanCount step t v → LeavesCount step t word v (after_count step t word v)
 
+-- an issue of a sealed Own changes the view as an issue does, and there is one sealed Own of the title more, and of no other
+abbrev pub SealedLeaves : Type 0
+SealedLeaves =
+    (t : Title) (word : ℕ) (v : View) → CanCount Issue t v →
+    LeavesCount Issue t word v (after_sealed t word v) ×
+    ((u : Title) → sealed_of (after_sealed t word v) u ≡ sealed_of v u + one (same_title t u))
+
 -- after a reset or a free the seat holds the title free, once, if and only if the step returned it
 abbrev pub ReleaseLeaves : Type 0
 ReleaseLeaves =
@@ -108,11 +117,12 @@ ReleaseLeaves =
     IsStepMade step t word before after →
     (IsReturning step word → free_of after.view t ≡ 1) × ((IsReturning step word → ⊥) → free_of after.view t ≡ 0)
 
--- w holds each title as many times as v does, each Own in its state too
+-- w holds each title as many times as v does, each Own in its state too, and sealed or not as it was
 pub record HoldsSame (v w : View) : Type 0 where
   pub frees : (u : Title) → free_of w u ≡ free_of v u
   pub owns : (u : Title) → own_of w u ≡ own_of v u
   pub states : (u : Title) (a : OwnState) → own_as w u a ≡ own_as v u a
+  pub sealed : (u : Title) → sealed_of w u ≡ sealed_of v u
   pub refs : (u : Title) → ref_of w u ≡ ref_of v u
 
 -- a look changes nothing that is held, and adds one entry to the logs
@@ -128,8 +138,8 @@ StoreLeaves =
     ((at_byte value : ℕ) (v : View) (u : Title) → idle_of (after_store at_byte value v) u ≡ idle_of v u) ×
     ((t : Title) (j : ℕ) (v : View) (u : Title) → own_of (after_poison t j v) u ≡ own_of v u)
 
--- After an entry in a keeper's list, the list and the log of the least stake have it at their end. Other lists and logs, and the
--- keepers, are as before.
+-- After an entry in a keeper's list, the list and the log of the least stake have it at their end. Other lists and logs,
+-- and the keepers, are as before.
 pub record LeavesEnter (k : ℕ) (numbers : List ℕ) (v w : View) : Type 0 where
   pub list : list_of k w ≡ list_of k v ++ new_entry numbers v ∷ []
   pub other_lists : (q : ℕ) → (q ≡ k → ⊥) → list_of q w ≡ list_of q v
@@ -147,6 +157,17 @@ AddLeaves = (k bytes : ℕ) (v : View) → CanAdd k bytes v → LeavesEntry (Add
 -- an Own in some state is an Own
 abbrev pub StatesAreOwns : Type 0
 StatesAreOwns = (v : View) (t : Title) (a : OwnState) → own_as v t a ≤ own_of v t
+
+-- an Own in some state is sealed or not, and if it is sealed, it is known that no Ref of it is left
+abbrev pub OwnsAreSealedOrNot : Type 0
+OwnsAreSealedOrNot =
+    (v : View) (t : Title) (a : OwnState) →
+    (unsealed_as v t a ≤ own_as v t a) × (own_as v t a ≤ unsealed_as v t a + sealed_of v t) × (sealed_of v t ≤ idle_of v t)
+
+-- if a view has one Own of a title, which is clean, a hand of it gives a sealed Own exactly if the view's is sealed
+abbrev pub HandsKeepSeals : Type 0
+HandsKeepSeals =
+    (v : View) (t : Title) → own_of v t ≤ 1 → 0 < own_as v t Clean → sealed_of v t ≡ one (first_sealed (is_clean_of t) v.owns)
 
 -- if there are Owns of a title, changing the first one replaces the amount of one of them in each sum
 pub record OneOwnChanged (t : Title) (change : OwnTitle → OwnTitle) (os : List OwnTitle) (o : OwnTitle) : Type 0 where

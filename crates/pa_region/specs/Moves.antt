@@ -13,7 +13,7 @@ use Rattle.pa_region.specs.declared.view.Entry.{Entry}
 use Rattle.pa_region.specs.declared.view.Entry.TheVariants.{Counted, Looked}
 use Rattle.pa_region.specs.declared.view.Stake.{Stake}
 use Rattle.pa_region.specs.declared.view.View.{View}
-use Rattle.pa_region.specs.Views.{free_of, own_of, own_as, ref_of, idle_of, seen_of, least_stake, HasStake}
+use Rattle.pa_region.specs.Views.{free_of, own_of, own_as, unsealed_as, ref_of, idle_of, seen_of, least_stake, HasStake}
 
 module _ {A : Type 0} where
   -- the list without the first member that passes the test
@@ -60,7 +60,7 @@ is_back left = (held_of left == 0) && (refs_of left == 0)
 abbrev pub moved : Step → Title → ℕ → View → View
 moved Issue t word v = record v {
   frees = without (is_title_of t) v.frees;
-  owns = record { title = t; state = Clean; idle = true } ∷ v.owns;
+  owns = record { title = t; state = Clean; idle = true; sealed = false } ∷ v.owns;
 }
 moved Copy t word v = record v { owns = changed (is_own_of t) busy v.owns; refs = t ∷ v.refs }
 moved Reset t word v = record v {
@@ -110,16 +110,28 @@ after_count step t word v =
     entered (Counted t step word (value_of step t v)) t (number_of word + 1)
     (record (moved step t word v) { budget = v.budget - 1 })
 
+-- a sealed Own
+abbrev pub seal : OwnTitle → OwnTitle
+seal o = record o { sealed = true }
+
+-- the view with the title's Own sealed
+abbrev pub sealed_at : Title → View → View
+sealed_at t v = record v { owns = changed (is_own_of t) seal v.owns }
+
+-- the view after an issue of the title that found this word, if the Own is sealed
+abbrev pub after_sealed : Title → ℕ → View → View
+after_sealed t word v = sealed_at t (after_count Issue t word v)
+
 -- the view after a look at the title that found this word
 abbrev pub after_look : Title → ℕ → View → View
 after_look t word v =
     entered (Looked t word) t (number_of word) (record v { owns = changed (is_own_of t) (idle_if word) v.owns })
 
--- The view has the handle that the step needs: for a copy a clean Own or a Ref, for a free the Own with poison in all its
--- content words, for a write a clean or dirty Own of a title that is known to have no Ref left.
+-- The view has the handle that the step needs: for a copy a Ref, or a clean Own that isn't sealed, for a free the Own with poison in
+-- all its content words, for a write a clean or dirty Own of a title that is known to have no Ref left.
 abbrev pub HasHandle : Step → Title → View → Type 0
 HasHandle Issue t v = 0 < free_of v t
-HasHandle Copy t v = 0 < own_as v t Clean + ref_of v t
+HasHandle Copy t v = 0 < unsealed_as v t Clean + ref_of v t
 HasHandle Reset t v = 0 < ref_of v t
 HasHandle Free t v = 0 < own_as v t (Poisoned (content_count t))
 HasHandle Write t v = (0 < idle_of v t) × (0 < own_as v t Clean + own_as v t Dirty)

@@ -48,8 +48,8 @@ abbrev pub IsLoggedIn : List Stamped → View → Type 0
 IsLoggedIn all v = Each (λ (s : Stake). s.log ≡ by_stake s.number all) v.stakes
 
 -- The seventh part: one order of all that logs say. Each entry was made with one of the 16 stakes, each log is what its stake did
--- there, and each keeper's list is what was entered there. A counted step or a look found the number of counted steps of its title
--- before it.
+-- there, and each keeper's list is what was entered there. A counted step or a look
+-- found the number of counted steps of its title before it.
 pub record InOneOrder (all : List Stamped) (list : ℕ → List Made) (views : List View) : Type 0 where
   pub stakes : Each (λ (m : Stamped). m.stake < 16) all
   pub logs : (i : ℕ) (v : View) → get_elem? views i ≡ some v → IsLoggedIn all v

@@ -22,9 +22,9 @@ use Rattle.pa_region.specs.Totals.{Totals}
 use Rattle.pa_region.specs.Order.{Stamped, OneStep, InOneOrder}
 use Rattle.pa_region.specs.Filled.{Filled}
 
--- The first part: the core that is shown is good. If a view knows that a title has no Ref left, its count is 0. The steps that may
--- still be made are at most 65,536 together with those that were made, and also together with the number of any one held title. The
--- count of a held title isn't above its number.
+-- The first part: the core that is shown is good. If a view knows that a title has no Ref left, as it does while the Own is sealed,
+-- its count is 0. The steps that may still be made are at most 65,536 together with those that were made, and also together with the
+-- number of any one held title. The count of a held title isn't above its number.
 pub record Holders (words : List ℕ) (total : Thing → ℕ) (idle : Title → ℕ) (budget steps : ℕ) : Type 0 where
   pub good : IsGood words total
   pub known : (t : Title) → 0 < idle t → refs_of (count_word words t) ≡ 0
@@ -32,8 +32,8 @@ pub record Holders (words : List ℕ) (total : Thing → ℕ) (idle : Title → 
   pub few : (t : Title) → IsTitleHeld total t → budget + number_of (count_word words t) ≤ 65536
   pub few_refs : (t : Title) → IsTitleHeld total t → refs_of (count_word words t) ≤ number_of (count_word words t)
 
--- The first part, of what each view knows: its list is as long as the region's, and has the value of each word that the
--- view knows.
+-- The first part, of what each view knows: its list is as long as the region's,
+-- and has the value of each word that the view knows.
 pub record Values (words : List ℕ) (views : List View) : Type 0 where
   pub long : (i : ℕ) (v : View) → get_elem? views i ≡ some v → length v.words ≡ length words
   pub known : (i word : ℕ) (v : View) → get_elem? views i ≡ some v → Knows v word → slice_index v.words word ≡ slice_index words word

@@ -4,17 +4,18 @@ use mathlib.Core.Option.{some}
 use lib.ListN.{get_elem?}
 use Rattle.pa_slot.specs.declared.title.Title.{Title}
 use Rattle.pa_slot.specs.declared.word.Step.{Step}
+use Rattle.pa_slot.specs.declared.word.Step.TheVariants.{Issue}
 use Rattle.pa_slot.specs.Count.{CanStep, stepped, number_of}
 use Rattle.pa_slot.specs.Titles.{IsWellFormed, count_place, count_word, content_count, content_place, content_at, poison}
 use Rattle.pa_slot.specs.Holdings.{IsTitleHeld}
 use Rattle.pa_machine.specs.declared.event.Event.{Event}
-use Rattle.pa_machine.specs.declared.event.Event.TheVariants.{Count, Store, Poison, Load, Cut, Uncut}
+use Rattle.pa_machine.specs.declared.event.Event.TheVariants.{Count, Sealed, Store, Poison, Load, Cut, Uncut}
 use Rattle.pa_machine.specs.Events.{total_of, IsEnabled, Happens}
 use Rattle.pa_machine.specs.Trail.{IsGoodState}
 use Rattle.pa_region.specs.declared.view.View.{View}
 use Rattle.pa_region.specs.Views.{byte_words, shown, logged_in, counted_on, counted_at, names, uncut_in, seen_of, HasTitle, HasStake}
 use Rattle.pa_region.specs.Rule.{IsKept}
-use Rattle.pa_region.specs.Moves.{CanCount, IsFound, after_count, after_look}
+use Rattle.pa_region.specs.Moves.{CanCount, IsFound, after_count, after_sealed, after_look}
 use Rattle.pa_region.specs.Stores.{after_store, CanStore, after_poison, CanPoison}
 use Rattle.pa_region.specs.Entries.{CanEnter, after_enter}
 use Rattle.pa_region.specs.Cuts.{CanCut, titled, CanUncut, after_uncut}
@@ -50,6 +51,24 @@ CountIsEvent =
     IsKept words views → get_elem? views i ≡ some v → CanCount step t v →
     IsEventOf (Count i t step) words views
     (slice_set words (count_place t) (stepped step (word_shown words t))) (slice_set views i (after_count step t (word_shown words t) v))
+
+-- An issue of a sealed Own by any one seat keeps the rule. It is enabled at the word that it finds, which is one that its view could
+-- find, and it changes this word and this view alone.
+abbrev pub SealedKeeps : Type 0
+SealedKeeps =
+    (t : Title) (words : List ℕ) (views : List View) (i : ℕ) (v : View) →
+    IsKept words views → get_elem? views i ≡ some v → CanCount Issue t v →
+    CanStep Issue (word_shown words t) × IsFound t (word_shown words t) v ×
+    IsKept (slice_set words (count_place t) (stepped Issue (word_shown words t)))
+    (slice_set views i (after_sealed t (word_shown words t) v))
+
+-- an issue of a sealed Own by view number i is that event of the core's actor i
+abbrev pub SealedIsEvent : Type 0
+SealedIsEvent =
+    (t : Title) (words : List ℕ) (views : List View) (i : ℕ) (v : View) →
+    IsKept words views → get_elem? views i ≡ some v → CanCount Issue t v →
+    IsEventOf (Sealed i t) words views
+    (slice_set words (count_place t) (stepped Issue (word_shown words t))) (slice_set views i (after_sealed t (word_shown words t) v))
 
 -- a look by any one seat keeps the rule, and changes the view of this seat alone
 abbrev pub LookKeeps : Type 0
@@ -147,7 +166,8 @@ AddKeeps =
     (k bytes : ℕ) (words : List ℕ) (views : List View) (i : ℕ) (v : View) → IsKept words views → get_elem? views i ≡ some v →
     CanAdd k bytes v →
     (slice_index words (total_place words k) + bytes < 18446744073709551616) ×
-    IsKept (slice_set words (total_place words k) (slice_index words (total_place words k) + bytes)) (slice_set views i (after_add k bytes v))
+    IsKept (slice_set words (total_place words k) (slice_index words (total_place words k) + bytes))
+    (slice_set views i (after_add k bytes v))
 
 -- Under the rule the four totals words of a kind are together what all logs added to words of that kind, which isn't above the
 -- bytes of the steps of that kind in all logs.

@@ -11,7 +11,7 @@ use Rattle.pa_slot.specs.Holdings.{RawByte}
 use Rattle.pa_layout.specs.Limits.{most_words}
 use Rattle.pa_region.specs.declared.view.View.{View}
 use Rattle.pa_region.specs.Views.{held_of_view, own_of, ref_of, HasTitle}
-use Rattle.pa_region.specs.Moves.{IsFound, after_count, after_look}
+use Rattle.pa_region.specs.Moves.{IsFound, after_count, after_sealed, after_look}
 
 -- a seat: its region and its view
 pub record Share : Type 0 where
@@ -43,6 +43,11 @@ abbrev pub CountTells : {S : Type 0} → Step → Title → Me S View → ℕ �
 CountTells step t me word after =
     (after.0 ≡ after_count step t word me.0) × (after.1 ≡ me.1) × CanStep step word × IsFound t word me.0
 
+-- what a sealed issue reports: the view after it, and what was found
+abbrev pub SealedTells : {S : Type 0} → Title → Me S View → ℕ → Me S View → Type 0
+SealedTells t me word after =
+    (after.0 ≡ after_sealed t word me.0) × (after.1 ≡ me.1) × CanStep Issue word × IsFound t word me.0
+
 -- the view has a handle of the title
 abbrev pub IsUser : Title → View → Type 0
 IsUser t v = 0 < own_of v t + ref_of v t
@@ -57,6 +62,14 @@ pub record IsStepMade (step : Step) (t : Title) (word : ℕ) (before after : Sha
   pub region : after.region ≡ before.region
   pub view : after.view ≡ after_count step t word before.view
   pub enabled : CanStep step word
+  pub found : IsFound t word before.view
+
+-- An issue was made, found this word, and its Own is sealed. The seat is of the same region, and its view is the one after the step.
+-- The step was enabled at the word, which is one that the view could find.
+pub record IsSealedMade (t : Title) (word : ℕ) (before after : Share) : Type 0 where
+  pub region : after.region ≡ before.region
+  pub view : after.view ≡ after_sealed t word before.view
+  pub enabled : CanStep Issue word
   pub found : IsFound t word before.view
 
 -- a look was made and found this word

@@ -65,8 +65,8 @@ after_poison t j v = record v {
 abbrev pub own_to : View → Title → ℕ → ℕ
 own_to v t j = sum_by (λ (o : OwnTitle). one (same_title o.title t && (progress o.state == j))) v.owns
 
--- a seat goes on with word number j: with word 0 it begins while none of its Owns is poisoned, and with a later one nothing was
--- logged since it poisoned
+-- a seat goes on with word number j: with word 0 it begins while none of its Owns is poisoned,
+-- and with a later one nothing was logged since it poisoned
 abbrev pub GoesOn : ℕ → View → Type 0
 GoesOn zero v = poisoned_owns v ≡ 0
 GoesOn (suc j) v = v.since.poisoned ≡ true

@@ -1,5 +1,5 @@
--- What histories and logs imply for callers, as laws: of a word that a look found, of a step in a log, of a longer history,
--- and of reads.
+-- What histories and logs imply for callers, as laws: of a word that a look found, of a step in a log,
+-- of a longer history, and of reads.
 use Rattle.std.specs.Prelude.{◌≡◌, ℕ, ◌+◌, ◌<◌, ◌≤◌, List, ◌∷◌, ◌++◌, length}
 use Rattle.std.specs.List.{sum_by}
 use mathlib.Core.Option.{some}
@@ -76,8 +76,8 @@ OneOrderIsKnown =
 abbrev pub ReadsHavePlaces : Type 0
 ReadsHavePlaces = (history : Title → List Done) (v : View) → HasReads history v → AreReadsRight history v
 
--- Of the Frees of a title in a view's logs that found a number of at least k, the one that found this word is the first, and
--- is in the log of s.
+-- Of the Frees of a title in a view's logs that found a number of at least k,
+-- the one that found this word is the first, and is in the log of s.
 pub record IsNextFree (v : View) (t : Title) (k : ℕ) (s : Stake) (word : ℕ) : Type 0 where
   pub behind : k ≤ number_of word
   pub logged : (value : ℕ) × (0 < sum_by (counted_as t Free word value) s.log)

@@ -38,8 +38,8 @@ abbrev pub total_place : List ℕ → ℕ → ℕ
 total_place words k = (length words - 16) + k
 
 -- The sixth part of the rule. There are 16 totals words. Each is the sum of the additions to it in all logs. What the logs of one
--- stake number owe to the words of a kind is never below what they added. The region is so small that no sum passes 2^27 bytes for
--- each counted step.
+-- stake number owe to the words of a kind is never below what they added.
+-- The region is so small that no sum passes 2^27 bytes for each counted step.
 pub record Totals (words : List ℕ) (logs : (Entry → ℕ) → ℕ) (logs_by : ℕ → (Entry → ℕ) → ℕ) : Type 0 where
   pub wide : 16 ≤ length words
   pub small : length words ≤ 16777232

@@ -1,5 +1,5 @@
 -- What a view holds and knows, counted so that the amounts of several views can be added up.
-use Rattle.std.specs.Prelude.{ℕ, ◌+◌, ◌-◌, ◌*◌, ◌<◌, ◌⊎◌, List, [], ◌∷◌, ◌++◌, ◌==◌, ◌&&◌, nat_lt, nat_le, length, take, map, min, max, if◌then◌else◌}
+use Rattle.std.specs.Prelude.{ℕ, ◌+◌, ◌-◌, ◌*◌, ◌<◌, ◌⊎◌, List, [], ◌∷◌, ◌++◌, not, ◌==◌, ◌&&◌, ◌||◌, nat_lt, nat_le, length, take, map, min, max, if◌then◌else◌}
 use Rattle.std.specs.List.{sum_by}
 use Rattle.pa_slot.specs.declared.title.Title.{Title}
 use Rattle.pa_slot.specs.declared.title.OwnState.{OwnState}
@@ -23,7 +23,7 @@ raw_piece r = RawPiece r.start r.len
 
 -- an Own as a piece
 abbrev pub own_piece : OwnTitle → Piece
-own_piece o = OwnPiece o.title o.state
+own_piece o = OwnPiece o.sealed o.title o.state
 
 -- all that a view holds
 abbrev pub pieces_of : View → List Piece
@@ -45,6 +45,14 @@ own_of v t = sum_by (λ (o : OwnTitle). one (same_title o.title t)) v.owns
 abbrev pub own_as : View → Title → OwnState → ℕ
 own_as v t state = sum_by (λ (o : OwnTitle). one (same_title o.title t && same_state o.state state)) v.owns
 
+-- how many times a title is among a view's Owns in this state that aren't sealed
+abbrev pub unsealed_as : View → Title → OwnState → ℕ
+unsealed_as v t state = sum_by (λ (o : OwnTitle). one ((same_title o.title t && same_state o.state state) && not o.sealed)) v.owns
+
+-- how many times a title is among a view's sealed Owns
+abbrev pub sealed_of : View → Title → ℕ
+sealed_of v t = sum_by (λ (o : OwnTitle). one (same_title o.title t && o.sealed)) v.owns
+
 -- how many times a title is among a view's Refs
 abbrev pub ref_of : View → Title → ℕ
 ref_of v t = sum_by (λ u. one (same_title u t)) v.refs
@@ -61,16 +69,16 @@ byte_words words = take (length words - 16) words
 abbrev pub shown : List ℕ → List View → State
 shown words views = record { words = byte_words words; holdings = map pieces_of views }
 
--- The view knows the word with this number: it is raw there, or a word of a title that it holds free, or a content word
--- of its Own.
+-- The view knows the word with this number: it is raw there, or a word of a title
+-- that it holds free, or a content word of its Own.
 abbrev pub Knows : View → ℕ → Type 0
 Knows v word =
     (0 < held_of_view v (RawByte (8 * word)))
     ⊎ (((t : Title) × (0 < free_of v t) × Covers t (8 * word)) ⊎ ((t : Title) × (0 < own_of v t) × IsContentOf t (8 * word)))
 
--- how many times a view has the title's Own with the knowledge that no Ref of it is left
+-- how many times a view has the title's Own with the knowledge that no Ref of it is left: it was found so, or the Own is sealed
 abbrev pub idle_of : View → Title → ℕ
-idle_of v t = sum_by (λ (o : OwnTitle). one (same_title o.title t && o.idle)) v.owns
+idle_of v t = sum_by (λ (o : OwnTitle). one (same_title o.title t && (o.idle || o.sealed))) v.owns
 
 -- how many times all views together have the title's Own with the knowledge that no Ref of it is left
 abbrev pub idle_in : List View → Title → ℕ
@@ -184,8 +192,8 @@ ahead_of v t number = sum_by (λ (s : SeenNumber). one (same_title s.title t && 
 abbrev pub ahead_in : List View → Title → ℕ → ℕ
 ahead_in views t number = sum_by (λ v. ahead_of v t number) views
 
--- the number that an entry leaves isn't yet seen by these notes: a look leaves the number that it found, a counted
--- step that number plus 1
+-- the number that an entry leaves isn't yet seen by these notes: a look leaves the number that it found,
+-- a counted step that number plus 1
 abbrev pub unseen_by : List SeenNumber → Entry → ℕ
 unseen_by notes (Counted t step found value) = one (nat_lt (seen_among t notes) (number_of found + 1))
 unseen_by notes (Looked t found) = one (nat_lt (seen_among t notes) (number_of found))

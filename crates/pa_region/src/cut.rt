@@ -11,8 +11,8 @@ use pa_slot::Title;
 use std::marker::Brand;
 
 impl Region {
-    /// Cuts a title out of raw bytes: stores 0 in its count word, and makes the range a free title. No seat has seen a
-    /// step on it.
+    /// Cuts a title out of raw bytes: stores 0 in its count word, and makes the range a free title.
+    /// No seat has seen a step on it.
     pub fn cut(&self, seat: &mut Seat, title: Title)
         requires region { seat.old.region ≡ self.now }
         requires able { CanCut title seat.old.view }

@@ -1,6 +1,6 @@
 //! What the region's rule says for any number of seats, as laws: calls that do nothing, but have proved clauses.
 ghost use Rattle.pa_region.specs.Ends.{UnnamedEndsNew};
-ghost use Rattle.pa_region.specs.Says.{CountKeeps, CountIsEvent, LookKeeps, LookIsLoad, StoreKeeps, PoisonKeeps, PlainIsLoad, ReadKeeps, HandKeeps, JoinKeeps, EnterKeeps, AddKeeps, KindsAreOwed, CutKeeps, UncutKeeps, StartKeeps, ShowsGood, FindsEachNumberOnce, UnnamedIsNew, NamedAreOne};
+ghost use Rattle.pa_region.specs.Says.{CountKeeps, CountIsEvent, SealedKeeps, SealedIsEvent, LookKeeps, LookIsLoad, StoreKeeps, PoisonKeeps, PlainIsLoad, ReadKeeps, HandKeeps, JoinKeeps, EnterKeeps, AddKeeps, KindsAreOwed, CutKeeps, UncutKeeps, StartKeeps, ShowsGood, FindsEachNumberOnce, UnnamedIsNew, NamedAreOne};
 
 /// Each counted step keeps the rule.
 pub fn counted_steps_keep_the_rule()
@@ -10,6 +10,16 @@ pub fn counted_steps_keep_the_rule()
 /// Each counted step is an enabled event of the core that is shown.
 pub fn each_counted_step_is_its_event()
     ensures { CountIsEvent }
+{}
+
+/// Each issue of a sealed Own keeps the rule.
+pub fn sealed_steps_keep_the_rule()
+    ensures { SealedKeeps }
+{}
+
+/// Each issue of a sealed Own is that enabled event of the core that is shown.
+pub fn each_sealed_step_is_its_event()
+    ensures { SealedIsEvent }
 {}
 
 /// Each look keeps the rule.

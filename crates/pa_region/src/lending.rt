@@ -21,8 +21,8 @@ pub fn lend_stake(region: &Region, seat: &mut Seat) -> Note
     region.hand(seat, &[], 0, &[Mark::Stake(stake)])
 }
 
-/// Makes an entry in the list of this keeper, which the host has, with the lender's least stake. The stake is lent to
-/// the host and comes back.
+/// Makes an entry in the list of this keeper, which the host has, with the lender's least stake.
+/// The stake is lent to the host and comes back.
 pub fn enter_with(region: &Region, lender: &mut Seat, host: &mut Seat, keeper: u32, entry: &[u64])
     requires regions { (lender.old.region ≡ region.now) × (host.old.region ≡ region.now) }
     requires lender { CanLend lender.old.view }

@@ -30,10 +30,10 @@ pub use laws::{
     a_named_title_is_held, a_new_region_meets_the_rule, additions_keep_the_rule,
     an_unnamed_title_ends_new, an_unnamed_title_is_new, counted_steps_keep_the_rule,
     cuts_keep_the_rule, each_counted_step_is_its_event, each_look_is_a_load,
-    each_number_is_found_once, each_plain_load_is_a_load, entries_keep_the_rule,
-    hands_keep_the_rule, joins_keep_the_rule, looks_keep_the_rule, poisonings_keep_the_rule,
-    reads_keep_the_rule, stores_keep_the_rule, the_shown_core_is_good, totals_are_owed,
-    uncuts_keep_the_rule,
+    each_number_is_found_once, each_plain_load_is_a_load, each_sealed_step_is_its_event,
+    entries_keep_the_rule, hands_keep_the_rule, joins_keep_the_rule, looks_keep_the_rule,
+    poisonings_keep_the_rule, reads_keep_the_rule, sealed_steps_keep_the_rule,
+    stores_keep_the_rule, the_shown_core_is_good, totals_are_owed, uncuts_keep_the_rule,
 };
 pub use lend_laws::{
     entering_keeps, hosts_keep, keeping_goes_on, kept_numbers_stay, lent_stakes_come_back,
@@ -51,8 +51,9 @@ pub use read_laws::{
 pub use region::{Region, Seat};
 pub use step_laws::{
     additions_stand_in_logs, counted_steps_leave, entries_stand_in_lists, entries_stand_in_logs,
-    filled_words_have_the_value, looks_leave, new_words_are_zero, owns_change, releases_leave,
-    states_are_owns, stores_leave,
+    filled_words_have_the_value, hands_keep_seals, looks_leave, new_words_are_zero,
+    owns_are_sealed_or_not, owns_change, releases_leave, sealed_steps_leave, states_are_owns,
+    stores_leave,
 };
 pub use take_laws::{
     beginnings_are_ordered, beginnings_join, free_numbers_stay, keepers_have_all, known_words_join,

@@ -15,8 +15,8 @@ use crate::rule::{enter_as, hand_as, take_as, tell_as};
 use pa_machine::Item;
 use std::marker::{Brand, Model};
 
-/// A share of a region that was split off to be handed over. Each Own of it is clean. Contracts see which region it
-/// is of, and its view.
+/// A share of a region that was split off to be handed over. Each Own of it is clean.
+/// Contracts see which region it is of, and its view.
 #[derive(Drop)]
 pub struct Note {
     seat: Seat,

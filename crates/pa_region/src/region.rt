@@ -1,5 +1,6 @@
 ghost use Rattle.std.specs.Prelude.{◌≡◌, ℕ, ◌-◌, ◌*◌, ◌<◌, ◌≤◌, [], length, IfOk};
 ghost use Rattle.atomic_table.specs.Seated.{TableId};
+ghost use Rattle.pa_slot.specs.declared.word.Step.TheVariants.{Issue};
 ghost use Rattle.pa_slot.specs.Titles.{IsWellFormed, count_place, content_count, content_place};
 ghost use Rattle.pa_layout.specs.Limits.{region_supers, most_words};
 ghost use Rattle.pa_slot.specs.Holdings.{RawByte};
@@ -7,7 +8,7 @@ ghost use Rattle.pa_region.specs.Views.{held_of_view, logged_of, HasTitle, HasSt
 ghost use Rattle.pa_region.specs.Moves.{CanCount};
 ghost use Rattle.pa_region.specs.Marks.{AreStakes};
 ghost use Rattle.pa_region.specs.Aware.{IsAware};
-ghost use Rattle.pa_region.specs.Shares.{Share, IsSeatSound, IsStepMade, byte_word_count, adds};
+ghost use Rattle.pa_region.specs.Shares.{Share, IsSeatSound, IsStepMade, IsSealedMade, byte_word_count, adds};
 ghost use Rattle.pa_region.specs.Loads.{CanLoad, LoadTells};
 ghost use Rattle.pa_region.specs.Stores.{CanStore, after_store, StoreTells, CanPoison, after_poison};
 ghost use Rattle.pa_region.specs.Start.{first_view};
@@ -73,8 +74,8 @@ impl Seat {
         ensures well { IsWellFormed (byte_word_count self.now.region) title }
         ensures long { length self.now.view.words ≡ byte_word_count self.now.region }
     {
-        // Naming the seat inside gives its proof what the type keeps. So do the lines like this one below, here and in the
-        // other files.
+        // Naming the seat inside gives its proof what the type keeps.
+        // So do the lines like this one below, here and in the other files.
         let _ = &self.seat;
         let _ = title;
     }
@@ -94,8 +95,8 @@ impl Seat {
 
 impl Region {
     /// A region of this many super pages of 2,097,152 bytes, with all words 0, and its first seat: it holds all bytes
-    /// as raw, and has the right to make `budget` counted steps, every stake, every keeper with an empty list, and
-    /// every lease.
+    /// as raw, and has the right to make `budget` counted steps, every stake,
+    /// every keeper with an empty list, and every lease.
     pub fn new(alloc: Global, supers: u32, budget: u32) -> Result<(Region, Seat), OutOfMemory>
         requires supers { (1 ≤ supers) × (supers ≤ region_supers) }
         requires budget { budget ≤ 65536 }
@@ -116,8 +117,8 @@ impl Region {
         ))
     }
 
-    /// One step on the title's count word, which changes number, count and bit at once. It returns the word that it
-    /// found.
+    /// One step on the title's count word, which changes number, count and bit at once.
+    /// It returns the word that it found.
     pub fn count_step(&self, seat: &mut Seat, title: Title, step: Step) -> Word
         requires region { seat.old.region ≡ self.now }
         requires able { CanCount step title seat.old.view }
@@ -126,6 +127,25 @@ impl Region {
         let _ = &seat.seat;
         let word = count_index(title);
         Word(add_as::<Brand>(&self.table, &mut seat.seat, word, added(step), title, step))
+    }
+
+    /// An issue of the title whose Own is sealed: no copy of it can be made. It is one step on the title's count word, and
+    /// in logs it is an issue. It returns the word that it found.
+    pub fn count_sealed(&self, seat: &mut Seat, title: Title) -> Word
+        requires region { seat.old.region ≡ self.now }
+        requires able { CanCount Issue title seat.old.view }
+        ensures { IsSealedMade title result.0 seat.old seat.new }
+    {
+        let _ = &seat.seat;
+        let place = count_index(title);
+        Word(add_as::<Brand>(
+            &self.table,
+            &mut seat.seat,
+            place,
+            added(Step::Issue),
+            title,
+            Step::Issue,
+        ))
     }
 
     /// The word at the offset `at`, in bytes: a raw word, a word of a title that the seat holds free, or with a stake a word

@@ -1,5 +1,5 @@
 //! How each step changes a seat's view, as laws: calls that do nothing, but have proved clauses.
-ghost use Rattle.pa_region.specs.Leaves.{EntryLeaves, CountLeaves, ReleaseLeaves, LookLeaves, StoreLeaves, EnterLeaves, AddLeaves, StatesAreOwns, OwnsChange, FilledWords, NewWordsAreZero};
+ghost use Rattle.pa_region.specs.Leaves.{EntryLeaves, CountLeaves, SealedLeaves, ReleaseLeaves, LookLeaves, StoreLeaves, EnterLeaves, AddLeaves, StatesAreOwns, OwnsAreSealedOrNot, HandsKeepSeals, OwnsChange, FilledWords, NewWordsAreZero};
 
 /// An entry is at the end of the least stake's log, and other logs are as before.
 pub fn entries_stand_in_logs()
@@ -9,6 +9,11 @@ pub fn entries_stand_in_logs()
 /// How a counted step changes holdings, logs, words and what was seen.
 pub fn counted_steps_leave()
     ensures { CountLeaves }
+{}
+
+/// How an issue of a sealed Own changes holdings, logs, words and what was seen.
+pub fn sealed_steps_leave()
+    ensures { SealedLeaves }
 {}
 
 /// After a reset or a free the seat holds the title free if and only if the step returned it.
@@ -39,6 +44,16 @@ pub fn additions_stand_in_logs()
 /// An Own in some state is an Own.
 pub fn states_are_owns()
     ensures { StatesAreOwns }
+{}
+
+/// An Own is sealed or not, and no Ref of a sealed one is left.
+pub fn owns_are_sealed_or_not()
+    ensures { OwnsAreSealedOrNot }
+{}
+
+/// A hand gives a sealed Own exactly if the giver's is sealed.
+pub fn hands_keep_seals()
+    ensures { HandsKeepSeals }
 {}
 
 /// How the change of one Own changes sums over a view's Owns.

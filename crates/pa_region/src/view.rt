@@ -13,8 +13,10 @@ pub struct RawRange {
 pub struct OwnTitle {
     pub title: Title,
     pub state: OwnState,
-    /// It is known that no Ref of the title is left.
+    /// It was found that no Ref of the title is left.
     pub idle: bool,
+    /// It can't be copied, so no Ref of the title can be made.
+    pub sealed: bool,
 }
 
 /// What a seat did since the last entry of its least stake's log: whether it handed something over, stored, or
@@ -78,8 +80,8 @@ pub struct Stake {
     pub log: LinkedList<Entry>,
 }
 
-/// The right to append to a keeper's list, with the list. The keepers are 0 to 3 for the roots, 4 for the pool and 5
-/// for the cells.
+/// The right to append to a keeper's list, with the list. The keepers are 0 to 3 for the roots,
+/// 4 for the pool and 5 for the cells.
 pub struct Keeper {
     pub number: u32,
     pub entries: LinkedList<Made>,

@@ -1,5 +1,5 @@
 -- A run of a core is one of the core with one actor more, which holds nothing all along.
-use Rattle.std.proofs.Common.{◌≡◌, ℕ, zero, suc, ◌+◌, ◌<◌, ◌≤◌, List, [], ◌∷◌, ◌++◌, length, map, get_or, refl, sym, ◌∙◌, ap, subst, arith, ◌⊎◌, inl, inr}
+use Rattle.std.proofs.Common.{◌≡◌, ℕ, zero, suc, ◌+◌, ◌<◌, ◌≤◌, Bool, false, List, [], ◌∷◌, ◌++◌, length, map, get_or, refl, sym, ◌∙◌, ap, subst, arith, ◌⊎◌, inl, inr}
 use Rattle.std.proofs.lemmas.Bool.{cases_lt}
 use Rattle.std.proofs.lemmas.List.{length-append}
 use Rattle.pa_slot.specs.declared.title.Title.{Title}
@@ -10,11 +10,11 @@ use Rattle.pa_slot.specs.declared.word.Step.TheVariants.{Issue, Copy, Reset, Fre
 use Rattle.pa_machine.specs.declared.event.Item.{Item}
 use Rattle.pa_machine.specs.declared.event.Item.TheVariants.{Raw, Free, Own, Ref}
 use Rattle.pa_machine.specs.declared.event.Event.{Event}
-use Rattle.pa_machine.specs.declared.event.Event.TheVariants.{Count, Store, Poison, Load, Hand, Cut, Uncut}
+use Rattle.pa_machine.specs.declared.event.Event.TheVariants.{Count, Sealed, Store, Poison, Load, Hand, Cut, Uncut}
 use Rattle.pa_slot.specs.Count.{refs_of}
 use Rattle.pa_slot.specs.Titles.{Covers, content_count, count_word, IsContentOf, HasContentFrom, IsUniform, progress}
-use Rattle.pa_slot.specs.Holdings.{Piece, Thing, RawByte, FreeTitle, OwnAs, RefOf, held_in}
-use Rattle.pa_machine.specs.Events.{State, HasActor, CanCount, HoldsItem, IsEnabled, Happens, Counts, IsAfter, Exchanges, of_actor}
+use Rattle.pa_slot.specs.Holdings.{Piece, Thing, RawByte, FreeTitle, OwnAs, SealedOwn, RefOf, one, held_in}
+use Rattle.pa_machine.specs.Events.{State, HasActor, CanCount, HoldsItem, IsItemSealed, IsEnabled, Happens, Counts, IsAfter, Exchanges, of_actor}
 use Rattle.pa_machine.specs.Trail.{Played, end_of, IsGoodState, Lasts}
 use Rattle.pa_machine.proofs.Totals.{of_actor_apart}
 use Rattle.pa_machine.proofs.Lasting.{lasts}
@@ -41,6 +41,9 @@ FreeAt at ps = (t : Title) × (0 < held_in ps (FreeTitle t)) × IsContentOf t at
 abbrev OpenOf : Title → OwnState → List Piece → Type 0
 OpenOf t state ps = ((state ≡ Clean) ⊎ (state ≡ Dirty)) × (0 < held_in ps (OwnAs t state))
 
+abbrev SealedAs : Title → Bool → List Piece → Type 0
+SealedAs t sealed ps = held_in ps (SealedOwn t) ≡ one sealed
+
 abbrev OwnAt : List ℕ → ℕ → Title → OwnState → List Piece → Type 0
 OwnAt words at t state ps = OpenOf t state ps × IsContentOf t at × (refs_of (count_word words t) ≡ 0)
 
@@ -52,7 +55,8 @@ TitleAt at ps =
 -- the conditions
 count_with : (step : Step) (s : State) (actor : ℕ) (t : Title) → CanCount step s actor t → CanCount step (with_actor s) actor t
 count_with Issue s actor t h = aside s actor (λ ps. (0 < held_in ps (FreeTitle t)) × HasContentFrom s.words t 0 0) h
-count_with Copy s actor t h = aside s actor (λ ps. (0 < held_in ps (OwnAs t Clean)) ⊎ (0 < held_in ps (RefOf t))) h
+count_with Copy s actor t h =
+    aside s actor (λ ps. ((0 < held_in ps (OwnAs t Clean)) × SealedAs t false ps) ⊎ (0 < held_in ps (RefOf t))) h
 count_with Reset s actor t h = aside s actor (λ ps. 0 < held_in ps (RefOf t)) h
 count_with FreeStep s actor t h = aside s actor (λ ps. 0 < held_in ps (OwnAs t (Poisoned (content_count t)))) h
 count_with Write s actor t h =
@@ -64,26 +68,45 @@ item_with (Free t) s actor h = aside s actor (λ ps. 0 < held_in ps (FreeTitle t
 item_with (Own t) s actor h = aside s actor (λ ps. 0 < held_in ps (OwnAs t Clean)) h
 item_with (Ref t) s actor h = aside s actor (λ ps. 0 < held_in ps (RefOf t)) h
 
+-- whether an item that is an Own is sealed
+sealed_with : (x : Item) (s : State) (actor : ℕ) (sealed : Bool) → IsItemSealed s actor x sealed →
+    IsItemSealed (with_actor s) actor x sealed
+sealed_with (Raw start len) s actor sealed h = tt
+sealed_with (Free t) s actor sealed h = tt
+sealed_with (Own t) s actor sealed h = aside s actor (SealedAs t sealed) h
+sealed_with (Ref t) s actor sealed h = tt
+
 enabled_with : (e : Event) (s : State) → IsEnabled e s → IsEnabled e (with_actor s)
 enabled_with (Count actor t step) s h = (has_with s actor h.0, count_with step s actor t h.1, h.2)
+enabled_with (Sealed actor t) s h = (has_with s actor h.0, count_with Issue s actor t h.1, h.2)
 enabled_with (Store actor at value) s h = (
   has_with s actor h.0,
   h.1,
   aside s actor (λ ps. RawAt at ps ⊎ (FreeAt at ps ⊎ ((t : Title) × (state : OwnState) × OwnAt s.words at t state ps))) h.2,
 )
-enabled_with (Poison actor t) s h =
-    (has_with s actor h.0, aside s actor (λ ps. (state : OwnState) × (0 < held_in ps (OwnAs t state)) × (progress state < content_count t)) h.1)
+enabled_with (Poison actor t) s h = (
+  has_with s actor h.0,
+  aside s actor (λ ps. (state : OwnState) × (0 < held_in ps (OwnAs t state)) ×
+      (progress state < content_count t)) h.1,
+)
 enabled_with (Load actor at) s h = (has_with s actor h.0, h.1, aside s actor (λ ps. RawAt at ps ⊎ TitleAt at ps) h.2)
 enabled_with (Hand from to x) s h = (has_with s from h.0, has_with s to h.1, item_with x s from h.2)
-enabled_with (Cut actor t) s h =
-    (has_with s actor h.0, aside s actor (λ ps. (b : ℕ) → t.start ≤ b → b < t.start + t.len → 0 < held_in ps (RawByte b)) h.1, h.2, h.3, h.4, h.5)
+enabled_with (Cut actor t) s h = (
+  has_with s actor h.0,
+  aside s actor (λ ps. (b : ℕ) → t.start ≤ b → b < t.start + t.len → 0 < held_in ps (RawByte b)) h.1,
+  h.2,
+  h.3,
+  h.4,
+  h.5,
+)
 enabled_with (Uncut actor t) s h = (has_with s actor h.0, aside s actor (λ ps. 0 < held_in ps (FreeTitle t)) h.1)
 
 -- what actors lose and gain, if the additional one does neither
 exchanged_with : (before after : List (List Piece)) (from to : ℕ) (lost gained : List Piece) → from < length before → to < length before →
     Exchanges before (of_actor from lost) (of_actor to gained) after →
     Exchanges (before ++ [] ∷ []) (of_actor from lost) (of_actor to gained) (after ++ [] ∷ [])
-exchanged_with before after from to lost gained has_from has_to ex = (let e = ex.0 in let a = long_with after in let b = long_with before in omega arith, each)
+exchanged_with before after from to lost gained has_from has_to ex =
+    (let e = ex.0 in let a = long_with after in let b = long_with before in omega arith, each)
   where
     each : (actor : ℕ) (x : Thing) → actor < length (before ++ [] ∷ []) →
         held_in (get_or (after ++ [] ∷ []) actor []) x + held_in (of_actor from lost actor) x
@@ -106,7 +129,8 @@ exchanged_with before after from to lost gained has_from has_to ex = (let e = ex
         past (h ∷ hs) zero l = absurd (omega arith)
         past (h ∷ hs) (suc k) l = past hs k (omega arith)
 
-after_with : (s after : State) (actor : ℕ) (lost gained : List Piece) (words : List ℕ) → HasActor s actor → IsAfter s actor lost gained words after →
+after_with : (s after : State) (actor : ℕ) (lost gained : List Piece) (words : List ℕ) → HasActor s actor →
+    IsAfter s actor lost gained words after →
     IsAfter (with_actor s) actor lost gained words (with_actor after)
 after_with s after actor lost gained words has a = record {
   words = a.words;
@@ -118,19 +142,39 @@ counts_with : (step : Step) (s after : State) (actor : ℕ) (t : Title) → HasA
 counts_with Issue s after actor t has h = after_with s after actor _ _ _ has h
 counts_with Copy s after actor t has h = after_with s after actor _ _ _ has h
 counts_with Reset s after actor t has h = after_with s after actor _ _ _ has h
-counts_with FreeStep s after actor t has h = after_with s after actor _ _ _ has h
-counts_with Write s after actor t has h = (h.0, aside s actor (OpenOf t h.0) h.1, after_with s after actor _ _ _ has h.2)
+counts_with FreeStep s after actor t has h = (h.0, aside s actor (SealedAs t h.0) h.1, after_with s after actor _ _ _ has h.2)
+counts_with Write s after actor t has h = (
+  h.0,
+  h.1,
+  aside s actor (OpenOf t h.0) h.2,
+  aside s actor (SealedAs t h.1) h.3,
+  after_with s after actor _ _ _ has h.4,
+)
 
 happens_with : (e : Event) (s after : State) → IsEnabled e s → Happens e s after → Happens e (with_actor s) (with_actor after)
 happens_with (Count actor t step) s after can h = counts_with step s after actor t can.0 h
+happens_with (Sealed actor t) s after can h = after_with s after actor _ _ _ can.0 h
 happens_with (Store actor at value) s after can (inl h) =
     inl (aside s actor (λ ps. RawAt at ps ⊎ FreeAt at ps) h.0, after_with s after actor _ _ _ can.0 h.1)
 happens_with (Store actor at value) s after can (inr h) =
-    inr (h.0, h.1, aside s actor (OwnAt s.words at h.0 h.1) h.2, after_with s after actor _ _ _ can.0 h.3)
-happens_with (Poison actor t) s after can h =
-    (h.0, aside s actor (λ ps. 0 < held_in ps (OwnAs t h.0)) h.1, after_with s after actor _ _ _ can.0 h.2)
+    inr (
+      h.0,
+      h.1,
+      h.2,
+      aside s actor (OwnAt s.words at h.0 h.1) h.3,
+      aside s actor (SealedAs h.0 h.2) h.4,
+      after_with s after actor _ _ _ can.0 h.5,
+    )
+happens_with (Poison actor t) s after can h = (
+  h.0,
+  h.1,
+  aside s actor (λ ps. 0 < held_in ps (OwnAs t h.0)) h.2,
+  aside s actor (SealedAs t h.1) h.3,
+  after_with s after actor _ _ _ can.0 h.4,
+)
 happens_with (Load actor at) s after can h = ap with_actor h
-happens_with (Hand from to x) s after can h = (h.0, exchanged_with s.holdings after.holdings from to _ _ can.0 can.1 h.1)
+happens_with (Hand from to x) s after can h =
+    (h.0, (h.1.0, sealed_with x s from h.1.0 h.1.1, exchanged_with s.holdings after.holdings from to _ _ can.0 can.1 h.1.2))
 happens_with (Cut actor t) s after can h = after_with s after actor _ _ _ can.0 h
 happens_with (Uncut actor t) s after can h = after_with s after actor _ _ _ can.0 h
 

@@ -1,18 +1,18 @@
 -- What a hand gives goes item by item.
-use Rattle.std.proofs.Common.{◌≡◌, ℕ, ◌+◌, ◌<◌, ◌≤◌, false, List, [], ◌∷◌, refl, arith, inl, inr}
+use Rattle.std.proofs.Common.{◌≡◌, ℕ, ◌+◌, ◌<◌, ◌≤◌, Bool, false, List, [], ◌∷◌, refl, arith, inl, inr}
 use Rattle.std.specs.List.{sum_by}
 use Rattle.std.proofs.lemmas.List.Sums.{sum_by-cons, sum_by-append}
 use Rattle.pa_slot.specs.declared.title.Title.{Title}
 use Rattle.pa_slot.specs.declared.title.OwnState.TheVariants.{Clean}
 use Rattle.pa_machine.specs.declared.event.Item.{Item}
 use Rattle.pa_machine.specs.declared.event.Item.TheVariants.{Raw, Free, Own, Ref}
-use Rattle.pa_slot.specs.Holdings.{FreePiece, RefPiece, RawPiece, Thing, RawByte, FreeTitle, OwnOf, OwnAs, RefOf, amount}
+use Rattle.pa_slot.specs.Holdings.{FreePiece, RefPiece, RawPiece, Thing, RawByte, FreeTitle, OwnOf, OwnAs, SealedOwn, RefOf, amount}
 use Rattle.pa_machine.specs.Events.{piece_of}
 use Rattle.pa_region.specs.declared.view.RawRange.{RawRange}
 use Rattle.pa_region.specs.declared.view.OwnTitle.{OwnTitle}
 use Rattle.pa_region.specs.declared.view.View.{View}
 use Rattle.pa_region.specs.Views.{raw_piece, own_piece, pieces_of, held_of_view}
-use Rattle.pa_region.specs.Hands.{inner_part, inside, without_item, with_item, HoldsGiven, CanGive, left_of, given_of}
+use Rattle.pa_region.specs.Hands.{inner_part, inside, is_clean_of, first_sealed, without_item, with_item, HoldsGiven, CanGive, left_of, given_of}
 use Rattle.pa_region.proofs.Adding.{sum_none}
 use Rattle.pa_region.proofs.Pieces.{held_split, frees_have, refs_have, owns_as_have}
 use Rattle.pa_region.proofs.Parting.{range_cases, items_part}
@@ -88,14 +88,27 @@ range_given start len v (RawByte b) has once =
           let none_is : amount (RawByte b) (RawPiece start len) ≡ 0 = rw x.1 refl in
           omega arith
     ]
-range_given start len v (FreeTitle t) has once = sum_none (λ (r : RawRange). amount (FreeTitle t) (raw_piece r)) (inside start (start + len) v.raws) (λ r. refl)
-range_given start len v (OwnOf t) has once = sum_none (λ (r : RawRange). amount (OwnOf t) (raw_piece r)) (inside start (start + len) v.raws) (λ r. refl)
-range_given start len v (OwnAs t s) has once = sum_none (λ (r : RawRange). amount (OwnAs t s) (raw_piece r)) (inside start (start + len) v.raws) (λ r. refl)
-range_given start len v (RefOf t) has once = sum_none (λ (r : RawRange). amount (RefOf t) (raw_piece r)) (inside start (start + len) v.raws) (λ r. refl)
+range_given start len v (FreeTitle t) has once =
+    sum_none (λ (r : RawRange). amount (FreeTitle t) (raw_piece r)) (inside start (start + len) v.raws) (λ r. refl)
+range_given start len v (OwnOf t) has once =
+    sum_none (λ (r : RawRange). amount (OwnOf t) (raw_piece r)) (inside start (start + len) v.raws) (λ r. refl)
+range_given start len v (OwnAs t s) has once =
+    sum_none (λ (r : RawRange). amount (OwnAs t s) (raw_piece r)) (inside start (start + len) v.raws) (λ r. refl)
+range_given start len v (SealedOwn t) has once =
+    sum_none (λ (r : RawRange). amount (SealedOwn t) (raw_piece r)) (inside start (start + len) v.raws) (λ r. refl)
+range_given start len v (RefOf t) has once =
+    sum_none (λ (r : RawRange). amount (RefOf t) (raw_piece r)) (inside start (start + len) v.raws) (λ r. refl)
+
+-- whether the item is an Own that this view gives sealed
+abbrev gives_sealed : Item → View → Bool
+gives_sealed (Raw start len) v = false
+gives_sealed (Free t) v = false
+gives_sealed (Own t) v = first_sealed (is_clean_of t) v.owns
+gives_sealed (Ref t) v = false
 
 -- a view that gets an item has this item more
 item_came : (x : Item) (v w : View) → HoldsGiven x v → HasRawOnce v → (th : Thing) →
-    held_of_view (with_item x v w) th ≡ held_of_view w th + amount th (piece_of x)
+    held_of_view (with_item x v w) th ≡ held_of_view w th + amount th (piece_of (gives_sealed x v) x)
 item_came (Raw start len) v w has once th =
     let g = range_given start len v th has once in
     let a = sum_by-append (λ r. amount th (raw_piece r)) (inside start (start + len) v.raws) w.raws in
@@ -108,7 +121,7 @@ item_came (Free t) v w has once th =
     let s2 = held_split w th in
     omega arith
 item_came (Own t) v w has once th =
-    let given : OwnTitle = record { title = t; state = Clean; idle = false } in
+    let given : OwnTitle = record { title = t; state = Clean; idle = false; sealed = first_sealed (is_clean_of t) v.owns } in
     let a = sum_by-cons (λ o. amount th (own_piece o)) given w.owns in
     let s1 = held_split (with_item (Own t) v w) th in
     let s2 = held_split w th in
@@ -121,7 +134,7 @@ item_came (Ref t) v w has once th =
 
 -- the giver of an item has it once less
 item_out : (x : Item) (v w : View) → HoldsGiven x v → HasRawOnce v → (th : Thing) →
-    held_of_view (without_item x v) th + amount th (piece_of x) ≡ held_of_view v th
+    held_of_view (without_item x v) th + amount th (piece_of (gives_sealed x v) x) ≡ held_of_view v th
 item_out x v w has once th =
     let p = items_part (x ∷ []) v w (has, tt) th in
     let c = item_came x v w has once th in
@@ -134,11 +147,18 @@ given_has (Own t) v has = let e = owns_as_have v t Clean in omega arith
 given_has (Ref t) v has = let e = refs_have v t in omega arith
 
 -- all items of a parcel
-pub items_pass : (xs : List Item) (v w : View) → CanGive xs v → HasRawOnce v → ArePassed xs (pieces_of v) (pieces_of w) (pieces_of (left_of xs v)) (pieces_of (given_of xs v w))
+pub items_pass : (xs : List Item) (v w : View) → CanGive xs v → HasRawOnce v →
+    ArePassed xs (pieces_of v) (pieces_of w) (pieces_of (left_of xs v)) (pieces_of (given_of xs v w))
 items_pass [] v w can once = (refl, refl)
 items_pass (x ∷ xs) v w can once = (
   pieces_of (without_item x v),
   pieces_of (with_item x v w),
-  record { has = given_has x v can.0; out = item_out x v w can.0 once; came = item_came x v w can.0 once },
-  items_pass xs (without_item x v) (with_item x v w) can.1 (λ b. let o = item_out x v w can.0 once (RawByte b) in let e = once b in omega arith),
+  record {
+    has = given_has x v can.0;
+    sealed = gives_sealed x v;
+    out = item_out x v w can.0 once;
+    came = item_came x v w can.0 once;
+  },
+  items_pass xs (without_item x v) (with_item x v w) can.1
+      (λ b. let o = item_out x v w can.0 once (RawByte b) in let e = once b in omega arith),
 )

@@ -31,7 +31,8 @@ raw_once words views i v k at_i b =
     ]
 
 -- a view that changes and one that is put at the end, in the core that is shown
-put_last : (views : List View) (g : View) → set (map pieces_of views ++ [] ∷ []) (length views) (pieces_of g) ≡ map pieces_of (views ++ g ∷ [])
+put_last : (views : List View) (g : View) →
+    set (map pieces_of views ++ [] ∷ []) (length views) (pieces_of g) ≡ map pieces_of (views ++ g ∷ [])
 put_last [] g = refl
 put_last (z ∷ zs) g = ap (λ hs. pieces_of z ∷ hs) (put_last zs g)
 
@@ -52,11 +53,14 @@ hand_is_run p words views i v k at_i can =
     let more = length-append hs ([] ∷ []) in
     let below = shown_actor words views i v at_i in
     let at_from : get_or (hs ++ [] ∷ []) i [] ≡ pieces_of v = get_or-append hs ([] ∷ []) [] i below ∙ map_at pieces_of views i v [] at_i in
-    let at_to : get_or (hs ++ [] ∷ []) n [] ≡ [] = subst (λ (m : ℕ). get_or (hs ++ [] ∷ []) m [] ≡ []) long (get_or-append_seam hs [] [] []) in
+    let at_to : get_or (hs ++ [] ∷ []) n [] ≡ [] =
+    subst (λ (m : ℕ). get_or (hs ++ [] ∷ []) m [] ≡ []) long (get_or-append_seam hs [] [] []) in
     let passed : ArePassed p.items (get_or (hs ++ [] ∷ []) i []) (get_or (hs ++ [] ∷ []) n []) (pieces_of l) (pieces_of g) =
     rw (at_from, at_to) (items_pass p.items v (empty_of v) can.items (raw_once words views i v k at_i)) in
-    let run = run_of p.items s i n (pieces_of l) (pieces_of g) (λ e. omega arith) (omega arith) (omega arith) (good_with (shown words views) k.holders.good) passed in
-    subst (λ (after : State). IsRunTo s (hands_of i n p.items) after) (ap (λ h. record { words = byte_words words; holdings = h }) (put_both views i v l g at_i)) run
+    let run = run_of p.items s i n (pieces_of l) (pieces_of g) (λ e. omega arith) (omega arith) (omega arith)
+    (good_with (shown words views) k.holders.good) passed in
+    subst (λ (after : State). IsRunTo s (hands_of i n p.items) after)
+    (ap (λ h. record { words = byte_words words; holdings = h }) (put_both views i v l g at_i)) run
 
 pub take_is_run : TakeIsItsEvents
 take_is_run words views i j v w k at_i at_j ne can =
@@ -66,7 +70,9 @@ take_is_run words views i j v w k at_i at_j ne can =
     let spent = spent_of w in
     let passed : ArePassed (items_held w) (get_or hs j []) (get_or hs i []) (pieces_of spent) (pieces_of both) =
     rw (map_at pieces_of views j w [] at_j, map_at pieces_of views i v [] at_i) (all_pass v w can.clean) in
-    let run = run_of (items_held w) s j i (pieces_of spent) (pieces_of both) ne (shown_actor words views j w at_j) (shown_actor words views i v at_i) k.holders.good passed in
+    let run = run_of (items_held w) s j i (pieces_of spent) (pieces_of both) ne (shown_actor words views j w at_j)
+    (shown_actor words views i v at_i) k.holders.good passed in
     let ends : set (set hs i (pieces_of both)) j (pieces_of spent) ≡ map pieces_of (set (set views i both) j spent) =
     ap (λ h. set h j (pieces_of spent)) (sym (map-set pieces_of views i both)) ∙ sym (map-set pieces_of (set views i both) j spent) in
-    subst (λ (after : State). IsRunTo s (hands_of j i (items_held w)) after) (ap (λ h. record { words = byte_words words; holdings = h }) ends) run
+    subst (λ (after : State). IsRunTo s (hands_of j i (items_held w)) after)
+    (ap (λ h. record { words = byte_words words; holdings = h }) ends) run

@@ -1,5 +1,5 @@
 -- What a take brings goes piece by piece.
-use Rattle.std.proofs.Common.{◌≡◌, ◌+◌, List, [], ◌∷◌, ◌++◌, map, refl, ◌∙◌, ap, subst, arith}
+use Rattle.std.proofs.Common.{◌≡◌, ◌+◌, Bool, false, List, [], ◌∷◌, ◌++◌, map, refl, ◌∙◌, ap, subst, arith}
 use Rattle.std.specs.List.{sum_by}
 use Rattle.std.proofs.lemmas.List.{append-nil, append_assoc, map-append}
 use Rattle.std.proofs.lemmas.List.Sums.{sum_by-cons, sum_by-append}
@@ -22,20 +22,20 @@ use Rattle.pa_region_core.specs.Handed.{raw_item, own_item, items_held}
 use Rattle.pa_region_core.proofs.Passing.{HasItem, ArePassed, pass_both}
 
 -- a view that has the piece of an item has the item
-first_has : (x : Item) (ps : List Piece) → HasItem (piece_of x ∷ ps) x
-first_has (Raw start len) ps = λ b low high.
+first_has : (x : Item) (sealed : Bool) (ps : List Piece) → HasItem (piece_of sealed x ∷ ps) x
+first_has (Raw start len) sealed ps = λ b low high.
     let c = sum_by-cons (amount (RawByte b)) (RawPiece start len) ps in
     let here : amount (RawByte b) (RawPiece start len) ≡ 1 = rw (le-leb start b low, lt-ltb b (start + len) high) refl in
     omega arith
-first_has (Free t) ps =
+first_has (Free t) sealed ps =
     let c = sum_by-cons (amount (FreeTitle t)) (FreePiece t) ps in
     let here : amount (FreeTitle t) (FreePiece t) ≡ 1 = rw (title_self t) refl in
     omega arith
-first_has (Own t) ps =
-    let c = sum_by-cons (amount (OwnAs t Clean)) (OwnPiece t Clean) ps in
-    let here : amount (OwnAs t Clean) (OwnPiece t Clean) ≡ 1 = rw (title_self t) refl in
+first_has (Own t) sealed ps =
+    let c = sum_by-cons (amount (OwnAs t Clean)) (OwnPiece sealed t Clean) ps in
+    let here : amount (OwnAs t Clean) (OwnPiece sealed t Clean) ≡ 1 = rw (title_self t) refl in
     omega arith
-first_has (Ref t) ps =
+first_has (Ref t) sealed ps =
     let c = sum_by-cons (amount (RefOf t)) (RefPiece t) ps in
     let here : amount (RefOf t) (RefPiece t) ≡ 1 = rw (title_self t) refl in
     omega arith
@@ -44,21 +44,27 @@ first_has (Ref t) ps =
 abbrev Grows : (List Piece → List Piece) → Type 0
 Grows place = (ps : List Piece) (q : Piece) (th : Thing) → held_in (place (ps ++ q ∷ [])) th ≡ held_in (place ps) th + amount th q
 
--- items with their pieces first go to that place, one after the other
-pass_first : (place : List Piece → List Piece) → Grows place → (xs : List Item) (rest ps : List Piece) →
-    ArePassed xs (map piece_of xs ++ rest) (place ps) rest (place (ps ++ map piece_of xs))
-pass_first place grows [] rest ps = (refl, ap place (append-nil ps))
-pass_first place grows (x ∷ xs) rest ps = (
-  map piece_of xs ++ rest,
-  place (ps ++ piece_of x ∷ []),
-  record {
-    has = first_has x (map piece_of xs ++ rest);
-    out = λ th. let c = sum_by-cons (amount th) (piece_of x) (map piece_of xs ++ rest) in omega arith;
-    came = grows ps (piece_of x);
-  },
-  subst (λ (l : List Piece). ArePassed xs (map piece_of xs ++ rest) (place (ps ++ piece_of x ∷ [])) rest (place l)) (append_assoc ps (piece_of x ∷ []) (map piece_of xs))
-      (pass_first place grows xs rest (ps ++ piece_of x ∷ [])),
-)
+-- What has items, each sealed or not, goes to that place, one after the other, if the items' pieces are first.
+pass_first : {A : Type 0} (item : A → Item) (sealed : A → Bool) (place : List Piece → List Piece) → Grows place →
+    (xs : List A) (rest ps : List Piece) →
+    ArePassed (map item xs) (map (λ a. piece_of (sealed a) (item a)) xs ++ rest) (place ps) rest
+    (place (ps ++ map (λ a. piece_of (sealed a) (item a)) xs))
+pass_first item sealed place grows [] rest ps = (refl, ap place (append-nil ps))
+pass_first item sealed place grows (x ∷ xs) rest ps =
+    let piece = piece_of (sealed x) (item x) in
+    let later = map (λ a. piece_of (sealed a) (item a)) xs in (
+      later ++ rest,
+      place (ps ++ piece ∷ []),
+      record {
+        has = first_has (item x) (sealed x) (later ++ rest);
+        sealed = sealed x;
+        out = λ th. let c = sum_by-cons (amount th) piece (later ++ rest) in omega arith;
+        came = grows ps piece;
+      },
+      subst (λ (l : List Piece). ArePassed (map item xs) (later ++ rest) (place (ps ++ piece ∷ [])) rest (place l))
+          (append_assoc ps (piece ∷ []) later)
+          (pass_first item sealed place grows xs rest (ps ++ piece ∷ [])),
+    )
 
 -- between two lists, it counts so
 grows_between : (left right : List Piece) → Grows (λ ps. left ++ (ps ++ right))
@@ -85,51 +91,52 @@ grows_last ps q th =
     let d = sum_by-cons (amount th) q [] in
     omega arith
 
+-- the Own as a piece, whatever its state: clean
+abbrev clean_own : OwnTitle → Piece
+clean_own o = OwnPiece o.sealed o.title Clean
+
 -- items of four kinds, each to its own place
-pass_four : (a b c d : List Piece) (x y z u : List Item) →
-    ArePassed (x ++ (y ++ (z ++ u))) (map piece_of x ++ (map piece_of y ++ (map piece_of z ++ map piece_of u))) (a ++ (b ++ (c ++ d)))
-    [] ((a ++ map piece_of x) ++ ((b ++ map piece_of y) ++ ((c ++ map piece_of z) ++ (d ++ map piece_of u))))
-pass_four a b c d x y z u =
-    let px = map piece_of x in let py = map piece_of y in let pz = map piece_of z in let pu = map piece_of u in
+pass_four : (a b c d : List Piece) (rs : List RawRange) (fs : List Title) (os : List OwnTitle) (ts : List Title) →
+    ArePassed (map raw_item rs ++ (map Free fs ++ (map own_item os ++ map Ref ts)))
+    (map raw_piece rs ++ (map FreePiece fs ++ (map clean_own os ++ map RefPiece ts))) (a ++ (b ++ (c ++ d)))
+    [] ((a ++ map raw_piece rs) ++ ((b ++ map FreePiece fs) ++ ((c ++ map clean_own os) ++ (d ++ map RefPiece ts))))
+pass_four a b c d rs fs os ts =
+    let x = map raw_item rs in let y = map Free fs in let z = map own_item os in let u = map Ref ts in
+    let px = map raw_piece rs in let py = map FreePiece fs in let pz = map clean_own os in let pu = map RefPiece ts in
     let ax = a ++ px in let by = b ++ py in let cz = c ++ pz in
-    let last = pass_first (λ ps. ax ++ (by ++ (cz ++ ps))) (grows_behind ax _ (grows_behind by _ (grows_behind cz (λ ps. ps) grows_last))) u [] d in
+    let last = pass_first Ref (λ t. false) (λ ps. ax ++ (by ++ (cz ++ ps)))
+    (grows_behind ax _ (grows_behind by _ (grows_behind cz (λ ps. ps) grows_last))) ts [] d in
     pass_both x (y ++ (z ++ u)) _ _ _ _ _ _
-    (pass_first (λ ps. ps ++ (b ++ (c ++ d))) (grows_between [] (b ++ (c ++ d))) x (py ++ (pz ++ pu)) a)
+    (pass_first raw_item (λ r. false) (λ ps. ps ++ (b ++ (c ++ d))) (grows_between [] (b ++ (c ++ d))) rs (py ++ (pz ++ pu)) a)
     (pass_both y (z ++ u) _ _ _ _ _ _
-    (pass_first (λ ps. ax ++ (ps ++ (c ++ d))) (grows_between ax (c ++ d)) y (pz ++ pu) b)
+    (pass_first Free (λ t. false) (λ ps. ax ++ (ps ++ (c ++ d))) (grows_between ax (c ++ d)) fs (pz ++ pu) b)
     (pass_both z u _ _ _ _ _ _
-    (pass_first (λ ps. ax ++ (by ++ (ps ++ d))) (grows_behind ax (λ ps. by ++ (ps ++ d)) (grows_between by d)) z pu c)
+    (pass_first own_item (λ o. o.sealed) (λ ps. ax ++ (by ++ (ps ++ d))) (grows_behind ax (λ ps. by ++ (ps ++ d)) (grows_between by d))
+    os pu c)
     (subst (λ (l : List Piece). ArePassed u l (ax ++ (by ++ (cz ++ d))) [] (ax ++ (by ++ (cz ++ (d ++ pu))))) (append-nil pu) last)))
-
--- the items of a view's pieces are those pieces
-raw_items : (rs : List RawRange) → map piece_of (map raw_item rs) ≡ map raw_piece rs
-raw_items [] = refl
-raw_items (r ∷ rs) = ap (λ ps. raw_piece r ∷ ps) (raw_items rs)
-
-free_items : (ts : List Title) → map piece_of (map Free ts) ≡ map FreePiece ts
-free_items [] = refl
-free_items (t ∷ ts) = ap (λ ps. FreePiece t ∷ ps) (free_items ts)
-
-ref_items : (ts : List Title) → map piece_of (map Ref ts) ≡ map RefPiece ts
-ref_items [] = refl
-ref_items (t ∷ ts) = ap (λ ps. RefPiece t ∷ ps) (ref_items ts)
 
 clean_is : (a : OwnState) → one (is_unclean a) ≡ 0 → Clean ≡ a
 clean_is Clean e = refl
 clean_is Dirty e = absurd (omega arith)
 clean_is (Poisoned j) e = absurd (omega arith)
 
-own_items : (os : List OwnTitle) → sum_by (λ (o : OwnTitle). one (is_unclean o.state)) os ≡ 0 → map piece_of (map own_item os) ≡ map own_piece os
-own_items [] none = refl
-own_items (o ∷ os) none =
+-- the pieces of a view's Owns, if they are clean
+own_pieces : (os : List OwnTitle) → sum_by (λ (o : OwnTitle). one (is_unclean o.state)) os ≡ 0 → map clean_own os ≡ map own_piece os
+own_pieces [] none = refl
+own_pieces (o ∷ os) none =
     let c = sum_by-cons (λ (o : OwnTitle). one (is_unclean o.state)) o os in
-    let here : OwnPiece o.title Clean ≡ own_piece o = ap (OwnPiece o.title) (clean_is o.state (omega arith)) in
-    ap (λ q. q ∷ map piece_of (map own_item os)) here ∙ ap (λ ps. own_piece o ∷ ps) (own_items os (omega arith))
+    let here : clean_own o ≡ own_piece o = ap (OwnPiece o.sealed o.title) (clean_is o.state (omega arith)) in
+    ap (λ q. q ∷ map clean_own os) here ∙ ap (λ ps. own_piece o ∷ ps) (own_pieces os (omega arith))
 
 -- all that a view has goes to another
-pub all_pass : (v w : View) → unclean_of w ≡ 0 → ArePassed (items_held w) (pieces_of w) (pieces_of v) (pieces_of (spent_of w)) (pieces_of (united v w))
+pub all_pass : (v w : View) → unclean_of w ≡ 0 →
+    ArePassed (items_held w) (pieces_of w) (pieces_of v) (pieces_of (spent_of w)) (pieces_of (united v w))
 all_pass v w clean =
-    rw (map-append raw_piece v.raws w.raws, map-append FreePiece v.frees w.frees, map-append own_piece v.owns w.owns, map-append RefPiece v.refs w.refs)
-    (rw (← raw_items w.raws, ← free_items w.frees, ← own_items w.owns clean, ← ref_items w.refs)
-    (pass_four (map raw_piece v.raws) (map FreePiece v.frees) (map own_piece v.owns) (map RefPiece v.refs)
-    (map raw_item w.raws) (map Free w.frees) (map own_item w.owns) (map Ref w.refs)))
+    rw (
+      map-append raw_piece v.raws w.raws,
+      map-append FreePiece v.frees w.frees,
+      map-append own_piece v.owns w.owns,
+      map-append RefPiece v.refs w.refs,
+    )
+    (rw (← own_pieces w.owns clean)
+    (pass_four (map raw_piece v.raws) (map FreePiece v.frees) (map own_piece v.owns) (map RefPiece v.refs) w.raws w.frees w.owns w.refs))

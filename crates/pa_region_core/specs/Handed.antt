@@ -35,7 +35,8 @@ ActorAddsNothing =
 
 -- Each run of the core is one with an additional actor that takes no part. So that actor may have been there from the start.
 abbrev pub ActorStaysAside : Type 0
-ActorStaysAside = (s : State) (events : List Event) (after : State) → IsRunTo s events after → IsRunTo (with_actor s) events (with_actor after)
+ActorStaysAside = (s : State) (events : List Event) (after : State) → IsRunTo s events after →
+    IsRunTo (with_actor s) events (with_actor after)
 
 -- each of these items goes from the first actor to the second, one after the other
 abbrev pub hands_of : ℕ → ℕ → List Item → List Event
@@ -54,8 +55,8 @@ abbrev pub items_held : View → List Item
 items_held v = map raw_item v.raws ++ (map Free v.frees ++ (map own_item v.owns ++ map Ref v.refs))
 
 -- A hand by view number i is a run of the core, with one more actor that holds nothing: the actor i hands it the
--- parcel's items, in their order, each while it has it. The run ends in the core that is shown after the hand, and no word
--- has changed.
+-- parcel's items, in their order, each while it has it. The run ends in the core
+-- that is shown after the hand, and no word has changed.
 abbrev pub HandIsItsEvents : Type 0
 HandIsItsEvents =
     (p : Parcel) (words : List ℕ) (views : List View) (i : ℕ) (v : View) → IsKept words views → get_elem? views i ≡ some v → CanHand p v →

@@ -23,14 +23,16 @@ module _ (a : Parts) (h : IsFiled a) where
   abbrev pub holds : ℕ → ℕ → Held
   holds n k = gave_last Nothing (below cell_line n (a.cells k))
 
-  holds_up : (before rest : List Played) (n m k : ℕ) → a.ps ≡ before ++ rest → StandsBetween n before rest → StandsBetween m before rest → n ≤ m → holds n k ≡ holds m k
+  holds_up : (before rest : List Played) (n m k : ℕ) → a.ps ≡ before ++ rest → StandsBetween n before rest →
+      StandsBetween m before rest → n ≤ m → holds n k ≡ holds m k
   holds_up before rest n m k parts first last up =
       let cut : IsCut a n before rest = record { parts = parts; early = first.early; late = first.late } in
       let gap = recorded_cases a n m before rest cut last.late in
       ap (gave_last Nothing) (below_gap cell_line n m (a.cells k) up (λ e among. gap e.line (cells_recorded a k e h among)))
 
   -- it is the same before any line that stands between the same records
-  pub holds_one : (before rest : List Played) (n m k : ℕ) → a.ps ≡ before ++ rest → StandsBetween n before rest → StandsBetween m before rest → holds n k ≡ holds m k
+  pub holds_one : (before rest : List Played) (n m k : ℕ) → a.ps ≡ before ++ rest → StandsBetween n before rest →
+      StandsBetween m before rest → holds n k ≡ holds m k
   holds_one before rest n m k parts first last = elim (cases_lt n m) [
     | inl less ↦ holds_up before rest n m k parts first last (omega (arith, less))
     | inr more ↦ sym (holds_up before rest m n k parts last first more)
@@ -58,20 +60,24 @@ module _ (a : Parts) (h : IsFiled a) where
 
     -- a record that swaps with another cell, or none
     pub holds_same : (k : ℕ) → ((reg : ℕ) → x.op ≡ Swap k reg → ⊥) → holds (x.line + 1) k ≡ holds x.line k
-    holds_same k other = ap (gave_last Nothing) (sym (below_gap cell_line x.line (x.line + 1) (a.cells k) (omega arith) (λ e member. elim (cases_eq e.line x.line) [
-      | inl same ↦ let (reg, op) = exchange_op a x k e h among member same in absurd (other reg op)
-      | inr apart ↦ around e.line apart
-    ])))
+    holds_same k other =
+        ap (gave_last Nothing)
+        (sym (below_gap cell_line x.line (x.line + 1) (a.cells k) (omega arith) (λ e member. elim (cases_eq e.line x.line) [
+          | inl same ↦ let (reg, op) = exchange_op a x k e h among member same in absurd (other reg op)
+          | inr apart ↦ around e.line apart
+        ])))
       where
         around : (l : ℕ) → (l ≡ x.line → ⊥) → (l < x.line) ⊎ (x.line + 1 ≤ l)
         around l apart = elim (cases_lt l x.line) [ inl less ↦ inl less | inr more ↦ inr (omega (arith, apart, more)) ]
 
     -- as it was at the next record's line
-    pub holds_on : (y : Played) (more : List Played) (k : ℕ) → rest ≡ y ∷ more → ((reg : ℕ) → x.op ≡ Swap k reg → ⊥) → holds y.line k ≡ holds x.line k
+    pub holds_on : (y : Played) (more : List Played) (k : ℕ) → rest ≡ y ∷ more → ((reg : ℕ) → x.op ≡ Swap k reg → ⊥) →
+        holds y.line k ≡ holds x.line k
     holds_on y more k is other =
         let next : a.ps ≡ (before ++ x ∷ []) ++ y ∷ more = parts_next ∙ ap (λ zs. (before ++ x ∷ []) ++ zs) is in
         let cut = cut_here a (before ++ x ∷ []) more y h next in
-        let there : StandsBetween y.line (before ++ x ∷ []) rest = subst (StandsBetween y.line (before ++ x ∷ [])) (sym is) (record { early = cut.early; late = cut.late }) in
+        let there : StandsBetween y.line (before ++ x ∷ []) rest =
+        subst (StandsBetween y.line (before ++ x ∷ [])) (sym is) (record { early = cut.early; late = cut.late }) in
         holds_one (before ++ x ∷ []) rest y.line (x.line + 1) k parts_next there stands_next ∙ holds_same k other
 
     -- an exchange: the register has what the cell held, and the cell holds what the register had
@@ -79,15 +85,19 @@ module _ (a : Parts) (h : IsFiled a) where
       pub cell : holds (x.line + 1) k ≡ handle_of (regs reg)
       pub becomes : Becomes next (with regs reg (reg_of (holds x.line k)))
 
-    pub exchanges : (k reg : ℕ) (regs next : Regs) → x.op ≡ Swap k reg → SwapRow (a.cells k) regs reg x.answer next → Exchanges k reg regs next
+    pub exchanges : (k reg : ℕ) (regs next : Regs) → x.op ≡ Swap k reg →
+        SwapRow (a.cells k) regs reg x.answer next → Exchanges k reg regs next
     exchanges k reg regs next op (entry, e, answer, at, gave, becomes) =
         let (d, has) = exchange_here a x k reg h among op in
-        let place : entry ≡ length (below cell_line x.line (a.cells k)) = swapped_one entry (length (below cell_line x.line (a.cells k))) (sym answer ∙ has.answer) in
+        let place : entry ≡ length (below cell_line x.line (a.cells k)) =
+        swapped_one entry (length (below cell_line x.line (a.cells k))) (sym answer ∙ has.answer) in
         let one : e ≡ d = some_one e d (sym at ∙ (ap (slice_get (a.cells k)) place ∙ has.place)) in
-        let cut = below_next cell_line x.line (x.line + 1) (a.cells k) (omega arith) (λ y member up. omega (arith, up)) (cell_steady a k h) in
+        let cut = below_next cell_line x.line (x.line + 1) (a.cells k) (omega arith) (λ y member up. omega (arith, up))
+        (cell_steady a k h) in
         let last = cut ∙ ap (λ zs. below cell_line x.line (a.cells k) ++ zs) has.only in
         record {
-          cell = ap (gave_last Nothing) last ∙ (gives_last Nothing (below cell_line x.line (a.cells k)) d ∙ (ap (λ (z : CellEntry). z.gave) (sym one) ∙ gave));
+          cell = ap (gave_last Nothing) last ∙
+              (gives_last Nothing (below cell_line x.line (a.cells k)) d ∙ (ap (λ (z : CellEntry). z.gave) (sym one) ∙ gave));
           becomes = subst (λ v. Becomes next (with regs reg (reg_of v))) (ap (λ (z : CellEntry). z.found) one ∙ has.found) becomes;
         }
       where

@@ -1,6 +1,5 @@
 -- The lines of a script's text are played, each as soon as it is read.
 use Rattle.std.proofs.Common.{◌≡◌, ℕ, ◌+◌, ◌≤◌, List, [], ◌∷◌, ◌++◌, length, Option, refl, sym, ap, subst, ◌∙◌, arith}
-use Rattle.std.specs.List.{AllByRecursion}
 use Rattle.std.proofs.lemmas.List.{length_push}
 use Rattle.pa_trace.specs.declared.line.Head.{Head}
 use Rattle.pa_trace.specs.Unread.{Unread}
@@ -10,15 +9,11 @@ use Rattle.pa_script.specs.declared.script.ScriptLine.{ScriptLine}
 use Rattle.pa_script.specs.Limits.{IsScriptLineWithin}
 use Rattle.pa_script.specs.Unread.{script_with, IsScriptReadUpTo, IsScriptLineRead, IsScriptEndRead}
 use Rattle.pa_model.specs.Player.{Player, trace_so_far, IsNew, IsPrinted}
+use Rattle.pa_model.proofs.Input.{last_of}
 use Rattle.pa_resize.specs.declared.verdict.Verdict.{Verdict}
 use Rattle.pa_resize.specs.Expansion.{verdict_noted, IsInputExpanded}
 use Rattle.pa_resize.specs.Playing.{PlaysScriptLine, IsScriptPlayed, IsInputPlayedTo, script_head}
 use Rattle.pa_resize.proofs.Scripts.{script_begins, script_more, script_ends}
-
--- what holds of a list holds of its last member
-last_of : (P : ScriptLine → Type 0) (ls : List ScriptLine) (l : ScriptLine) → AllByRecursion P (ls ++ l ∷ []) → P l
-last_of P [] l h = h.0
-last_of P (x ∷ ls) l h = last_of P ls l h.1
 
 module _ (bytes : List ℕ) (u : Unread) (p : Player) where
   -- before the first line
@@ -54,7 +49,8 @@ module _ (bytes : List ℕ) (u : Unread) (p : Player) where
           }
 
     -- at the end the texts are those of what the script comes to
-    pub input_expanded : (v : Unread) (front text : List ℕ) → IsScriptEndRead u v → IsPrinted p front text → IsInputExpanded bytes front text
+    pub input_expanded : (v : Unread) (front text : List ℕ) → IsScriptEndRead u v → IsPrinted p front text →
+        IsInputExpanded bytes front text
     input_expanded v front text end is =
         let s : Script = script_with u.head so_far.lines in
         let limits = so_far.played.going.within in

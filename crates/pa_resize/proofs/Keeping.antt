@@ -33,12 +33,14 @@ use Rattle.pa_resize.proofs.Moving.{line_thread, line_op, four, Move, freed_alon
 abbrev pub facts_in : List Played → Told → Facts
 facts_in ps r = record { usable_of = usable_of 1; usable_at = usable_in ps; cells = r.cells }
 
-pub record Lead (ps : List Played) (r : Told) (all : AllRegs) (thread : ℕ) (op : Op) (x : Played) (xs : List Played) (after : AllRegs) : Type 0 where
+pub record Lead (ps : List Played) (r : Told) (all : AllRegs) (thread : ℕ) (op : Op) (x : Played) (xs : List Played)
+    (after : AllRegs) : Type 0 where
   pub next : Regs
   pub row : Row (record { usable_of = usable_of 1; usable_at = usable_in ps; cells = r.cells }) op (all thread) x.answer next
   pub rest : LeadsOver ps r (with_thread all thread next) xs after
 
-pub lead : (ps : List Played) (r : Told) (all : AllRegs) (thread : ℕ) (op : Op) (x : Played) (xs : List Played) (after : AllRegs) → did x ≡ Do thread op
+pub lead : (ps : List Played) (r : Told) (all : AllRegs) (thread : ℕ) (op : Op) (x : Played) (xs : List Played) (after : AllRegs) →
+    did x ≡ Do thread op
     → LeadsOver ps r all (x ∷ xs) after → Lead ps r all thread op x xs after
 lead ps r all thread op x xs after is (next, row, rest) =
     let F : Facts = record { usable_of = usable_of 1; usable_at = usable_in ps; cells = r.cells } in
@@ -60,13 +62,16 @@ pub record Wrote (s : SlotName) (regs : Regs) (x : Played) (next : Regs) : Type 
   pub refs : x.answer ≡ Shared seen → 0 < refs_of seen.found.0
 
 wrote_own : (s : SlotName) (regs : Regs) (x : Played) (next : Regs) → WriteRow (Own s) regs x.answer next → Wrote s regs x next
-wrote_own s regs x next (seen, slot, same, inl (some, says)) = record { seen = seen; slot = slot; same = same; says = inr says; refs = λ e. some }
-wrote_own s regs x next (seen, slot, same, inr (none, says)) = record { seen = seen; slot = slot; same = same; says = inl says; refs = λ e. absurd (done_shared (sym says ∙ e)) }
+wrote_own s regs x next (seen, slot, same, inl (some, says)) =
+    record { seen = seen; slot = slot; same = same; says = inr says; refs = λ e. some }
+wrote_own s regs x next (seen, slot, same, inr (none, says)) =
+    record { seen = seen; slot = slot; same = same; says = inl says; refs = λ e. absurd (done_shared (sym says ∙ e)) }
   where
     done_shared : Done seen ≡ Shared seen → ⊥
     done_shared e = cc
 
-pub wrote : (s : SlotName) (regs : Regs) (reg : ℕ) (x : Played) (next : Regs) → regs reg ≡ Own s → WriteRow (regs reg) regs x.answer next → Wrote s regs x next
+pub wrote : (s : SlotName) (regs : Regs) (reg : ℕ) (x : Played) (next : Regs) → regs reg ≡ Own s →
+    WriteRow (regs reg) regs x.answer next → Wrote s regs x next
 wrote s regs reg x next own row = wrote_own s regs x next (subst (λ v. WriteRow v regs x.answer next) own row)
 
 pub record Frees (s : SlotName) (regs : Regs) (reg : ℕ) (x : Played) (next : Regs) : Type 0 where
@@ -75,7 +80,8 @@ pub record Frees (s : SlotName) (regs : Regs) (reg : ℕ) (x : Played) (next : R
   pub done : x.answer ≡ Done seen
   pub becomes : Becomes next (with regs reg Freed)
 
-pub frees : (s : SlotName) (regs : Regs) (reg : ℕ) (x : Played) (next : Regs) → regs reg ≡ Own s → FreeRow (regs reg) regs reg x.answer next → Frees s regs reg x next
+pub frees : (s : SlotName) (regs : Regs) (reg : ℕ) (x : Played) (next : Regs) → regs reg ≡ Own s →
+    FreeRow (regs reg) regs reg x.answer next → Frees s regs reg x next
 frees s regs reg x next own row =
     let (seen, slot, done, becomes) = subst (λ v. FreeRow v regs reg x.answer next) own row in
     record { seen = seen; slot = slot; done = done; becomes = becomes }
@@ -88,7 +94,8 @@ module _ (t : Trace) (r : Told) (limits : IsWithinLimits t) (run : IsFileTold t 
     (ask : did y ≡ Do thread (ops.Alloc spare o.partition size)) (room : HasNoRoom y.answer → ⊥)
     (writes : did w ≡ Do thread (ops.Write spare o.value)) (frees_it : did f ≡ Do thread (ops.Free reg))
     (gives : did e ≡ Do thread (ops.Swap spare spare)) (takes : did g ≡ Do thread (ops.Swap spare reg))
-    (leads : LeadsOver (records_of t r) r regs (x ∷ y ∷ w ∷ f ∷ e ∷ g ∷ []) after) (free : IsSpareFree r before (x ∷ y ∷ w ∷ f ∷ e ∷ g ∷ rest) regs) where
+    (leads : LeadsOver (records_of t r) r regs (x ∷ y ∷ w ∷ f ∷ e ∷ g ∷ []) after)
+    (free : IsSpareFree r before (x ∷ y ∷ w ∷ f ∷ e ∷ g ∷ rest) regs) where
   abbrev pub a : Parts
   a = parts_of t r
 
@@ -163,26 +170,32 @@ module _ (t : Trace) (r : Told) (limits : IsWithinLimits t) (run : IsFileTold t 
       let S3 : AllRegs = with_thread S2 thread l3.next in
       let s3 = same_left S2 thread l3.next wr.same in
       let l4 = lead ps r S3 thread (ops.Free reg) f (e ∷ g ∷ []) after frees_it l3.rest in
-      let own4 : S3 thread reg ≡ Own o.slot = s3 thread reg ∙ (s2.other thread reg (λ both. apart_regs (sym both.1)) ∙ (s1 thread reg ∙ look.owned)) in
+      let own4 : S3 thread reg ≡ Own o.slot =
+      s3 thread reg ∙ (s2.other thread reg (λ both. apart_regs (sym both.1)) ∙ (s1 thread reg ∙ look.owned)) in
       let fr = frees o.slot (S3 thread) reg f l4.next own4 l4.row in
       let S4 : AllRegs = with_thread S3 thread l4.next in
       let s4 = sets_left S3 thread reg Freed l4.next fr.becomes in
       let l5 = lead ps r S4 thread (ops.Swap spare spare) e (g ∷ []) after gives l4.rest in
       let give_op = line_op e thread (ops.Swap spare spare) gives in
-      let ex5 = exchanges a h ((((before ++ x ∷ []) ++ y ∷ []) ++ w ∷ []) ++ f ∷ []) (g ∷ rest) e q4 spare spare (S4 thread) l5.next give_op l5.row in
-      let none : holds a h e.line spare ≡ held.Nothing = at_e spare ∙ free.cell x.line (stands_here a h before (y ∷ w ∷ f ∷ e ∷ g ∷ rest) x parts) in
+      let ex5 = exchanges a h ((((before ++ x ∷ []) ++ y ∷ []) ++ w ∷ []) ++ f ∷ []) (g ∷ rest) e q4 spare spare
+      (S4 thread) l5.next give_op l5.row in
+      let none : holds a h e.line spare ≡ held.Nothing =
+      at_e spare ∙ free.cell x.line (stands_here a h before (y ∷ w ∷ f ∷ e ∷ g ∷ rest) x parts) in
       let own5 : S4 thread spare ≡ Own new = s4.other thread spare (λ both. apart_regs both.1) ∙ (s3 thread spare ∙ s2.here) in
       let S5 : AllRegs = with_thread S4 thread l5.next in
-      let s5 = sets_left S4 thread spare Empty l5.next (subst (λ v. Becomes l5.next (with (S4 thread) spare (reg_of v))) none ex5.becomes) in
+      let s5 = sets_left S4 thread spare Empty l5.next
+      (subst (λ v. Becomes l5.next (with (S4 thread) spare (reg_of v))) none ex5.becomes) in
       let l6 = lead ps r S5 thread (ops.Swap spare reg) g [] after takes l5.rest in
       let take_op = line_op g thread (ops.Swap spare reg) takes in
       let b4 : List Played = (((before ++ x ∷ []) ++ y ∷ []) ++ w ∷ []) ++ f ∷ [] in
       let ex6 = exchanges a h (b4 ++ e ∷ []) rest g q5 spare reg (S5 thread) l6.next take_op l6.row in
       let freed6 : S5 thread reg ≡ Freed = s5.other thread reg (λ both. apart_regs (sym both.1)) ∙ s4.here in
       let at_g : holds a h g.line spare ≡ held.Own new =
-      holds_one a h (b4 ++ e ∷ []) (g ∷ rest) g.line (e.line + 1) spare q5 (stands_here a h (b4 ++ e ∷ []) rest g q5) (stands_next a h b4 (g ∷ rest) e q4)
+      holds_one a h (b4 ++ e ∷ []) (g ∷ rest) g.line (e.line + 1) spare q5 (stands_here a h (b4 ++ e ∷ []) rest g q5)
+      (stands_next a h b4 (g ∷ rest) e q4)
       ∙ (ex5.cell ∙ ap handle_of own5) in
-      let s6 = sets_left S5 thread reg (Own new) l6.next (subst (λ v. Becomes l6.next (with (S5 thread) reg (reg_of v))) at_g ex6.becomes) in
+      let s6 = sets_left S5 thread reg (Own new) l6.next
+      (subst (λ v. Becomes l6.next (with (S5 thread) reg (reg_of v))) at_g ex6.becomes) in
       let end : after ≡ with_thread S5 thread l6.next = l6.rest in
       record {
         new = new;
@@ -230,18 +243,22 @@ module _ (t : Trace) (r : Told) (limits : IsWithinLimits t) (run : IsFileTold t 
       }
 
   -- what each cell holds
-  six_cells : (n m k : ℕ) → StandsBetween n before (x ∷ y ∷ w ∷ f ∷ e ∷ g ∷ rest) → StandsBetween m (before ++ (x ∷ y ∷ w ∷ f ∷ e ∷ g ∷ [])) rest
+  six_cells : (n m k : ℕ) → StandsBetween n before (x ∷ y ∷ w ∷ f ∷ e ∷ g ∷ rest) →
+      StandsBetween m (before ++ (x ∷ y ∷ w ∷ f ∷ e ∷ g ∷ [])) rest
       → cell_before r m k ≡ cell_before r n k
   six_cells n m k first last =
       let b4 : List Played = (((before ++ x ∷ []) ++ y ∷ []) ++ w ∷ []) ++ f ∷ [] in
       let b6 : List Played = (b4 ++ e ∷ []) ++ g ∷ [] in
       let joined : before ++ (x ∷ y ∷ w ∷ f ∷ e ∷ g ∷ []) ≡ b6 =
       sym (append_assoc before (x ∷ []) (y ∷ w ∷ f ∷ e ∷ g ∷ [])) ∙ (sym (append_assoc (before ++ x ∷ []) (y ∷ []) (w ∷ f ∷ e ∷ g ∷ []))
-      ∙ (sym (append_assoc ((before ++ x ∷ []) ++ y ∷ []) (w ∷ []) (f ∷ e ∷ g ∷ [])) ∙ (sym (append_assoc (((before ++ x ∷ []) ++ y ∷ []) ++ w ∷ []) (f ∷ []) (e ∷ g ∷ []))
+      ∙ (sym (append_assoc ((before ++ x ∷ []) ++ y ∷ []) (w ∷ []) (f ∷ e ∷ g ∷ [])) ∙
+      (sym (append_assoc (((before ++ x ∷ []) ++ y ∷ []) ++ w ∷ []) (f ∷ []) (e ∷ g ∷ []))
       ∙ sym (append_assoc b4 (e ∷ []) (g ∷ []))))) in
-      let start = holds_one a h before (x ∷ y ∷ w ∷ f ∷ e ∷ g ∷ rest) n x.line k parts first (stands_here a h before (y ∷ w ∷ f ∷ e ∷ g ∷ rest) x parts) in
+      let start = holds_one a h before (x ∷ y ∷ w ∷ f ∷ e ∷ g ∷ rest) n x.line k parts first
+      (stands_here a h before (y ∷ w ∷ f ∷ e ∷ g ∷ rest) x parts) in
       let there : StandsBetween m b6 rest = subst (λ zs. StandsBetween m zs rest) joined last in
-      let end = holds_one a h b6 rest m (g.line + 1) k (parts_next a h (b4 ++ e ∷ []) rest g q5) there (stands_next a h (b4 ++ e ∷ []) rest g q5) in
+      let end = holds_one a h b6 rest m (g.line + 1) k (parts_next a h (b4 ++ e ∷ []) rest g q5) there
+      (stands_next a h (b4 ++ e ∷ []) rest g q5) in
       elim (cases_eq k spare) [
         | inl same ↦
             let P : ℕ → Type 0 = λ i. holds a h (g.line + 1) i ≡ holds a h x.line i in
@@ -250,7 +267,8 @@ module _ (t : Trace) (r : Told) (limits : IsWithinLimits t) (run : IsFileTold t 
         | inr other ↦
             let no_e = beside e (ops.Swap spare spare) k gives (λ i is. other (cell_of is)) in
             let no_g = beside g (ops.Swap spare reg) k takes (λ i is. other (cell_of is)) in
-            end ∙ (holds_same a h (b4 ++ e ∷ []) rest g q5 k no_g ∙ (holds_on a h b4 (g ∷ rest) e q4 g rest k refl no_e ∙ (at_e k ∙ sym start)))
+            end ∙ (holds_same a h (b4 ++ e ∷ []) rest g q5 k no_g ∙
+            (holds_on a h b4 (g ∷ rest) e q4 g rest k refl no_e ∙ (at_e k ∙ sym start)))
       ]
     where
       cell_of : {i j l : ℕ} → ops.Swap spare i ≡ ops.Swap l j → l ≡ spare
@@ -263,7 +281,8 @@ module _ (t : Trace) (r : Told) (limits : IsWithinLimits t) (run : IsFileTold t 
       let b6 : List Played = (((((before ++ x ∷ []) ++ y ∷ []) ++ w ∷ []) ++ f ∷ []) ++ e ∷ []) ++ g ∷ [] in
       let joined : before ++ (x ∷ y ∷ w ∷ f ∷ e ∷ g ∷ []) ≡ b6 =
       sym (append_assoc before (x ∷ []) (y ∷ w ∷ f ∷ e ∷ g ∷ [])) ∙ (sym (append_assoc (before ++ x ∷ []) (y ∷ []) (w ∷ f ∷ e ∷ g ∷ []))
-      ∙ (sym (append_assoc ((before ++ x ∷ []) ++ y ∷ []) (w ∷ []) (f ∷ e ∷ g ∷ [])) ∙ (sym (append_assoc (((before ++ x ∷ []) ++ y ∷ []) ++ w ∷ []) (f ∷ []) (e ∷ g ∷ []))
+      ∙ (sym (append_assoc ((before ++ x ∷ []) ++ y ∷ []) (w ∷ []) (f ∷ e ∷ g ∷ [])) ∙
+      (sym (append_assoc (((before ++ x ∷ []) ++ y ∷ []) ++ w ∷ []) (f ∷ []) (e ∷ g ∷ []))
       ∙ sym (append_assoc ((((before ++ x ∷ []) ++ y ∷ []) ++ w ∷ []) ++ f ∷ []) (e ∷ []) (g ∷ []))))) in
       record {
         new = new;
@@ -276,16 +295,26 @@ module _ (t : Trace) (r : Told) (limits : IsWithinLimits t) (run : IsFileTold t 
         content = subst (λ zs. IsContent (records_of t r) new (number_of (word_after zs new)) o.value) (sym joined)
             (new_content a h before rest x y w f e g o.slot new o.value m);
         looked = old_content a h before rest x y w f e g o.slot new o.value m;
-        freed = (f, m.freed, (3, omega arith, refl), line_op f thread (ops.Free reg) frees_it, m.free, m.free_slot, freed_alone a h before rest x y w f e g o.slot new o.value m);
+        freed = (
+          f,
+          m.freed,
+          (3, omega arith, refl),
+          line_op f thread (ops.Free reg) frees_it,
+          m.free,
+          m.free_slot,
+          freed_alone a h before rest x y w f e g o.slot new o.value m,
+        );
       }
 
 -- ---- the law
 
 pub moves_keep : MovesKeep
-moves_keep t r before xs rest regs after thread reg size limits run parts low (o, x, y, tail, look, needs, ask, room, moves, is) leads free =
+moves_keep t r before xs rest regs after thread reg size limits run parts low
+    (o, x, y, tail, look, needs, ask, room, moves, is) leads free =
     let k = four thread reg o.value tail moves in
     let all : xs ≡ x ∷ y ∷ k.w ∷ k.f ∷ k.e ∷ k.g ∷ [] = is ∙ ap (λ zs. x ∷ y ∷ zs) k.all in
     subst (λ zs. IsMoveKept (records_of t r) r thread reg before zs rest regs after) (sym all)
-    (kept_six t r limits run before rest x y k.w k.f k.e k.g (subst (λ zs. records_of t r ≡ before ++ (zs ++ rest)) all parts) regs after thread reg size low
+    (kept_six t r limits run before rest x y k.w k.f k.e k.g
+    (subst (λ zs. records_of t r ≡ before ++ (zs ++ rest)) all parts) regs after thread reg size low
     o look needs ask room k.writes k.frees k.gives k.takes (subst (λ zs. LeadsOver (records_of t r) r regs zs after) all leads)
     (subst (λ zs. IsSpareFree r before (zs ++ rest) regs) all free))

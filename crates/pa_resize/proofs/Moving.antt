@@ -45,7 +45,8 @@ four thread reg value [] is = absurd cc
 four thread reg value (w ∷ []) is = absurd cc
 four thread reg value (w ∷ f ∷ []) is = absurd cc
 four thread reg value (w ∷ f ∷ e ∷ []) is = absurd cc
-four thread reg value (w ∷ f ∷ e ∷ g ∷ []) is = record { w = w; f = f; e = e; g = g; all = refl; writes = cc; frees = cc; gives = cc; takes = cc }
+four thread reg value (w ∷ f ∷ e ∷ g ∷ []) is =
+    record { w = w; f = f; e = e; g = g; all = refl; writes = cc; frees = cc; gives = cc; takes = cc }
 four thread reg value (w ∷ f ∷ e ∷ g ∷ k ∷ more) is = absurd cc
 
 -- ---- words
@@ -56,13 +57,16 @@ issued_alone w can = omega (arith, can.0.0, can.0.1)
 
 module _ (a : Parts) (h : IsFiled a) where
   -- after a record that looks at a slot, or reports none, each word is as before
-  pub looked_word : (before : List Played) (x : Played) (m : Mark) (s : SlotName) → mark_of x ≡ Some m → m.step ≡ None → word_after (before ++ x ∷ []) s ≡ word_after before s
+  pub looked_word : (before : List Played) (x : Played) (m : Mark) (s : SlotName) → mark_of x ≡ Some m → m.step ≡ None →
+      word_after (before ++ x ∷ []) s ≡ word_after before s
   looked_word before x m s is look = elim (same_slot_cases m.slot s) [
-    | inl e ↦ subst (λ z. word_after (before ++ x ∷ []) z ≡ word_after before z) e (word_here before x m is ∙ ap (λ o. stepped_by o (word_after before m.slot)) look)
+    | inl e ↦ subst (λ z. word_after (before ++ x ∷ []) z ≡ word_after before z) e
+        (word_here before x m is ∙ ap (λ o. stepped_by o (word_after before m.slot)) look)
     | inr ne ↦ word_other before x m s is ne
   ]
 
--- What six records leave that read the first word of a slot, made another one, wrote the value there, freed the first slot, and made two exchanges.
+-- What six records leave that read the first word of a slot, made another one, wrote the value there, freed the first slot, and made two
+-- exchanges.
 pub record Move (a : Parts) (before rest : List Played) (x y w f e g : Played) (old new : SlotName) (value : ℕ) : Type 0 where
   pub parts : a.ps ≡ before ++ x ∷ y ∷ w ∷ f ∷ e ∷ g ∷ rest
   pub seen : Seen
@@ -89,7 +93,8 @@ pub record Move (a : Parts) (before rest : List Played) (x y w f e g : Played) (
   pub give : (entry : ℕ) × (e.answer ≡ Swapped entry)
   pub take : (entry : ℕ) × (g.answer ≡ Swapped entry)
 
-module _ (a : Parts) (h : IsFiled a) (before rest : List Played) (x y w f e g : Played) (old new : SlotName) (value : ℕ) (m : Move a before rest x y w f e g old new value) where
+module _ (a : Parts) (h : IsFiled a) (before rest : List Played) (x y w f e g : Played) (old new : SlotName) (value : ℕ)
+    (m : Move a before rest x y w f e g old new value) where
   abbrev pub b1 : List Played
   b1 = before ++ x ∷ []
 
@@ -133,7 +138,8 @@ module _ (a : Parts) (h : IsFiled a) (before rest : List Played) (x y w f e g : 
   free_mark = ap (λ ans. mark_of_answer f.line f.op ans) m.free ∙ ap (λ o. Some (mark_at f.line m.freed (step_of o))) m.free_op
 
   found_first : m.seen.found.0 ≡ word_after before old
-  found_first = found_is a before (y ∷ w ∷ f ∷ e ∷ g ∷ rest) x (mark_at x.line m.seen None) h m.parts look_mark ∙ ap (word_after before) m.look_slot
+  found_first =
+      found_is a before (y ∷ w ∷ f ∷ e ∷ g ∷ rest) x (mark_at x.line m.seen None) h m.parts look_mark ∙ ap (word_after before) m.look_slot
 
   -- the old slot's word stays at the look
   word_one : (s : SlotName) → word_after b1 s ≡ word_after before s
@@ -153,7 +159,8 @@ module _ (a : Parts) (h : IsFiled a) (before rest : List Played) (x y w f e g : 
       omega (arith, held, can_issue.0.0)
 
   word_two : word_after b2 new ≡ stepped steps.Issue (word_after b1 new)
-  word_two = subst (λ s. word_after b2 s ≡ stepped steps.Issue (word_after b1 s)) m.make_slot (word_here b1 y (mark_at y.line m.made (Some steps.Issue)) make_mark)
+  word_two = subst (λ s. word_after b2 s ≡ stepped steps.Issue (word_after b1 s)) m.make_slot
+      (word_here b1 y (mark_at y.line m.made (Some steps.Issue)) make_mark)
 
   -- no raw_ptr points to the new slot, so it was written
   pub written : w.answer ≡ Done m.wrote
@@ -171,7 +178,8 @@ module _ (a : Parts) (h : IsFiled a) (before rest : List Played) (x y w f e g : 
   write_mark = ap (λ ans. mark_of_answer w.line w.op ans) written ∙ ap (λ o. Some (mark_at w.line m.wrote (step_of o))) m.write_op
 
   found_written : m.wrote.found.0 ≡ word_after b2 new
-  found_written = found_is a b2 (f ∷ e ∷ g ∷ rest) w (mark_at w.line m.wrote (Some steps.Write)) h p2 write_mark ∙ ap (word_after b2) m.write_slot
+  found_written =
+      found_is a b2 (f ∷ e ∷ g ∷ rest) w (mark_at w.line m.wrote (Some steps.Write)) h p2 write_mark ∙ ap (word_after b2) m.write_slot
 
   -- the old slot's word is still the one that was looked at when it is freed
   old_word : word_after b3 old ≡ m.seen.found.0
@@ -182,7 +190,8 @@ module _ (a : Parts) (h : IsFiled a) (before rest : List Played) (x y w f e g : 
 
   pub freed_alone : refs_of m.freed.found.0 ≡ 0
   freed_alone =
-      let found = found_is a b3 (e ∷ g ∷ rest) f (mark_at f.line m.freed (Some steps.Free)) h p3 free_mark ∙ ap (word_after b3) m.free_slot in
+      let found = found_is a b3 (e ∷ g ∷ rest) f (mark_at f.line m.freed (Some steps.Free)) h p3 free_mark ∙
+      ap (word_after b3) m.free_slot in
       ap refs_of (found ∙ old_word) ∙ m.look_alone
 
   -- the new slot's word is that of the write to the end
@@ -193,19 +202,23 @@ module _ (a : Parts) (h : IsFiled a) (before rest : List Played) (x y w f e g : 
       word_same b5 g new (ap (λ ans. mark_of_answer g.line g.op ans) takes)
       ∙ (word_same b4 e new (ap (λ ans. mark_of_answer e.line e.op ans) gives)
       ∙ (word_other b3 f (mark_at f.line m.freed (Some steps.Free)) new free_mark (λ same. apart (sym same ∙ m.free_slot))
-      ∙ subst (λ s. word_after b3 s ≡ stepped steps.Write (word_after b2 s)) m.write_slot (word_here b2 w (mark_at w.line m.wrote (Some steps.Write)) write_mark)))
+      ∙ subst (λ s. word_after b3 s ≡ stepped steps.Write (word_after b2 s)) m.write_slot
+      (word_here b2 w (mark_at w.line m.wrote (Some steps.Write)) write_mark)))
 
   pub new_content : IsContent a.ps new (number_of (word_after b6 new)) value
   new_content =
       let among = in_middle b2 (f ∷ e ∷ g ∷ rest) a.ps w p2 in
-      let can = subst (CanStep steps.Write) found_written (step_can a b2 (f ∷ e ∷ g ∷ rest) w (mark_at w.line m.wrote (Some steps.Write)) steps.Write h p2 write_mark refl) in
+      let can = subst (CanStep steps.Write) found_written
+      (step_can a b2 (f ∷ e ∷ g ∷ rest) w (mark_at w.line m.wrote (Some steps.Write)) steps.Write h p2 write_mark refl) in
       let number : number_of (word_after b6 new) ≡ number_of m.wrote.found.0 + 1 =
       ap number_of end_word ∙ (number_stepped steps.Write (word_after b2 new) can ∙ ap (λ u. number_of u + 1) (sym found_written)) in
       let there = content_written a h w m.wrote spare value among m.write_op written in
-      subst (λ n. IsContent a.ps new n value) (sym number) (subst (λ s. IsContent a.ps s (number_of m.wrote.found.0 + 1) value) m.write_slot there)
+      subst (λ n. IsContent a.ps new n value) (sym number)
+      (subst (λ s. IsContent a.ps s (number_of m.wrote.found.0 + 1) value) m.write_slot there)
 
   pub old_content : IsContent a.ps old (number_of (word_after before old)) value
   old_content =
       let among = in_middle before (y ∷ w ∷ f ∷ e ∷ g ∷ rest) a.ps x m.parts in
       let read : IsContent a.ps m.seen.slot (number_of m.seen.found.0) value = subst (IsReadExact a.ps) m.look (h.order.contents x among) in
-      subst (λ u. IsContent a.ps old (number_of u) value) found_first (subst (λ s. IsContent a.ps s (number_of m.seen.found.0) value) m.look_slot read)
+      subst (λ u. IsContent a.ps old (number_of u) value) found_first
+      (subst (λ s. IsContent a.ps s (number_of m.seen.found.0) value) m.look_slot read)

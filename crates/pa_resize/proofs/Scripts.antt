@@ -28,16 +28,19 @@ pieces_push ps r before (y ∷ xs) x all last = (
       (subst (λ ys. IsPiece ps r ys x) (sym (append_assoc before y.records (flat_map (λ (z : ScriptPiece). z.records) xs))) last),
 )
 
-verdicts_push : (n : ℕ) (xs : List ScriptPiece) (x : ScriptPiece) → verdicts_of n (xs ++ x ∷ []) ≡ verdicts_of n xs ++ verdict_noted (n + length xs) x.verdict
+verdicts_push : (n : ℕ) (xs : List ScriptPiece) (x : ScriptPiece) →
+    verdicts_of n (xs ++ x ∷ []) ≡ verdicts_of n xs ++ verdict_noted (n + length xs) x.verdict
 verdicts_push n [] x =
     let e : n ≡ n + 0 = omega arith in
     append-nil (verdict_noted n x.verdict) ∙ ap (λ k. verdict_noted k x.verdict) e
 verdicts_push n (y ∷ xs) x =
     let e : n + 1 + length xs ≡ n + length (y ∷ xs) = omega arith in
-    ap (λ zs. verdict_noted n y.verdict ++ zs) (verdicts_push (n + 1) xs x ∙ ap (λ k. verdicts_of (n + 1) xs ++ verdict_noted k x.verdict) e)
+    ap (λ zs. verdict_noted n y.verdict ++ zs)
+    (verdicts_push (n + 1) xs x ∙ ap (λ k. verdicts_of (n + 1) xs ++ verdict_noted k x.verdict) e)
     ∙ sym (append_assoc (verdict_noted n y.verdict) (verdicts_of (n + 1) xs) (verdict_noted (n + length (y ∷ xs)) x.verdict))
 
-flat_push : {A : Type 0} (f : ScriptPiece → List A) (xs : List ScriptPiece) (x : ScriptPiece) → flat_map f (xs ++ x ∷ []) ≡ flat_map f xs ++ f x
+flat_push : {A : Type 0} (f : ScriptPiece → List A) (xs : List ScriptPiece) (x : ScriptPiece) →
+    flat_map f (xs ++ x ∷ []) ≡ flat_map f xs ++ f x
 flat_push f xs x = flat_map-append f xs (x ∷ []) ∙ ap (λ ys. flat_map f xs ++ ys) (append-nil (f x))
 
 pub script_begins : (head : Head) (p : Player) → IsNew head p → IsScriptPlayed head [] p []
@@ -53,8 +56,10 @@ script_begins head p new = record {
   verdicts = refl;
 }
 
-pub script_more : (head : Head) (ls : List ScriptLine) (p q : Player) (vs after : List (ℕ × Verdict)) (l : ScriptLine) (n : ℕ) (verdict : Option Verdict)
-    → IsScriptPlayed head ls p vs → PlaysScriptLine p l verdict q → n ≡ length ls + 2 → after ≡ vs ++ verdict_noted n verdict → IsScriptPlayed head (ls ++ l ∷ []) q after
+pub script_more : (head : Head) (ls : List ScriptLine) (p q : Player) (vs after : List (ℕ × Verdict)) (l : ScriptLine) (n : ℕ)
+    (verdict : Option Verdict)
+    → IsScriptPlayed head ls p vs → PlaysScriptLine p l verdict q → n ≡ length ls + 2 → after ≡ vs ++ verdict_noted n verdict →
+    IsScriptPlayed head (ls ++ l ∷ []) q after
 script_more head ls p q vs after l n verdict h step at noted_so =
     let x : ScriptPiece = step.piece in
     let xs : List ScriptPiece = h.pieces in
@@ -74,7 +79,8 @@ script_more head ls p q vs after l n verdict h step at noted_so =
           ∙ ap (λ v. verdicts_of 2 xs ++ verdict_noted (2 + length xs) v) (sym step.verdict) ∙ sym (verdicts_push 2 xs x);
     }
 
-pub script_ends : (s : Script) (p : Player) (t : Trace) (run : Run) (vs : List (ℕ × Verdict)) → IsScriptPlayed (script_head s) s.lines p vs → IsFinished p t run → IsExpanded s t run vs
+pub script_ends : (s : Script) (p : Player) (t : Trace) (run : Run) (vs : List (ℕ × Verdict)) →
+    IsScriptPlayed (script_head s) s.lines p vs → IsFinished p t run → IsExpanded s t run vs
 script_ends s p t run vs h end =
     let at : t ≡ trace_so_far p = end.trace in
     record {
@@ -93,7 +99,8 @@ script_ends s p t run vs h end =
 
 -- ---- by the index of a line
 
-module _ (s : Script) (i : ℕ) (p : Player) (line d : ScriptLine) (vs : List (ℕ × Verdict)) (within : IsScriptWithin s) (lt : i < length s.lines) (is : line ≡ get_or s.lines i d)
+module _ (s : Script) (i : ℕ) (p : Player) (line d : ScriptLine) (vs : List (ℕ × Verdict)) (within : IsScriptWithin s)
+    (lt : i < length s.lines) (is : line ≡ get_or s.lines i d)
     (h : IsScriptPlayed (script_head s) (take i s.lines) p vs) where
   pub next_few : length p.lines.items + 6 ≤ 65535
   next_few = let few = within.few in omega (arith, h.few, length-take i s.lines, few, lt)
@@ -104,14 +111,17 @@ module _ (s : Script) (i : ℕ) (p : Player) (line d : ScriptLine) (vs : List (�
       let one : W line = subst W (sym is) (All-get_or W s.lines i d lt (All-from_recursion W s.lines within.lines)) in
       subst (λ (k : Head). IsScriptLineWithin k.partitions k.threads line) (sym h.head) one
 
-  pub next_played : (q : Player) (after : List (ℕ × Verdict)) (n : ℕ) (verdict : Option Verdict) → PlaysScriptLine p line verdict q → n ≡ i + 2 → after ≡ vs ++ verdict_noted n verdict
+  pub next_played : (q : Player) (after : List (ℕ × Verdict)) (n : ℕ) (verdict : Option Verdict) → PlaysScriptLine p line verdict q →
+      n ≡ i + 2 → after ≡ vs ++ verdict_noted n verdict
       → IsScriptPlayed (script_head s) (take (i + 1) s.lines) q after
   next_played q after n verdict step at more =
       let number : n ≡ length (take i s.lines) + 2 = omega (arith, at, length-take i s.lines, lt) in
-      let whole : take (i + 1) s.lines ≡ take i s.lines ++ line ∷ [] = take_more s.lines i d lt ∙ ap (λ z. take i s.lines ++ z ∷ []) (sym is) in
+      let whole : take (i + 1) s.lines ≡ take i s.lines ++ line ∷ [] =
+      take_more s.lines i d lt ∙ ap (λ z. take i s.lines ++ z ∷ []) (sym is) in
       subst (λ ls. IsScriptPlayed (script_head s) ls q after) (sym whole)
       (script_more (script_head s) (take i s.lines) p q vs after line n verdict h step number more)
 
-pub all_played : (s : Script) (i : ℕ) (p : Player) (vs : List (ℕ × Verdict)) → length s.lines ≤ i → IsScriptPlayed (script_head s) (take i s.lines) p vs
+pub all_played : (s : Script) (i : ℕ) (p : Player) (vs : List (ℕ × Verdict)) → length s.lines ≤ i →
+    IsScriptPlayed (script_head s) (take i s.lines) p vs
     → IsScriptPlayed (script_head s) s.lines p vs
 all_played s i p vs past h = subst (λ ls. IsScriptPlayed (script_head s) ls p vs) (take_all i s.lines past) h

@@ -28,7 +28,8 @@ pub begun_length : (a b : List Made) → IsBeginning a b → length a ≤ length
 begun_length a b (rest, e) = let k = length-append a rest in let n = ap length e in omega arith
 
 -- a seat that shows what it has seen can still lend its stake, the same one
-pub shown_lends : (v mid root root_now : View) → IsShown root root_now v mid → CanLend v → CanLend mid × (least_stake mid.stakes ≡ least_stake v.stakes)
+pub shown_lends : (v mid root root_now : View) → IsShown root root_now v mid → CanLend v → CanLend mid ×
+    (least_stake mid.stakes ≡ least_stake v.stakes)
 shown_lends v mid root root_now shown can = lends_again v mid (shown.taker 0).keeps can
 
 pub asked_is : (line p count index : ℕ) (found : Option ℕ) (v root root_now : View) (mid after : Share) (pool pool_now : PoolValue) →
@@ -52,7 +53,8 @@ asked_is line p count index found v root root_now mid after pool pool_now shown 
     ap (map (λ (n : Made). n.numbers)) whole ∙ (map-append (λ (n : Made). n.numbers) (list_of 4 pool.view) (m ∷ [])
     ∙ (ap (λ ns. ns ++ m.numbers ∷ []) kept.list ∙ (ap (λ ns. map pool_numbers pool.entries ++ ns ∷ []) entered.says
     ∙ (sym (map-append pool_numbers pool.entries (e ∷ [])) ∙ sym (ap (map pool_numbers) entered.entries))))) in
-    let lends : Lends r (Entered 4 m ∷ []) mid.view after.view = subst (λ k. Lends k (Entered 4 m ∷ []) mid.view after.view) least entered.lends in
+    let lends : Lends r (Entered 4 m ∷ []) mid.view after.view =
+    subst (λ k. Lends k (Entered 4 m ∷ []) mid.view after.view) least entered.lends in
     record {
       made = m;
       is_made = record {
@@ -65,7 +67,8 @@ asked_is line p count index found v root root_now mid after pool pool_now shown 
         known = entered.known;
       };
       lends = on r [] (Entered 4 m ∷ []) v mid.view after.view (shown.taker r) lends;
-      stands = subst (λ es. slice_get es index ≡ Some e) (sym (pools_are_read.list (list_of 4 after.view) pool_now.entries numbers)) taken.stands;
+      stands = subst (λ es. slice_get es index ≡ Some e)
+          (sym (pools_are_read.list (list_of 4 after.view) pool_now.entries numbers)) taken.stands;
       later = omega arith;
     }
 
@@ -81,7 +84,8 @@ replayed_supers [] s = refl
 replayed_supers (e ∷ es) s = replayed_supers es (pool_next e.act s) ∙ next_supers e.act s
 
 -- a region has 64 super pages at most
-pub run_low : (count first : ℕ) (pool : PoolValue) → IsPoolKept pool → IsLowest (pool_after pool.entries pool.supers) count (Some first) → first + count ≤ 64
+pub run_low : (count first : ℕ) (pool : PoolValue) → IsPoolKept pool → IsLowest (pool_after pool.entries pool.supers) count (Some first) →
+    first + count ≤ 64
 run_low count first pool kept lowest =
     let supers = replayed_supers pool.entries (new_pool pool.supers) in
     let few = kept.few in

@@ -91,7 +91,8 @@ free_only (t ∷ ts) v u free = elim (free_only ts (after_cut t v) u free) [
 ]
 
 -- a byte that lies in none of them has its floors
-pub low_stays : (ts : List Title) (v : View) (b n : ℕ) → ((t : Title) → Contains ts t → Covers t b → ⊥) → low_of (after_cuts ts v) b n ≡ low_of v b n
+pub low_stays : (ts : List Title) (v : View) (b n : ℕ) → ((t : Title) → Contains ts t → Covers t b → ⊥) →
+    low_of (after_cuts ts v) b n ≡ low_of v b n
 low_stays [] v b n away = refl
 low_stays (t ∷ ts) v b n away =
     low_stays ts (after_cut t v) b n (λ u among. away u (later_in t u ts among)) ∙ cut_leaves_others t v b n (away t (first_in t ts))
@@ -105,7 +106,8 @@ can_cut_all (t ∷ ts) v each apart once =
     let R : Title → Title → Type 0 = λ a b. a ≢ b in (
       each t (first_in t ts),
       can_cut_all ts (after_cut t v)
-          (λ u among. cut_next t u v (each u (later_in t u ts among)) (apart t u (first_in t ts) (later_in t u ts among) (pairs_head R t u ts once among)))
+          (λ u among. cut_next t u v (each u (later_in t u ts among))
+          (apart t u (first_in t ts) (later_in t u ts among) (pairs_head R t u ts once among)))
           (λ a b has has'. apart a b (later_in t a ts has) (later_in t b ts has'))
           (pairs_tail R t ts once),
     )

@@ -57,8 +57,10 @@ module _ (t : Title) (w : View) (has : HasOnly (t ∷ []) w) where
         (let e = parts.unclean in let d = keeps.unclean in omega arith),
       )
 
-  pub title_back : (n number : ℕ) (v mid after root shown u c : View) → IsShown root shown v mid → CanLend v → IsAware shown → IsAware w → IsAware u → u ≡ united shown w →
-      length shown.words ≡ length w.words → IsWellFormed n t → n ≤ 16777216 → number ≡ seen_of u t → IsUncutWith (least_stake mid.stakes) t mid after u c →
+  pub title_back : (n number : ℕ) (v mid after root shown u c : View) → IsShown root shown v mid → CanLend v → IsAware shown → IsAware w →
+      IsAware u → u ≡ united shown w →
+      length shown.words ≡ length w.words → IsWellFormed n t → n ≤ 16777216 → number ≡ seen_of u t →
+      IsUncutWith (least_stake mid.stakes) t mid after u c →
       IsTitleBack (least_stake v.stakes) t number v after root c w
   title_back n number v mid after root shown u c view can aware note_aware both is long well small numbered uncut =
       let (again, least) = shown_lends v mid root shown view can in
@@ -84,8 +86,10 @@ module _ (t : Title) (w : View) (has : HasOnly (t ∷ []) w) where
 
 -- The pool's entry that says what was given back: where it is, that it is new, and that the root has seen it.
 pub given_is : (line p taken first count index : ℕ) (seat seat_now : Share) (after root root_now : View) (pool pool_now : PoolValue) →
-    IsGivenBack line p taken first count index seat seat_now pool pool_now → CanLend seat.view → IsAware seat.view → IsAware seat_now.view → IsPoolKept pool →
-    IsShown seat_now.view after root root_now → IsGivenFor (least_stake seat.view.stakes) line p first count index seat.view after root root_now
+    IsGivenBack line p taken first count index seat seat_now pool pool_now → CanLend seat.view → IsAware seat.view → IsAware seat_now.view →
+    IsPoolKept pool →
+    IsShown seat_now.view after root root_now →
+    IsGivenFor (least_stake seat.view.stakes) line p first count index seat.view after root root_now
 given_is line p taken first count index seat seat_now after root root_now pool pool_now given can aware now kept shown =
     let r = least_stake seat.view.stakes in
     let e : PoolEntry = give_entry line p count first in

@@ -21,10 +21,12 @@ pub free_there : (v w : View) (titles : List Title) → HasOnly titles w → (t 
 free_there v w titles has t among = let here = (has.frees t).1 among in let e = free_both v w t in omega arith
 
 -- equal numbers mean the same
-pub same_numbers : (v w : View) (ts : List Title) → ((t : Title) → Contains ts t → seen_of v t ≡ seen_of w t) → numbered_by v ts ≡ numbered_by w ts
+pub same_numbers : (v w : View) (ts : List Title) → ((t : Title) → Contains ts t → seen_of v t ≡ seen_of w t) →
+    numbered_by v ts ≡ numbered_by w ts
 same_numbers v w [] same = refl
 same_numbers v w (t ∷ ts) same =
-    let here : at_number_seen v t ≡ at_number_seen w t = ap (λ (n : ℕ). record (at_number_seen w t) { number = n }) (same t (first_in t ts)) in
+    let here : at_number_seen v t ≡ at_number_seen w t =
+    ap (λ (n : ℕ). record (at_number_seen w t) { number = n }) (same t (first_in t ts)) in
     let rest = same_numbers v w ts (λ u among. same u (later_in t u ts among)) in
     ap (λ (x : Numbered). x ∷ numbered_by v ts) here ∙ ap (λ xs. at_number_seen w t ∷ xs) rest
 
@@ -41,4 +43,13 @@ pub can_come : (p : ℕ) (s : RootState) (w x : View) (titles : List Title) → 
     x ≡ united s.view w → length s.view.words ≡ length w.words → HasOnly titles w → AllPairs ◌≢◌ titles →
     ((t : Title) → Contains titles t → HasSeenFill p w t) → CanComeBack p s w titles
 can_come p s w x titles sound aware note_aware both e long has once named =
-    record { sound = sound; aware = aware; note_aware = note_aware; both_aware = subst (λ y. IsAware y) e both; long = long; has = has; once = once; named = named }
+    record {
+      sound = sound;
+      aware = aware;
+      note_aware = note_aware;
+      both_aware = subst (λ y. IsAware y) e both;
+      long = long;
+      has = has;
+      once = once;
+      named = named;
+    }

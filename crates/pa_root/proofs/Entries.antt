@@ -19,7 +19,8 @@ use Rattle.pa_region.proofs.LendBack.{begins_on, keeps_on}
 use Rattle.pa_record.specs.Numbers.{root_numbers, pool_numbers}
 use Rattle.pa_root.specs.Making.{IsEnteredAt, EntriesAreTold, EntriesAreNew}
 
-later : (j r k : ℕ) (numbers : List ℕ) (v x after : View) (m : Made) → IsEnteredAt j r k numbers v x m → Keeps x after → IsEnteredAt j r k numbers v after m
+later : (j r k : ℕ) (numbers : List ℕ) (v x after : View) (m : Made) → IsEnteredAt j r k numbers v x m → Keeps x after →
+    IsEnteredAt j r k numbers v after m
 later j r k numbers v x after m e keeps = record {
   stake = e.stake;
   says = e.says;
@@ -30,7 +31,8 @@ later j r k numbers v x after m e keeps = record {
   known = λ t. let a = e.known t in let b = keeps.seen t in omega arith;
 }
 
-sooner : (j r k : ℕ) (numbers : List ℕ) (v x after : View) (m : Made) → Keeps v x → IsEnteredAt j r k numbers x after m → IsEnteredAt j r k numbers v after m
+sooner : (j r k : ℕ) (numbers : List ℕ) (v x after : View) (m : Made) → Keeps v x → IsEnteredAt j r k numbers x after m →
+    IsEnteredAt j r k numbers v after m
 sooner j r k numbers v x after m keeps e = record {
   stake = e.stake;
   says = e.says;
@@ -91,7 +93,8 @@ entries_are_told = record {
           known = here.known;
         };
     between = λ t. let a = is_pool.known t in let b = e.before t in omega arith;
-    lends = subst (λ l. Lends r l v after) (append_assoc first (Entered 4 m ∷ []) (Entered p n ∷ [])) (on r (first ++ Entered 4 m ∷ []) (Entered p n ∷ []) v x after lends e.lends);
+    lends = subst (λ l. Lends r l v after) (append_assoc first (Entered 4 m ∷ []) (Entered p n ∷ []))
+        (on r (first ++ Entered 4 m ∷ []) (Entered p n ∷ []) v x after lends e.lends);
   };
 }
 
@@ -111,11 +114,13 @@ entry_is_new r k v after before m aware now has list lends = elim (cases_lt (len
   | inl longer ↦
       let long : length (list_of k after) ≡ length before + 1 = ap length list ∙ length-append before (m ∷ []) in
       let same : list_of k v ≡ list_of k after = beginning_whole (list_of k v) (list_of k after) (lends.keeps.lists k) (omega arith) in
-      let logged : log_of r after ≡ log_of r v ++ Entered k m ∷ [] = last_logged r (log_of r v) (log_of r after) (Entered k m ∷ []) (lends.logs r) in
+      let logged : log_of r after ≡ log_of r v ++ Entered k m ∷ [] =
+      last_logged r (log_of r v) (log_of r after) (Entered k m ∷ []) (lends.logs r) in
       let made = stakes_made v r k aware has in
       let then' = stakes_made after r k now (subst (λ n. 0 < n) (sym (lends.keeps.stakes r)) has) in
       let one : made_with r (list_of k after) ≡ entered_in k (log_of r v) ++ m ∷ [] =
-      then' ∙ ap (entered_in k) logged ∙ entered_more k (log_of r v) (Entered k m) ∙ ap (λ l. entered_in k (log_of r v) ++ l) (one_entered k m) in
+      then' ∙ ap (entered_in k) logged ∙ entered_more k (log_of r v) (Entered k m) ∙
+      ap (λ l. entered_in k (log_of r v) ++ l) (one_entered k m) in
       let both : length (made_with r (list_of k v)) ≡ length (entered_in k (log_of r v)) + 1 =
       ap (λ l. length (made_with r l)) same ∙ ap length one ∙ length-append (entered_in k (log_of r v)) (m ∷ []) in
       let first = ap length made in

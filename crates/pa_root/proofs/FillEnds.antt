@@ -33,18 +33,27 @@ ready_turn None s u = refl
 ready_turn (Some j) s u = refl
 
 -- the caller lends the same stake once the pool was asked
-pub same_stake : (r p line : ℕ) (asked : Option ℕ) (v a : View) → AskedIf r p line asked v a → CanLend v → least_stake a.stakes ≡ least_stake v.stakes
+pub same_stake : (r p line : ℕ) (asked : Option ℕ) (v a : View) → AskedIf r p line asked v a → CanLend v →
+    least_stake a.stakes ≡ least_stake v.stakes
 same_stake r p line None v a same can = ap (λ (x : View). least_stake x.stakes) same
 same_stake r p line (Some index) v a told can = (lends_again v a told.lends.keeps can).1
 
 enters_for : (r p line : ℕ) (asked : Option ℕ) (act : RootAct) (v a after host host_now : View) (m : Made) → AskedIf r p line asked v a →
-    IsNoted r p (root_numbers (root_entry line act)) a after host host_now m → (first : ℕ) × EntersFor (length (list_of p host)) r p line asked (Some first) act v after
-enters_for r p line None act v a after host host_now m same noted =
-    (0, subst (λ z. EntersOne (length (list_of p host)) r p (root_entry line act) z after) same (entries_are_told.one r p (root_entry line act) a after host host_now m noted))
-enters_for r p line (Some index) act v a after host host_now m told noted =
-    (told.first, entries_are_told.two index r p [] (take_entry line p 1 (Some told.first)) (root_entry line act) v a after host host_now told.made m told.is_made told.lends noted)
+    IsNoted r p (root_numbers (root_entry line act)) a after host host_now m → (first : ℕ) ×
+    EntersFor (length (list_of p host)) r p line asked (Some first) act v after
+enters_for r p line None act v a after host host_now m same noted = (
+  0,
+  subst (λ z. EntersOne (length (list_of p host)) r p (root_entry line act) z after) same
+      (entries_are_told.one r p (root_entry line act) a after host host_now m noted),
+)
+enters_for r p line (Some index) act v a after host host_now m told noted = (
+  told.first,
+  entries_are_told.two index r p [] (take_entry line p 1 (Some told.first))
+      (root_entry line act) v a after host host_now told.made m told.is_made told.lends noted,
+)
 
-module _ (p line class : ℕ) (asked : Option ℕ) (s : RootState) (u left note x : View) (titles : List Title) (slots : List Numbered) (root : Root) (m : Made)
+module _ (p line class : ℕ) (asked : Option ℕ) (s : RootState) (u left note x : View) (titles : List Title) (slots : List Numbered)
+    (root : Root) (m : Made)
     (out : IsTakenOut p class asked s u left note titles slots root) where
   abbrev entry : RootEntry
   entry = root_entry line (Fill class asked slots)
@@ -61,11 +70,14 @@ module _ (p line class : ℕ) (asked : Option ℕ) (s : RootState) (u left note 
       let more : HasEntryMore p entry y x = subst (λ l. HasEntryMore p entry l x) left_is (m, list, says) in
       let y_aware = subst IsAware left_is left_aware in
       let y_keeps = subst (λ l. Keeps l x) left_is keeps in
-      let sound : IsRootSound p (after_entry x entry s) = taken.fills_keep p line class asked s u c x out.new entry out.cut is aware y_aware y_keeps more in
-      let next = taken.root_is p class asked s u c out.new out.cut line x aware y_aware y_keeps (subst (λ e. HasEntryMore p e y x) is more) in
+      let sound : IsRootSound p (after_entry x entry s) =
+      taken.fills_keep p line class asked s u c x out.new entry out.cut is aware y_aware y_keeps more in
+      let next = taken.root_is p class asked s u c out.new out.cut line x aware y_aware y_keeps
+      (subst (λ e. HasEntryMore p e y x) is more) in
       subst (λ z. IsRootSound p (record { view = x; journal = s.journal ++ entry ∷ []; root = z })) (next ∙ sym out.root_is) sound
 
-  pub fill_tells : (r : ℕ) (v a after : View) (s_now : RootState) → AskedIf r p line asked v a → IsNoted r p (root_numbers entry) a after left x m →
+  pub fill_tells : (r : ℕ) (v a after : View) (s_now : RootState) → AskedIf r p line asked v a →
+      IsNoted r p (root_numbers entry) a after left x m →
       s_now.journal ≡ s.journal ++ entry ∷ [] → FillTells r p line class v after note titles s s_now
   fill_tells r v a after s_now told noted journal =
       let numbers = numbers_are p class asked s u left note titles slots root out in
@@ -80,7 +92,8 @@ module _ (p line class : ℕ) (asked : Option ℕ) (s : RootState) (u left note 
           index = length (list_of p left);
           asked = asked;
           first = first;
-          enters = subst (λ ns. EntersFor (length (list_of p left)) r p line asked (Some first) (Fill class asked ns) v after) numbers enters;
+          enters = subst (λ ns. EntersFor (length (list_of p left)) r p line asked (Some first) (Fill class asked ns) v after) numbers
+              enters;
         };
         journal = journal ∙ ap (λ ns. s.journal ++ root_entry line (Fill class asked ns) ∷ []) numbers;
       }

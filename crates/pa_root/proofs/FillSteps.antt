@@ -24,7 +24,8 @@ use Rattle.pa_root.proofs.Parcels.{KeepsBut, keeps_but}
 use Rattle.pa_root.proofs.Taken as taken
 
 -- a root that is ready has a span for the class
-by_asked : (o : Option ℕ) (class : ℕ) (s : RootState) (u : View) → class < 170 → Asked (pools_seen u) class o s.root → IsSome (span_for class (ready_root o s u))
+by_asked : (o : Option ℕ) (class : ℕ) (s : RootState) (u : View) → class < 170 → Asked (pools_seen u) class o s.root →
+    IsSome (span_for class (ready_root o s u))
 by_asked None class s u real asks = asks
 by_asked (Some j) class s u real asks = fill_keeps.finds_new class (super_of (act_at (pools_seen u) j)) j s.root real
 
@@ -42,7 +43,8 @@ module _ (p class : ℕ) (asked : Option ℕ) (s : RootState) (u left note : Vie
   hosts_left =
       let once = taken.once p class asked s u out.between out.new out.cut in
       let free = taken.taken_free p class asked s u out.between out.new out.cut in
-      let but : KeepsBut f.titles out.between (left_after (frees_parcel f.titles) out.between) = keeps_but f.titles out.between once free out.cut.aware.free_once in
+      let but : KeepsBut f.titles out.between (left_after (frees_parcel f.titles) out.between) =
+      keeps_but f.titles out.between once free out.cut.aware.free_once in
       let beside : IsBesideCuts u out.between = taken.beside p class asked s u out.between out.new out.cut in
       let ((none, clean), has) = out.cut.ready.hosts in
       let y : HostsKeeper p (left_after (frees_parcel f.titles) out.between) = (

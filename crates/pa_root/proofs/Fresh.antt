@@ -27,7 +27,8 @@ use Rattle.pa_legal.proofs.Growing.{none_counted}
 
 -- ---- what left the root was taken
 
-next_taken : (pools : List PoolEntry) (act : RootAct) (r : Root) (name : SlotName) → RootActFits pools act r → Contains (leaves_by act) name →
+next_taken : (pools : List PoolEntry) (act : RootAct) (r : Root) (name : SlotName) → RootActFits pools act r →
+    Contains (leaves_by act) name →
     (u : Title) × Contains (next_titles pools act r) u × (name_of u ≡ name)
 next_taken pools (Fill class asked slots) r name (real, has, same) leaves =
     map_cases name_of (takes class (fill_of class) (opened_by pools asked r)).titles name (subst (λ ns. Contains ns name) (sym same) leaves)
@@ -40,7 +41,8 @@ next_taken pools (Give slots) r name fits leaves = absurd (not_in_none name leav
 next_taken pools (Unmap asked slot) r name fits leaves = absurd (not_in_none name leaves)
 next_taken pools Purge r name fits leaves = absurd (not_in_none name leaves)
 
-left_was_taken : (pools : List PoolEntry) (es : List RootEntry) (r : Root) (name : SlotName) → RootReplays pools es r → 0 < times_left name es →
+left_was_taken : (pools : List PoolEntry) (es : List RootEntry) (r : Root) (name : SlotName) → RootReplays pools es r →
+    0 < times_left name es →
     (u : Title) × Contains (titles_taken pools es r) u × (name_of u ≡ name)
 left_was_taken pools [] r name fits some = absurd (omega arith)
 left_was_taken pools (e ∷ es) r name fits some = elim (cases_eq (times name (leaves_by e.act)) 0) [
@@ -54,7 +56,8 @@ left_was_taken pools (e ∷ es) r name fits some = elim (cases_eq (times name (l
 
 -- ---- what never left was never named
 
-never_named : (pools : List PoolEntry) (journal : List RootEntry) (name : SlotName) → IsJournal pools journal → times_left name journal ≡ 0 →
+never_named : (pools : List PoolEntry) (journal : List RootEntry) (name : SlotName) → IsJournal pools journal →
+    times_left name journal ≡ 0 →
     moves_of journal name ≡ []
 never_named pools journal name fits none =
     let out = journal_out name journal in
@@ -63,9 +66,11 @@ never_named pools journal name fits none =
     (elim (out_is_left pools journal name fits) [ inl (is, e) ↦ omega arith | inr (isn't, e) ↦ omega arith ])
 
 -- A slot that is made for the first time, in a super page of the journal's root or in one by a later entry of the pool.
-pub fresh_unnamed : (pools : List PoolEntry) (journal : List RootEntry) (after : Root) (t : Title) → IsJournal pools journal → IsSound after →
+pub fresh_unnamed : (pools : List PoolEntry) (journal : List RootEntry) (after : Root) (t : Title) → IsJournal pools journal →
+    IsSound after →
     ((u : Title) → IsMade (root_replayed pools journal new_root) u → IsMade after u) →
-    ((at : SuperPage) → Contains after.supers at → Contains (root_replayed pools journal new_root).supers at ⊎ (least_after_all 0 journal ≤ at.born)) →
+    ((at : SuperPage) → Contains after.supers at → Contains (root_replayed pools journal new_root).supers at ⊎
+    (least_after_all 0 journal ≤ at.born)) →
     IsMade after t → (IsMade (root_replayed pools journal new_root) t → ⊥) → moves_of journal (name_of t) ≡ []
 fresh_unnamed pools journal after t fits sound keeps supers made new =
     never_named pools journal (name_of t) fits (elim (cases_eq (times_left (name_of t) journal) 0) [
@@ -88,7 +93,8 @@ fresh_unnamed pools journal after t fits sound keeps supers made new =
     ])
 
 -- A slot of a later entry of the pool than those that the journal names was never named.
-pub later_unnamed : (pools : List PoolEntry) (journal : List RootEntry) (name : SlotName) → IsJournal pools journal → least_after_all 0 journal ≤ name.born →
+pub later_unnamed : (pools : List PoolEntry) (journal : List RootEntry) (name : SlotName) → IsJournal pools journal →
+    least_after_all 0 journal ≤ name.born →
     moves_of journal name ≡ []
 later_unnamed pools journal name fits later =
     never_named pools journal name fits (elim (cases_eq (times_left name journal) 0) [

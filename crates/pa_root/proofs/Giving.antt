@@ -66,9 +66,12 @@ module _ (p : ℕ) (s : RootState) (w : View) (titles : List Title) (can : CanCo
   was_made t among =
       let (line, class, asked, slots, n, size, has, name, said) = can.named t among in
       let known : IsBeginning (list_of p w) (list_of p s.view) =
-      subst (λ l. IsBeginning (list_of p w) l) (left_whole s.view w p can.aware can.both_aware can.sound.journal.hosts.1) (right_begins s.view w p can.both_aware) in
+      subst (λ l. IsBeginning (list_of p w) l) (left_whole s.view w p can.aware can.both_aware can.sound.journal.hosts.1)
+      (right_begins s.view w p can.both_aware) in
       let (f, entry, says) = said_in_journal p s (list_of p w) _ can.sound.journal known said in
-      let (u, made, same, len) = filled_was_made (pools_seen s.view) s.journal can.sound.journal.fits f class asked slots n entry (fill_by_numbers f line class asked slots says) has in
+      let (u, made, same, len) =
+      filled_was_made (pools_seen s.view) s.journal can.sound.journal.fits f class asked slots n entry
+      (fill_by_numbers f line class asked slots says) has in
       let e : u ≡ t = title_is u t (same ∙ name) (len ∙ sym size) in
       subst (λ x. IsMade s.root x) e (subst (λ r. IsMade r u) (sym can.sound.journal.replayed) made)
 
@@ -93,7 +96,8 @@ module _ (p : ℕ) (s : RootState) (w : View) (titles : List Title) (can : CanCo
 
   pub are_out : AreAllOut s titles
   are_out = record {
-    out = All-weaker (Contains (map name_of titles)) (IsOut s.root) out_by_name (map name_of titles) (All-contains_itself (map name_of titles));
+    out = All-weaker (Contains (map name_of titles)) (IsOut s.root) out_by_name (map name_of titles)
+        (All-contains_itself (map name_of titles));
     once =
         pairs_map (λ (t : Title) (u : Title). t ≢ u) (λ (a : SlotName) (b : SlotName). a ≢ b) name_of titles
         (λ t u has has' differ same. differ (made_name s.root t u good (was_made t has) (was_made u has') same)) can.once;
@@ -167,18 +171,22 @@ module _ (p : ℕ) (s : RootState) (w : View) (titles : List Title) (can : CanCo
         | inl here ↦ can.sound.titles.with_root t here (back.kept.only (name_of t) out)
         | inr there ↦ back.back (name_of t) (map_in name_of titles t there) out
       ];
-      unused = λ t. let e = handles_now s.view w y x wrote keeps t in let a = can.sound.titles.unused t in let b = can.has.handles t in omega arith;
+      unused = λ t. let e = handles_now s.view w y x wrote keeps t in let a = can.sound.titles.unused t in let b = can.has.handles t in
+          omega arith;
       budget = let e = budget_now s.view w y x wrote keeps in let a = can.sound.titles.budget in let b = can.has.budget in omega arith;
     }
 
     -- the move of a slot that came back
-    moves_back : (t : Title) → Contains titles t → filter (is_of (name_of t)) (map (move_of line Back) (numbered_by w titles)) ≡ move_of line Back (at_number_seen w t) ∷ []
+    moves_back : (t : Title) → Contains titles t →
+        filter (is_of (name_of t)) (map (move_of line Back) (numbered_by w titles)) ≡ move_of line Back (at_number_seen w t) ∷ []
     moves_back t among =
         one_moves line Back (at_number_seen w t) (numbered_by w titles)
         (subst (λ ns. AllPairs ◌≢◌ ns) (sym (names_by w titles)) are_out.once) (map_in (at_number_seen w) titles t among)
 
-    moves_not : (name : SlotName) → (Contains (map name_of titles) name → ⊥) → filter (is_of name) (map (move_of line Back) (numbered_by w titles)) ≡ []
-    moves_not name away = none_moves line Back name (numbered_by w titles) (λ among. away (subst (λ ns. Contains ns name) (names_by w titles) among))
+    moves_not : (name : SlotName) → (Contains (map name_of titles) name → ⊥) →
+        filter (is_of name) (map (move_of line Back) (numbered_by w titles)) ≡ []
+    moves_not name away = none_moves line Back name (numbered_by w titles)
+        (λ among. away (subst (λ ns. Contains ns name) (names_by w titles) among))
 
     -- a slot that was out is at no number
     at_none : (name : SlotName) → IsOut s.root name → at_end (Some 0) (moves_of s.journal name) ≡ None
@@ -188,7 +196,8 @@ module _ (p : ℕ) (s : RootState) (w : View) (titles : List Title) (can : CanCo
         (subst (λ r. IsNameOut r name) can.sound.journal.replayed (t, is, e))
 
     numbered_now : (t : Title) → Contains titles t →
-        IsNumbered (Some 0) (moves_of (s.journal ++ entry ∷ []) (name_of t)) × (at_end (Some 0) (moves_of (s.journal ++ entry ∷ []) (name_of t)) ≡ Some (seen_of w t))
+        IsNumbered (Some 0) (moves_of (s.journal ++ entry ∷ []) (name_of t)) ×
+        (at_end (Some 0) (moves_of (s.journal ++ entry ∷ []) (name_of t)) ≡ Some (seen_of w t))
     numbered_now t among =
         numbers_with s.journal entry (name_of t) (move_of line Back (at_number_seen w t)) (moves_back t among)
         (can.sound.numbers.numbered (name_of t)) (at_none (name_of t) (is_out t among))
@@ -199,28 +208,34 @@ module _ (p : ℕ) (s : RootState) (w : View) (titles : List Title) (can : CanCo
         | inl came ↦
             let (t, among, e) = map_cases name_of titles name came in
             subst (λ n. IsNumbered (Some 0) (moves_of (s.journal ++ entry ∷ []) n)) e (numbered_now t among).0
-        | inr away ↦ subst (λ ms. IsNumbered (Some 0) ms) (sym (numbers_without s.journal entry name (moves_not name away))) (can.sound.numbers.numbered name)
+        | inr away ↦ subst (λ ms. IsNumbered (Some 0) ms) (sym (numbers_without s.journal entry name (moves_not name away)))
+            (can.sound.numbers.numbered name)
       ];
       known = λ t free. elim (free_where t free) [
         | inl here ↦
             let well = made_is_whole s.root t good (can.sound.titles.made t here) in
             ap (at_end (Some 0)) (numbers_without s.journal entry (name_of t) (moves_not (name_of t) (here_not_there t here)))
             ∙ can.sound.numbers.known t here
-            ∙ ap Some (sym (left_now s.view w y x wrote keeps (t.start + t.len) t can.aware can.both_aware there_aware now can.long well here))
+            ∙ ap Some (sym (left_now s.view w y x wrote keeps
+            (t.start + t.len) t can.aware can.both_aware there_aware now can.long well here))
         | inr there ↦
             let well = made_is_whole s.root t good (was_made t there) in
             (numbered_now t there).1
-            ∙ ap Some (sym (right_now s.view w y x wrote keeps (t.start + t.len) t can.note_aware can.both_aware there_aware now can.long well ((can.has.frees t).1 there)))
+            ∙ ap Some (sym (right_now s.view w y x wrote keeps
+            (t.start + t.len) t can.note_aware can.both_aware there_aware now can.long well ((can.has.frees t).1 there)))
       ];
     }
 
     rest_now : HasRest (record { view = x; journal = s.journal ++ entry ∷ []; root = after })
-    rest_now = rest_kept s x (s.journal ++ entry ∷ []) after (low_now s.view w y x wrote keeps) back.kept.keeps back.kept.supers back.kept.maps can.sound.rest
+    rest_now = rest_kept s x (s.journal ++ entry ∷ []) after
+        (low_now s.view w y x wrote keeps) back.kept.keeps back.kept.supers back.kept.maps can.sound.rest
 
     leases_now : KeepsLeases (record { view = x; journal = s.journal ++ entry ∷ []; root = after })
     leases_now = record {
-      supers = λ at among. lease_now s.view w y x wrote keeps at.born (can.sound.leases.supers at (subst (λ ss. Contains ss at) back.kept.supers among));
-      maps = λ t among. lease_now s.view w y x wrote keeps t.born (can.sound.leases.maps t (subst (λ ts. Contains ts t) back.kept.maps among));
+      supers = λ at among. lease_now s.view w y x wrote keeps at.born
+          (can.sound.leases.supers at (subst (λ ss. Contains ss at) back.kept.supers among));
+      maps = λ t among. lease_now s.view w y x wrote keeps t.born
+          (can.sound.leases.maps t (subst (λ ts. Contains ts t) back.kept.maps among));
     }
 
     maps_now : KnowsMaps p (record { view = x; journal = s.journal ++ entry ∷ []; root = after })
@@ -243,11 +258,19 @@ module _ (p : ℕ) (s : RootState) (w : View) (titles : List Title) (can : CanCo
     journal_now =
         let (m, list, says) = more in
         journal_goes_on p s x entry can.sound.journal
-        (hosts_kept p y x keeps (subst (HostsKeeper p) (sym wrote.rest) (hosts_both p s.view w can.sound.journal.hosts can.has.stakes all_clean)))
-        (pool_begins s.view w y x wrote keeps can.both_aware)
-        (m, list ∙ ap (λ l. l ++ m ∷ []) (lists_now s.view w y x wrote keeps p ∙ left_whole s.view w p can.aware can.both_aware can.sound.journal.hosts.1), says)
+        (hosts_kept p y x keeps (subst (HostsKeeper p) (sym wrote.rest)
+        (hosts_both p s.view w can.sound.journal.hosts can.has.stakes all_clean)))
+        (pool_begins s.view w y x wrote keeps can.both_aware) (
+          m,
+          list ∙ ap (λ l. l ++ m ∷ []) (lists_now s.view w y x wrote keeps p ∙
+              left_whole s.view w p can.aware can.both_aware can.sound.journal.hosts.1),
+          says,
+        )
         (record {
-          act = (subst (λ ns. All (IsOut s.root) ns) (sym (names_by w titles)) are_out.out, subst (λ ns. AllPairs ◌≢◌ ns) (sym (names_by w titles)) are_out.once);
+          act = (
+            subst (λ ns. All (IsOut s.root) ns) (sym (names_by w titles)) are_out.out,
+            subst (λ ns. AllPairs ◌≢◌ ns) (sym (names_by w titles)) are_out.once,
+          );
           asks = tt;
         })
 

@@ -53,6 +53,7 @@ handed_shown v l r ts sound aware shown once free out =
     (λ s among t inside.
     let (n, listed, is) = map_cases (title_at s) s.free t inside in
     let held = All-contains (λ (x : Title). 0 < free_of v x) (titles_free s) t (shown.chains s among).free inside in
-    let same = but.stays t (λ taken. listed_not_out r s n sound among listed (subst (λ (x : Title). IsOut r (name_of x)) (sym is) (out t taken))) in
+    let same = but.stays t (λ taken. listed_not_out r s n sound among listed
+    (subst (λ (x : Title). IsOut r (name_of x)) (sym is) (out t taken))) in
     (omega arith, refl))
     shown

@@ -34,8 +34,10 @@ use Rattle.pa_root.proofs.Shown.{raw_held, shown_more, kept_more, united_more}
 
 -- ---- none
 
-kept_none : (r p line count : ℕ) (class : Option ℕ) (a b w w_now : Share) (js js_now : List RootEntry) (l : ShelfParts) (fault : FillFault) →
-    IsKept p w.view js l → IsRootSound p (root_of_parts w_now.view js_now (root_of w.view js)) → RefusesRoom r p line count class a b w w_now js js_now fault →
+kept_none : (r p line count : ℕ) (class : Option ℕ) (a b w w_now : Share) (js js_now : List RootEntry) (l : ShelfParts)
+    (fault : FillFault) →
+    IsKept p w.view js l → IsRootSound p (root_of_parts w_now.view js_now (root_of w.view js)) →
+    RefusesRoom r p line count class a b w w_now js js_now fault →
     IsKept p w_now.view js_now l
 kept_none r p line count class a b w w_now js js_now l (fault.Full j) kept sound told =
     let e : RootEntry = root_entry line (Full class told.full.asked) in
@@ -47,20 +49,24 @@ kept_none r p line count class a b w w_now js js_now l fault.OutOfMemory kept so
     subst (λ (x : Share). IsKept p x.view js_now l) (sym own) (subst (λ es. IsKept p w.view es l) (sym journals) kept)
 
 -- a root that was refused super pages is kept, and the caller gets the reason
-pub refused_kept : (r p line count : ℕ) (class : Option ℕ) (a b w w_now : Share) (js js_now : List RootEntry) (l : ShelfParts) (fault : FillFault) →
-    IsKept p w.view js l → ((asked : ℕ) → FoundNone (pools_seen w_now.view) asked count → FullFits (pools_seen w_now.view) class asked (root_of w.view js)) →
+pub refused_kept : (r p line count : ℕ) (class : Option ℕ) (a b w w_now : Share) (js js_now : List RootEntry) (l : ShelfParts)
+    (fault : FillFault) →
+    IsKept p w.view js l → ((asked : ℕ) → FoundNone (pools_seen w_now.view) asked count →
+    FullFits (pools_seen w_now.view) class asked (root_of w.view js)) →
     RefusesRoom r p line count class a b w w_now js js_now fault →
     NoneGiven r p line count class a b (state_of w.view js) (state_of w_now.view js_now) fault × IsKept p w_now.view js_now l
 refused_kept r p line count class a b w w_now js js_now l fault kept fits told =
     let root = root_of w.view js in
     let (given, sound) = none_given r p line count class a b w w_now js js_now root fault kept.sound fits told in (
-      subst (λ z. NoneGiven r p line count class a b (state_of w.view js) (root_of_parts w_now.view js_now z) fault) sound.journal.replayed given,
+      subst (λ z. NoneGiven r p line count class a b (state_of w.view js) (root_of_parts w_now.view js_now z) fault) sound.journal.replayed
+          given,
       kept_none r p line count class a b w w_now js js_now l fault kept sound told,
     )
 
 -- ---- some
 
-module _ (p line count asked first : ℕ) (v0 : View) (js : List RootEntry) (l : ShelfParts) (r : ℕ) (v a w note : View) (kept : IsKept p v0 js l)
+module _ (p line count asked first : ℕ) (v0 : View) (js : List RootEntry) (l : ShelfParts) (r : ℕ) (v a w note : View)
+    (kept : IsKept p v0 js l)
     (has : HasPages p line count asked first (state_of v0 js) r v a w note) where
   abbrev root : Root
   root = root_of v0 js
@@ -90,8 +96,10 @@ module _ (p line count asked first : ℕ) (v0 : View) (js : List RootEntry) (l :
 
     beside : IsBesideRecords l.supers t
     beside x b payload covers low high =
-        not_ours p first count asked (root_of_parts w js root) note pages_sound has.both_aware has.run.has some b (in_pages b covers.0 covers.1)
-        (raw_held p (root_of_parts w js root) x pages_sound (subst (λ ss. IsPayloadOf ss x) (sym shown_asked.kept.supers) payload) b low high)
+        not_ours p first count asked (root_of_parts w js root) note pages_sound has.both_aware has.run.has some b
+        (in_pages b covers.0 covers.1)
+        (raw_held p (root_of_parts w js root) x pages_sound
+        (subst (λ ss. IsPayloadOf ss x) (sym shown_asked.kept.supers) payload) b low high)
 
     pub shown_cut : CanCut t u → ShowsRoot (after_cut t u) l root
     shown_cut can =

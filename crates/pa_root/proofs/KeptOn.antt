@@ -38,7 +38,8 @@ batches_more journal e batches few f among = elim (Contains-append_cases journal
 ]
 
 -- a root is kept with one entry more
-pub kept_with : (p : ℕ) (v x : View) (journal : List RootEntry) (e : RootEntry) (l m : ShelfParts) (r : Root) → IsKept p v journal l → HasBatch e.act →
+pub kept_with : (p : ℕ) (v x : View) (journal : List RootEntry) (e : RootEntry) (l m : ShelfParts) (r : Root) → IsKept p v journal l →
+    HasBatch e.act →
     IsRootSound p (record { view = x; journal = journal ++ e ∷ []; root = r }) → ShowsRoot x m r → IsKept p x (journal ++ e ∷ []) m
 kept_with p v x journal e l m r kept few sound shown = record {
   sound = settle p x (journal ++ e ∷ []) r sound;
@@ -48,7 +49,8 @@ kept_with p v x journal e l m r kept few sound shown = record {
 
 -- a root is kept with another view of its seat
 pub kept_in : (p : ℕ) (v x : View) (journal : List RootEntry) (l m : ShelfParts) → IsKept p v journal l →
-    IsRootSound p (record { view = x; journal = journal; root = root_of v journal }) → ShowsRoot x m (root_of v journal) → IsKept p x journal m
+    IsRootSound p (record { view = x; journal = journal; root = root_of v journal }) → ShowsRoot x m (root_of v journal) →
+    IsKept p x journal m
 kept_in p v x journal l m kept sound shown = record {
   sound = settle p x journal (root_of v journal) sound;
   batches = kept.batches;

@@ -44,7 +44,8 @@ pub same_handed : (parcel : Parcel) (c x : View) → Keeps (left_after parcel c)
 same_handed parcel c x keeps q knows now = keeps.words q (knows_back (left_after parcel c) x q keeps now)
 
 -- a note came, its title was uncut, and its super pages went
-pub same_uncut : (t : Title) (parcel : Parcel) (v shown w c x : View) → Keeps v shown → length shown.words ≡ length w.words → IsUncut t (united shown w) c →
+pub same_uncut : (t : Title) (parcel : Parcel) (v shown w c x : View) → Keeps v shown → length shown.words ≡ length w.words →
+    IsUncut t (united shown w) c →
     Keeps (left_after parcel c) x → SameKnown v x
 same_uncut t parcel v shown w c x first long uncut last q knows now =
     let there = knows_kept v shown q first knows in
@@ -54,8 +55,10 @@ same_uncut t parcel v shown w c x first long uncut last q knows now =
 
 -- ---- an entry more
 
-pub kept_after : (p : ℕ) (v y x : View) (journal : List RootEntry) (e : RootEntry) (l m : ShelfParts) (r : Root) → IsKept p v journal l → HasBatch e.act →
-    IsRootSound p (record { view = x; journal = journal ++ e ∷ []; root = r }) → SameKnown y x → ShowsRoot y m r → IsKept p x (journal ++ e ∷ []) m
+pub kept_after : (p : ℕ) (v y x : View) (journal : List RootEntry) (e : RootEntry) (l m : ShelfParts) (r : Root) → IsKept p v journal l →
+    HasBatch e.act →
+    IsRootSound p (record { view = x; journal = journal ++ e ∷ []; root = r }) → SameKnown y x → ShowsRoot y m r →
+    IsKept p x (journal ++ e ∷ []) m
 kept_after p v y x journal e l m r kept few sound same shown =
     kept_with p v x journal e l m r kept few sound
     (shown_later p y (record { view = x; journal = journal ++ e ∷ []; root = r }) m sound same shown)
@@ -68,8 +71,14 @@ are_back p s w x l titles can settled shown is =
     let sound = good p s w titles can in
     let out : (t : Title) → Contains titles t → IsSlotOut s.root t = λ t among.
     let (span, member, n, away) = is_out p s w titles can t among in
-    let low = away.provisioned in let high = (sound.spans span member).counted.made in
-    (span, member, n, away, made_name s.root t (title_at span n) sound (was_made p s w titles can t among) (span, member, n, omega arith, refl) away.named) in
+    let low = away.provisioned in let high = (sound.spans span member).counted.made in (
+      span,
+      member,
+      n,
+      away,
+      made_name s.root t (title_at span n) sound (was_made p s w titles can t among)
+          (span, member, n, omega arith, refl) away.named,
+    ) in
     subst (λ (z : View). AreBack z l titles s.root) (sym is) (record {
       sound = sound;
       settled = settled;

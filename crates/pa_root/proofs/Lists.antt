@@ -73,7 +73,8 @@ journal_stays p s x has hosts begins same =
     }
 
 -- an entry that fits was entered
-pub journal_goes_on : (p : ℕ) (s : RootState) (x : View) (e : RootEntry) → HasJournal p s → HostsKeeper p x → IsBeginning (list_of 4 s.view) (list_of 4 x) →
+pub journal_goes_on : (p : ℕ) (s : RootState) (x : View) (e : RootEntry) → HasJournal p s → HostsKeeper p x →
+    IsBeginning (list_of 4 s.view) (list_of 4 x) →
     HasEntryMore p e s.view x → FitsNext e s x → HasJournal p (after_entry x e s)
 journal_goes_on p s x e has hosts begins (m, list, says) next =
     let f = fits_more s.view x s.journal begins has.fits in
@@ -94,8 +95,10 @@ journal_goes_on p s x e has hosts begins (m, list, says) next =
 pub journals_fit_pool : JournalsFitPool
 journals_fit_pool p s list pools sound (rest, e) is =
     let seen : pools ≡ pools_seen s.view ++ pools_read rest =
-    sym (pools_are_read.list list pools is) ∙ ap pools_read e ∙ map-append (λ (m : Made). pool_entry_read m.numbers) (list_of 4 s.view) rest in (
-      subst (λ all. IsJournal all s.journal) (sym seen) (journal_grows.pool_more (pools_seen s.view) (pools_read rest) s.journal sound.journal.fits),
+    sym (pools_are_read.list list pools is) ∙ ap pools_read e ∙
+    map-append (λ (m : Made). pool_entry_read m.numbers) (list_of 4 s.view) rest in (
+      subst (λ all. IsJournal all s.journal) (sym seen)
+          (journal_grows.pool_more (pools_seen s.view) (pools_read rest) s.journal sound.journal.fits),
       sound.journal.replayed ∙ sym (journal_grows.pool_same (pools_seen s.view) (pools_read rest) s.journal sound.journal.fits)
           ∙ sym (ap (λ all. root_replayed all s.journal new_root) seen),
     )

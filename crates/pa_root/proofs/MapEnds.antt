@@ -43,7 +43,8 @@ pub record HasMapCut (p line len asked first : ℕ) (s : RootState) (r : ℕ) (v
   pub aware : IsAware c
   pub new : seen_of c (map_beside first asked len) ≡ 0
 
-module _ (p line len asked first : ℕ) (s : RootState) (r : ℕ) (v a w note c : View) (has : HasMapCut p line len asked first s r v a w note c) where
+module _ (p line len asked first : ℕ) (s : RootState) (r : ℕ) (v a w note c : View)
+    (has : HasMapCut p line len asked first s r v a w note c) where
   abbrev t : Title
   t = map_beside first asked len
 
@@ -71,7 +72,8 @@ module _ (p line len asked first : ℕ) (s : RootState) (r : ℕ) (v a w note c 
   map_hosts =
       let s' = with_view w s in
       let but : KeepsBut (t ∷ []) c (left_after (frees_parcel (t ∷ [])) c) =
-      keeps_but (t ∷ []) c (made.once p first asked len s' note c cut_for) (made.taken_free p first asked len s' note c cut_for) has.aware.free_once in
+      keeps_but (t ∷ []) c (made.once p first asked len s' note c cut_for)
+      (made.taken_free p first asked len s' note c cut_for) has.aware.free_once in
       let beside : IsBesideCuts (united w note) c = made.beside p first asked len s' note c cut_for in
       let run = has.pages.run.has in
       let ((none, clean), has_it) =
@@ -83,7 +85,8 @@ module _ (p line len asked first : ℕ) (s : RootState) (r : ℕ) (v a w note c 
   abbrev entry : RootEntry
   entry = root_entry line (Map asked (name_of t) len)
 
-  pub mapped_sound : (x : View) (m : Made) → IsAware x → IsAware (left_after (frees_parcel (t ∷ [])) c) → Keeps (left_after (frees_parcel (t ∷ [])) c) x →
+  pub mapped_sound : (x : View) (m : Made) → IsAware x → IsAware (left_after (frees_parcel (t ∷ [])) c) →
+      Keeps (left_after (frees_parcel (t ∷ [])) c) x →
       list_of p x ≡ list_of p (left_after (frees_parcel (t ∷ [])) c) ++ m ∷ [] → m.numbers ≡ root_numbers entry →
       IsRootSound p (record { view = x; journal = s.journal ++ entry ∷ []; root = mapped t s.root })
   mapped_sound x m aware left keeps list says =
@@ -91,13 +94,15 @@ module _ (p line len asked first : ℕ) (s : RootState) (r : ℕ) (v a w note c 
 
   pub map_tells : (x after given : View) (m : Made) (s_now : RootState) → CanLend v → r ≡ least_stake v.stakes →
       IsNoted (least_stake a.stakes) p (root_numbers entry) a after (left_after (frees_parcel (t ∷ [])) c) x m →
-      given ≡ given_after (frees_parcel (t ∷ [])) c → s_now.journal ≡ s.journal ++ entry ∷ [] → MapTells r p line len v after given t s s_now
+      given ≡ given_after (frees_parcel (t ∷ [])) c → s_now.journal ≡ s.journal ++ entry ∷ [] →
+      MapTells r p line len v after given t s s_now
   map_tells x after given m s_now lender is noted is_given journal =
       let taken = take_entry line p (supers_for len) (Some first) in
       let left = left_after (frees_parcel (t ∷ [])) c in
       let asks = has.pages.asks in
       let same : least_stake a.stakes ≡ r = (lends_again v a asks.lends.keeps lender).1 ∙ sym is in
-      let noted' : IsNoted r p (root_numbers entry) a after left x m = subst (λ k. IsNoted k p (root_numbers entry) a after left x m) same noted in
+      let noted' : IsNoted r p (root_numbers entry) a after left x m =
+      subst (λ k. IsNoted k p (root_numbers entry) a after left x m) same noted in
       record {
         gives = record {
           long = refl;

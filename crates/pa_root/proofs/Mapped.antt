@@ -69,7 +69,8 @@ module _ (p first entry len : ℕ) (s : RootState) (w c : View) (cut : IsCutForM
   cut_free = subst (λ v. 0 < free_of v t) (sym cut.cut) (free_cut (t ∷ []) u t (first_in t []))
 
   pub once : AllPairs ◌≢◌ (t ∷ [])
-  once = pairs_cons (λ (a : Title) (b : Title). a ≢ b) t [] (λ b none. absurd (not_in_none b none)) (pairs_none (λ (a : Title) (b : Title). a ≢ b))
+  once = pairs_cons (λ (a : Title) (b : Title). a ≢ b) t [] (λ b none. absurd (not_in_none b none))
+      (pairs_none (λ (a : Title) (b : Title). a ≢ b))
 
   only_t : (v : Title) → Contains (t ∷ []) v → t ≡ v
   only_t v among = elim (in_cases t v [] among) [ inl e ↦ e | inr none ↦ absurd (not_in_none v none) ]
@@ -134,7 +135,8 @@ module _ (p first entry len : ℕ) (s : RootState) (w c : View) (cut : IsCutForM
     titles_now = record {
       has = λ v made. elim (cut.sound.titles.has v made) [
         | inl free ↦
-            let away : Contains (t ∷ []) v → ⊥ = λ among. let i = ap (λ (z : Title). z.born) (only_t v among) in let l = made_low v made in absurd (omega arith) in
+            let away : Contains (t ∷ []) v → ⊥ = λ among. let i = ap (λ (z : Title). z.born) (only_t v among) in let l = made_low v made in
+            absurd (omega arith) in
             let f = free_still v free in
             let k = but.stays v away in
             inl (subst (λ n. 0 < n) (sym (free_kept y x v keeps)) (omega arith))
@@ -173,14 +175,17 @@ module _ (p first entry len : ℕ) (s : RootState) (w c : View) (cut : IsCutForM
       numbered = λ name. elim (same_slot_cases (name_of t) name) [
         | inl is ↦
             subst (λ n. IsNumbered (Some 0) (moves_of (s.journal ++ e ∷ []) n)) is
-            (numbers_with s.journal e (name_of t) out_move moves_here (cut.sound.numbers.numbered (name_of t)) (ap (at_end (Some 0)) unnamed)).0
-        | inr away ↦ subst (λ ms. IsNumbered (Some 0) ms) (sym (numbers_without s.journal e name (moves_not name away))) (cut.sound.numbers.numbered name)
+            (numbers_with s.journal e (name_of t) out_move moves_here (cut.sound.numbers.numbered (name_of t))
+            (ap (at_end (Some 0)) unnamed)).0
+        | inr away ↦ subst (λ ms. IsNumbered (Some 0) ms) (sym (numbers_without s.journal e name (moves_not name away)))
+            (cut.sound.numbers.numbered name)
       ];
       known = λ v free.
           let before = free_left v free in
           let made = cut.sound.titles.made v before in
           let well = made_is_whole s.root v good made in
-          let other : name_of t ≡ name_of v → ⊥ = λ same. let b = ap (λ (n : SlotName). n.born) same in let l = made_low v made in absurd (omega arith) in
+          let other : name_of t ≡ name_of v → ⊥ = λ same. let b = ap (λ (n : SlotName). n.born) same in let l = made_low v made in
+          absurd (omega arith) in
           ap (at_end (Some 0)) (numbers_without s.journal e (name_of v) (moves_not (name_of v) other))
           ∙ cut.sound.numbers.known v before
           ∙ ap Some (sym (
@@ -190,7 +195,8 @@ module _ (p first entry len : ℕ) (s : RootState) (w c : View) (cut : IsCutForM
     }
 
     -- a byte of the rest was in the rest before, or is one of the new super pages' beside the title
-    rest_cases : (j b : ℕ) → IsInRest (mapped t s.root) j b → IsInRest s.root j b ⊎ ((j ≡ entry) × IsInRun first (supers_for len) b × (Covers t b → ⊥))
+    rest_cases : (j b : ℕ) → IsInRest (mapped t s.root) j b → IsInRest s.root j b ⊎
+        ((j ≡ entry) × IsInRun first (supers_for len) b × (Covers t b → ⊥))
     rest_cases j b (inl rest) = inl (inl rest)
     rest_cases j b (inr (m, at, among, born, start, inside, away)) = elim (Contains-append_cases s.root.maps (t ∷ []) m among) [
       | inl old ↦ inl (inr (m, at, old, born, start, inside, away))
@@ -254,7 +260,9 @@ module _ (p first entry len : ℕ) (s : RootState) (w c : View) (cut : IsCutForM
 
     hosts_left : HostsKeeper p y
     hosts_left =
-        let ((none, clean), has) = hosts_both p s.view w cut.sound.journal.hosts cut.has.stakes (no_own_clean w (λ v. let h = cut.has.handles v in omega arith)) in (
+        let ((none, clean), has) =
+        hosts_both p s.view w cut.sound.journal.hosts cut.has.stakes
+        (no_own_clean w (λ v. let h = cut.has.handles v in omega arith)) in (
           ((λ k. but.stakes k ∙ beside.stakes k ∙ none k), but.unclean ∙ beside.unclean ∙ clean),
           (let a = but.keepers p in let b = beside.keepers p in omega arith),
         )

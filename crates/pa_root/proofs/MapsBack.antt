@@ -53,14 +53,18 @@ abbrev pub Returns : RootAct → Title → Type 0
 Returns act t = (asked : ℕ) × (slot : Numbered) × (act ≡ Unmap asked slot) × (slot.slot ≡ name_of t)
 
 -- an entry leaves a direct map, or takes it back
-stays_mapped : (pools : List PoolEntry) (n : ℕ) (act : RootAct) (r : Root) (t : Title) → IsSound r → IsBornBelow n r → AsksFrom n (asked_by act) → RootActFits pools act r →
+stays_mapped : (pools : List PoolEntry) (n : ℕ) (act : RootAct) (r : Root) (t : Title) → IsSound r → IsBornBelow n r →
+    AsksFrom n (asked_by act) → RootActFits pools act r →
     Contains r.maps t → Contains (root_next pools act r).maps t ⊎ Returns act t
 stays_mapped pools n (Fill class None slots) r t sound old asks fits among =
     inl (subst (λ ts. Contains ts t) (sym (takes_filled class (fill_of class) r sound fits.0).maps) among)
 stays_mapped pools n (Fill class (Some j) slots) r t sound old asks fits among =
     let s = opened (super_of (act_at pools j)) j r in
-    inl (subst (λ ts. Contains ts t) (sym (takes_filled class (fill_of class) s (opened_sound (super_of (act_at pools j)) j r sound (born_more n j r asks old)) fits.0).maps) among)
-stays_mapped pools n (Map asked slot len) r t sound old asks fits among = inl (Contains-append_left r.maps (map_title slot len ∷ []) t among)
+    inl (subst (λ ts. Contains ts t)
+    (sym (takes_filled class (fill_of class) s
+    (opened_sound (super_of (act_at pools j)) j r sound (born_more n j r asks old)) fits.0).maps) among)
+stays_mapped pools n (Map asked slot len) r t sound old asks fits among =
+    inl (Contains-append_left r.maps (map_title slot len ∷ []) t among)
 stays_mapped pools n (Full class asked) r t sound old asks fits among = inl among
 stays_mapped pools n (Give slots) r t sound old asks fits among =
     inl (subst (λ ts. Contains ts t) (sym (all_returned_is (names slots) r sound fits.0 fits.1).kept.maps) among)
@@ -68,16 +72,20 @@ stays_mapped pools n (Unmap asked slot) r t sound old asks fits among = elim (wi
   | inl rest ↦ inl rest
   | inr is ↦ inr (asked, slot, refl, is)
 ]
-stays_mapped pools n Purge r t sound old asks fits among = inl (subst (λ ts. Contains ts t) (sym (times_is (empties r) r sound).kept.maps) among)
+stays_mapped pools n Purge r t sound old asks fits among =
+    inl (subst (λ ts. Contains ts t) (sym (times_is (empties r) r sound).kept.maps) among)
 
 -- an entry that maps it has it mapped
-now_mapped : (pools : List PoolEntry) (act : RootAct) (r : Root) (t : Title) (asked len : ℕ) (slot : SlotName) → act ≡ Map asked slot len → t ≡ map_title slot len →
+now_mapped : (pools : List PoolEntry) (act : RootAct) (r : Root) (t : Title) (asked len : ℕ) (slot : SlotName) → act ≡ Map asked slot len →
+    t ≡ map_title slot len →
     Contains (root_next pools act r).maps t
 now_mapped pools act r t asked len slot is same =
     subst (λ a. Contains (root_next pools a r).maps t) (sym is)
-    (subst (λ z. Contains (r.maps ++ map_title slot len ∷ []) z) (sym same) (Contains-append_right r.maps (map_title slot len ∷ []) (map_title slot len) (first_in (map_title slot len) [])))
+    (subst (λ z. Contains (r.maps ++ map_title slot len ∷ []) z) (sym same)
+    (Contains-append_right r.maps (map_title slot len ∷ []) (map_title slot len) (first_in (map_title slot len) [])))
 
-stand : (pools : List PoolEntry) (es : List RootEntry) (n : ℕ) (r : Root) (t : Title) → IsSound r → IsSettled r → IsBornBelow n r → RootReplays pools es r →
+stand : (pools : List PoolEntry) (es : List RootEntry) (n : ℕ) (r : Root) (t : Title) → IsSound r → IsSettled r → IsBornBelow n r →
+    RootReplays pools es r →
     RiseFrom n (all_asked es) → Contains r.maps t ⊎ IsMapBy es t → Contains (root_replayed pools es r).maps t ⊎ CameBackIn es t
 stand pools [] n r t sound few old fits rise (inl among) = inl among
 stand pools [] n r t sound few old fits rise (inr (e, asked, len, slot, among, is, same)) = absurd (not_in_none e among)
@@ -93,8 +101,10 @@ stand pools (e ∷ es) n r t sound few old fits rise has =
       | inr (asked, slot, is, name) ↦ inr (e, asked, slot, first_in e es, is, name)
     ]
   where
-    first : Contains r.maps t ⊎ IsMapBy (e ∷ es) t → AsksFrom n (asked_by e.act) → (Contains (root_next pools e.act r).maps t ⊎ IsMapBy es t) ⊎ Returns e.act t
-    first (inl among) asks = elim (stays_mapped pools n e.act r t sound old asks fits.0 among) [ inl still ↦ inl (inl still) | inr back ↦ inr back ]
+    first : Contains r.maps t ⊎ IsMapBy (e ∷ es) t → AsksFrom n (asked_by e.act) →
+        (Contains (root_next pools e.act r).maps t ⊎ IsMapBy es t) ⊎ Returns e.act t
+    first (inl among) asks =
+        elim (stays_mapped pools n e.act r t sound old asks fits.0 among) [ inl still ↦ inl (inl still) | inr back ↦ inr back ]
     first (inr (f, asked, len, slot, among, is, same)) asks = elim (in_cases e f es among) [
       | inl here ↦ inl (inl (now_mapped pools e.act r t asked len slot (ap (λ (x : RootEntry). x.act) here ∙ is) same))
       | inr later ↦ inl (inr (f, asked, len, slot, later, is, same))

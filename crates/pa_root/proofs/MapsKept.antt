@@ -50,14 +50,17 @@ maps_go_on p s x e after knows more stays makes only = record {
 }
 
 -- what is known of direct maps goes on with an entry that maps nothing and leaves the direct maps
-pub maps_leave : (p : ℕ) (s : RootState) (x : View) (e : RootEntry) (after : Root) → KnowsMaps p s → SeesMore s.view x → after.maps ≡ s.root.maps →
-    ((asked len : ℕ) (slot : SlotName) → e.act ≡ Map asked slot len → ⊥) → KnowsMaps p (record { view = x; journal = s.journal ++ e ∷ []; root = after })
+pub maps_leave : (p : ℕ) (s : RootState) (x : View) (e : RootEntry) (after : Root) → KnowsMaps p s → SeesMore s.view x →
+    after.maps ≡ s.root.maps →
+    ((asked len : ℕ) (slot : SlotName) → e.act ≡ Map asked slot len → ⊥) →
+    KnowsMaps p (record { view = x; journal = s.journal ++ e ∷ []; root = after })
 maps_leave p s x e after knows more same none =
     maps_go_on p s x e after knows more (λ t among. inl (subst (λ ts. Contains ts t) (sym same) among))
     (λ asked len slot is. absurd (none asked len slot is)) (λ t among. inl (subst (λ ts. Contains ts t) same among))
 
 -- what is known of direct maps stays if the root's seat sees more
-pub maps_stay : (p : ℕ) (s : RootState) (x : View) → KnowsMaps p s → SeesMore s.view x → KnowsMaps p (record { view = x; journal = s.journal; root = s.root })
+pub maps_stay : (p : ℕ) (s : RootState) (x : View) → KnowsMaps p s → SeesMore s.view x →
+    KnowsMaps p (record { view = x; journal = s.journal; root = s.root })
 maps_stay p s x knows more = record {
   mapped = λ t made. elim (knows.mapped t made) [ inl there ↦ inl there | inr gone ↦ inr (let g = more.undone t in omega arith) ];
   taken = λ t among. taken_stays p s.view x t more (knows.taken t among);

@@ -30,7 +30,9 @@ others_left t u (x ∷ xs) alone among left =
           let rest : Contains (x ∷ without_map (name_of t) xs) u = rw other at left in
           elim (in_cases x t xs among) [
             | inl here ↦
-                absurd (both_ways _ other (and_from _ _ (eq-eqb x.start t.start (ap (λ (z : Title). z.start) here)) (eq-eqb x.born t.born (ap (λ (z : Title). z.born) here))))
+                absurd (both_ways _ other
+                (and_from _ _ (eq-eqb x.start t.start (ap (λ (z : Title). z.start) here))
+                (eq-eqb x.born t.born (ap (λ (z : Title). z.born) here))))
             | inr later ↦ elim (in_cases x u (without_map (name_of t) xs) rest) [
               | inl is ↦ λ e. pairs_head R x t xs alone later (ap (λ (z : Title). z.born) is ∙ e)
               | inr deeper ↦ others_left t u xs (pairs_tail R x xs alone) later deeper
@@ -39,7 +41,8 @@ others_left t u (x ∷ xs) alone among left =
     ]
 
 -- two of one entry of the pool are one
-pub one_of_entry : (t u : Title) (ts : List Title) → AllPairs (λ (a : Title) (b : Title). a.born ≢ b.born) ts → Contains ts t → Contains ts u → t.born ≡ u.born → t ≡ u
+pub one_of_entry : (t u : Title) (ts : List Title) → AllPairs (λ (a : Title) (b : Title). a.born ≢ b.born) ts → Contains ts t →
+    Contains ts u → t.born ≡ u.born → t ≡ u
 one_of_entry t u [] alone among other same = absurd (not_in_none t among)
 one_of_entry t u (x ∷ xs) alone among other same =
     let R : Title → Title → Type 0 = λ a b. a.born ≢ b.born in

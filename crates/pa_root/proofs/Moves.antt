@@ -31,7 +31,8 @@ pub none_moves : (line : ℕ) (way : Way) (name : SlotName) (slots : List Number
     filter (is_of name) (map (move_of line way) slots) ≡ []
 none_moves line way name [] away = refl
 none_moves line way name (n ∷ ns) away =
-    let other : same_slot n.slot name ≡ false = same_slot_no n.slot name (λ e. away (subst (λ s. Contains (n.slot ∷ names ns) s) e (first_in n.slot (names ns)))) in
+    let other : same_slot n.slot name ≡ false =
+    same_slot_no n.slot name (λ e. away (subst (λ s. Contains (n.slot ∷ names ns) s) e (first_in n.slot (names ns)))) in
     rw other (none_moves line way name ns (λ among. away (later_in n.slot name (names ns) among)))
 
 pub one_moves : (line : ℕ) (way : Way) (m : Numbered) (slots : List Numbered) → AllPairs ◌≢◌ (names slots) → Contains slots m →
@@ -62,11 +63,14 @@ numbers_without journal e name none =
     moves_more journal e name ∙ ap (λ ms. moves_of journal name ++ ms) none ∙ append-nil (moves_of journal name)
 
 -- one that moves once is then in the state that the move gives
-pub numbers_with : (journal : List RootEntry) (e : RootEntry) (name : SlotName) (m : Move) → filter (is_of name) (moves_by e.line e.act) ≡ m ∷ [] →
+pub numbers_with : (journal : List RootEntry) (e : RootEntry) (name : SlotName) (m : Move) →
+    filter (is_of name) (moves_by e.line e.act) ≡ m ∷ [] →
     IsNumbered (Some 0) (moves_of journal name) → HasAt (at_end (Some 0) (moves_of journal name)) m.way m.number →
-    IsNumbered (Some 0) (moves_of (journal ++ e ∷ []) name) × (at_end (Some 0) (moves_of (journal ++ e ∷ []) name) ≡ at_after m.way m.number)
+    IsNumbered (Some 0) (moves_of (journal ++ e ∷ []) name) ×
+    (at_end (Some 0) (moves_of (journal ++ e ∷ []) name) ≡ at_after m.way m.number)
 numbers_with journal e name m one numbered has =
-    let list : moves_of (journal ++ e ∷ []) name ≡ moves_of journal name ++ m ∷ [] = moves_more journal e name ∙ ap (λ ms. moves_of journal name ++ ms) one in (
+    let list : moves_of (journal ++ e ∷ []) name ≡ moves_of journal name ++ m ∷ [] = moves_more journal e name ∙
+    ap (λ ms. moves_of journal name ++ ms) one in (
       subst (λ ms. IsNumbered (Some 0) ms) (sym list) (numbers_grow.fits (Some 0) (moves_of journal name) (m ∷ []) numbered (has, tt)),
       ap (at_end (Some 0)) list ∙ numbers_grow.ends (Some 0) (moves_of journal name) (m ∷ []),
     )

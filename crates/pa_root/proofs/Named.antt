@@ -43,16 +43,20 @@ abbrev pub IsMadeOf : Root → ℕ → SlotName → Type 0
 IsMadeOf r class name = (t : Title) × IsMade r t × (name_of t ≡ name) × (t.len ≡ slot_of class)
 
 -- what was made stays so to the end of a journal
-made_to_end : (pools : List PoolEntry) (es : List RootEntry) (n : ℕ) (r : Root) → IsSound r → IsSettled r → IsBornBelow n r → RootReplays pools es r → RiseFrom n (all_asked es) →
+made_to_end : (pools : List PoolEntry) (es : List RootEntry) (n : ℕ) (r : Root) → IsSound r → IsSettled r → IsBornBelow n r →
+    RootReplays pools es r → RiseFrom n (all_asked es) →
     (t : Title) → IsMade r t → IsMade (root_replayed pools es r) t
 made_to_end pools [] n r sound few old fits rise t made = made
 made_to_end pools (e ∷ es) n r sound few old fits rise t made =
     let (asks, rest) = rise_parts n (asked_by e.act) (all_asked es) rise in
     let next = next_is pools e.act n r sound few old asks fits.0 in
-    made_to_end pools es (least_after n (asked_by e.act)) (root_next pools e.act r) next.sound next.settled next.born fits.1 rest t (next.keeps t made)
+    made_to_end pools es (least_after n (asked_by e.act)) (root_next pools e.act r) next.sound next.settled next.born fits.1 rest t
+    (next.keeps t made)
 
-fill_names : (pools : List PoolEntry) (n : ℕ) (act : RootAct) (r : Root) → IsSound r → IsBornBelow n r → AsksFrom n (asked_by act) → RootActFits pools act r →
-    (class : ℕ) (asked : Option ℕ) (slots : List Numbered) (m : Numbered) → act ≡ Fill class asked slots → Contains slots m → IsMadeOf (root_next pools act r) class m.slot
+fill_names : (pools : List PoolEntry) (n : ℕ) (act : RootAct) (r : Root) → IsSound r → IsBornBelow n r → AsksFrom n (asked_by act) →
+    RootActFits pools act r →
+    (class : ℕ) (asked : Option ℕ) (slots : List Numbered) (m : Numbered) → act ≡ Fill class asked slots → Contains slots m →
+    IsMadeOf (root_next pools act r) class m.slot
 fill_names pools n (Fill c a xs) r sound old asks fits class asked slots m e among =
     let class_is : c ≡ class = cc in
     let slots_are : xs ≡ slots = cc in
@@ -68,8 +72,10 @@ fill_names pools n (Give xs) r sound old asks fits class asked slots m e among =
 fill_names pools n (Unmap a x) r sound old asks fits class asked slots m e among = cc
 fill_names pools n Purge r sound old asks fits class asked slots m e among = cc
 
-names_made : (pools : List PoolEntry) (es : List RootEntry) (n : ℕ) (r : Root) → IsSound r → IsSettled r → IsBornBelow n r → RootReplays pools es r → RiseFrom n (all_asked es) →
-    (f : RootEntry) (class : ℕ) (asked : Option ℕ) (slots : List Numbered) (m : Numbered) → Contains es f → f.act ≡ Fill class asked slots → Contains slots m →
+names_made : (pools : List PoolEntry) (es : List RootEntry) (n : ℕ) (r : Root) → IsSound r → IsSettled r → IsBornBelow n r →
+    RootReplays pools es r → RiseFrom n (all_asked es) →
+    (f : RootEntry) (class : ℕ) (asked : Option ℕ) (slots : List Numbered) (m : Numbered) → Contains es f → f.act ≡ Fill class asked slots →
+    Contains slots m →
     IsMadeOf (root_replayed pools es r) class m.slot
 names_made pools [] n r sound few old fits rise f class asked slots m among is has = absurd (not_in_none f among)
 names_made pools (e ∷ es) n r sound few old fits rise f class asked slots m among is has =
@@ -78,14 +84,17 @@ names_made pools (e ∷ es) n r sound few old fits rise f class asked slots m am
     let after = root_next pools e.act r in
     elim (in_cases e f es among) [
       | inl here ↦
-          let (t, made, name, len) = fill_names pools n e.act r sound old asks fits.0 class asked slots m (ap (λ (y : RootEntry). y.act) here ∙ is) has in
+          let (t, made, name, len) =
+          fill_names pools n e.act r sound old asks fits.0 class asked slots m (ap (λ (y : RootEntry). y.act) here ∙ is) has in
           (t, made_to_end pools es (least_after n (asked_by e.act)) after next.sound next.settled next.born fits.1 rest t made, name, len)
-      | inr later ↦ names_made pools es (least_after n (asked_by e.act)) after next.sound next.settled next.born fits.1 rest f class asked slots m later is has
+      | inr later ↦ names_made pools es
+          (least_after n (asked_by e.act)) after next.sound next.settled next.born fits.1 rest f class asked slots m later is has
     ]
 
 -- what a fill of a journal names was made, of its class's size
 pub filled_was_made : (pools : List PoolEntry) (journal : List RootEntry) → IsJournal pools journal →
-    (f : RootEntry) (class : ℕ) (asked : Option ℕ) (slots : List Numbered) (m : Numbered) → Contains journal f → f.act ≡ Fill class asked slots → Contains slots m →
+    (f : RootEntry) (class : ℕ) (asked : Option ℕ) (slots : List Numbered) (m : Numbered) → Contains journal f →
+    f.act ≡ Fill class asked slots → Contains slots m →
     IsMadeOf (root_replayed pools journal new_root) class m.slot
 filled_was_made pools journal fits f class asked slots m among is has =
     names_made pools journal 0 new_root new_sound (omega arith) new_born fits.replays fits.rise f class asked slots m among is has

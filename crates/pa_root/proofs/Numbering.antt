@@ -26,4 +26,5 @@ same_map i j s t m n a b c d =
 -- an entry with the numbers of a fill is that fill
 pub fill_by_numbers : (f : RootEntry) (line class : ℕ) (asked : Option ℕ) (slots : List Numbered) →
     root_numbers f ≡ line ∷ root_act_numbers (Fill class asked slots) → f.act ≡ Fill class asked slots
-fill_by_numbers f line class asked slots e = let acts : root_act_numbers f.act ≡ root_act_numbers (Fill class asked slots) = cc in one_act f.act (Fill class asked slots) acts
+fill_by_numbers f line class asked slots e = let acts : root_act_numbers f.act ≡ root_act_numbers (Fill class asked slots) = cc in
+    one_act f.act (Fill class asked slots) acts

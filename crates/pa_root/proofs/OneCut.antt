@@ -57,7 +57,8 @@ of_cut s n from below =
     (row_has (title_at s s.made) 0 (count_cut s.free s) k (omega arith))
 
 -- none of them was made before
-not_made : (r : Root) (s : Span) (n : ℕ) (x : Title) → IsSound r → Contains r.spans s → s.made ≤ n → n < slots_of s.class → x ≡ title_at s n →
+not_made : (r : Root) (s : Span) (n : ℕ) (x : Title) → IsSound r → Contains r.spans s → s.made ≤ n → n < slots_of s.class →
+    x ≡ title_at s n →
     IsMade r x → ⊥
 not_made r s n x sound among from few e (v, member, m, less, f) =
     let most = (sound.spans v member).counted.most in
@@ -74,7 +75,8 @@ not_made r s n x sound among from few e (v, member, m, less, f) =
 
 -- ---- a take from a span of the root
 
-take_makes : (r : Root) (s : Span) → IsSound r → Contains r.spans s → s.allocated < slots_of s.class → MakesMore r (take_of s r).root (titles_new_in s)
+take_makes : (r : Root) (s : Span) → IsSound r → Contains r.spans s → s.allocated < slots_of s.class →
+    MakesMore r (take_of s r).root (titles_new_in s)
 take_makes r s sound among left =
     let good = (sound.spans s among).counted in
     let f = with_free_front s good left in
@@ -164,7 +166,8 @@ made_grown r after t g (s, among, n, below, e) = elim (g.only s among) [
   | inr none ↦ absurd (omega arith)
 ]
 
-pub one_makes : (class : ℕ) (r : Root) (f : Found) → IsSound r → class < 170 → span_for class r ≡ Some f → MakesMore r (one_take class r).root (titles_new_in f.span)
+pub one_makes : (class : ℕ) (r : Root) (f : Found) → IsSound r → class < 170 → span_for class r ≡ Some f →
+    MakesMore r (one_take class r).root (titles_new_in f.span)
 one_makes class r f sound real is =
     let h = found_ready class r f sound real is in
     let g = found_grown class r f is in

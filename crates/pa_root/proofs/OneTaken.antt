@@ -47,7 +47,8 @@ by_start : (o : Option Found) (at : ℕ) (z : Root) (w : View) (m : ShelfParts) 
 by_start None at z w m e shown = absurd (not_some at (sym e))
 by_start (Some f) at z w m e shown = (f, refl, shown, sym (of_some at f.span.place e))
 
-pub found_by : (class : ℕ) (v : View) (l : ShelfParts) (z : Root) (w : View) (m : ShelfParts) (at : ℕ) → CanTakeOne class v l z → class < 170 → Rewritten v w →
+pub found_by : (class : ℕ) (v : View) (l : ShelfParts) (z : Root) (w : View) (m : ShelfParts) (at : ℕ) → CanTakeOne class v l z →
+    class < 170 → Rewritten v w →
     Some at ≡ found_start (span_for class z) → ShowsRoot w m (found_root (span_for class z) z) → HasFound class v l z w m at
 found_by class v l z w m at can real wrote e shown =
     let (f, is, there, here) = by_start (span_for class z) at z w m e shown in
@@ -134,11 +135,13 @@ module _ (class : ℕ) (v : View) (l : ShelfParts) (z : Root) (w : View) (m : Sh
   take_is : take_of s grown ≡ one_take class z
   take_is = sym (ap (λ o. taken_from o z) h.is)
 
-  pub one_taken : (x y : View) (k : ShelfParts) (title : Option Title) → x ≡ after_cuts (titles_new_in h.found.span) w → NoneSeen x (titles_new_in h.found.span) →
+  pub one_taken : (x y : View) (k : ShelfParts) (title : Option Title) → x ≡ after_cuts (titles_new_in h.found.span) w →
+      NoneSeen x (titles_new_in h.found.span) →
       Rewritten x y → title ≡ (take_of h.found.span h.found.root).title → ShowsRoot y k (take_of h.found.span h.found.root).root →
       IsOneTaken class z v y k title
   one_taken x y k title x_is none wrote title_is shown =
-      let cut : Rewritten (after_cuts (titles_new_in s) v) y = rewritten_on (after_cuts (titles_new_in s) v) (after_cuts (titles_new_in s) w) y
+      let cut : Rewritten (after_cuts (titles_new_in s) v) y =
+      rewritten_on (after_cuts (titles_new_in s) v) (after_cuts (titles_new_in s) w) y
       (cuts_rewritten (titles_new_in s) v w h.wrote) (subst (λ (u : View). Rewritten u y) x_is wrote) in
       record {
         title_is = title_is ∙ ap (λ t. t.title) take_is;
@@ -148,10 +151,12 @@ module _ (class : ℕ) (v : View) (l : ShelfParts) (z : Root) (w : View) (m : Sh
       }
 
 -- the view after the cuts of the slots that were to be cut
-pub cut_view : (n : NewSlots) (s : Span) (y x : Share) (z : View) → n ≡ cut_before s → y ≡ x → z ≡ after_cuts (titles_beside n.first 0 n.count) y.view →
+pub cut_view : (n : NewSlots) (s : Span) (y x : Share) (z : View) → n ≡ cut_before s → y ≡ x →
+    z ≡ after_cuts (titles_beside n.first 0 n.count) y.view →
     z ≡ after_cuts (titles_new_in s) x.view
 cut_view n s y x z told same is =
-    is ∙ (ap (λ (k : NewSlots). after_cuts (titles_beside k.first 0 k.count) y.view) told ∙ ap (λ (q : Share). after_cuts (titles_new_in s) q.view) same)
+    is ∙ (ap (λ (k : NewSlots). after_cuts (titles_beside k.first 0 k.count) y.view) told ∙
+    ap (λ (q : Share). after_cuts (titles_new_in s) q.view) same)
 
 -- ---- if none is found, none was taken
 
@@ -159,7 +164,8 @@ none_by : (o : Option Found) → None ≡ found_start o → o ≡ None
 none_by None e = refl
 none_by (Some f) e = absurd (not_some f.span.place e)
 
-pub none_taken : (class : ℕ) (v w : View) (m : ShelfParts) (z : Root) → None ≡ found_start (span_for class z) → ShowsRoot w m (found_root (span_for class z) z) →
+pub none_taken : (class : ℕ) (v w : View) (m : ShelfParts) (z : Root) → None ≡ found_start (span_for class z) →
+    ShowsRoot w m (found_root (span_for class z) z) →
     Rewritten v w → IsOneTaken class z v w m None
 none_taken class v w m z e shown wrote =
     let none = none_by (span_for class z) e in

@@ -35,17 +35,20 @@ pub record HasPages (p line count asked first : ℕ) (s : RootState) (r : ℕ) (
   pub own : (k : ℕ) → Lends k [] s.view w
   pub same : (k : ℕ) → list_of k w ≡ list_of k s.view
 
-module _ (p line count asked first : ℕ) (s : RootState) (r : ℕ) (v a w note : View) (has : HasPages p line count asked first s r v a w note) where
+module _ (p line count asked first : ℕ) (s : RootState) (r : ℕ) (v a w note : View)
+    (has : HasPages p line count asked first s r v a w note) where
   pub still_sound : IsRootSound p (with_view w s)
   still_sound = seeing_more_keeps p s w has.sound has.aware has.now_aware (has.own 0).keeps (has.same p)
 
   pub pages_found : FoundRun (pools_seen (united w note)) asked count first
   pages_found =
-      let said : act_at (pools_seen a) asked ≡ Some (Take count (Some first)) = pool_says a asked count line p (Some first) r v w has.asks in
+      let said : act_at (pools_seen a) asked ≡ Some (Take count (Some first)) =
+      pool_says a asked count line p (Some first) r v w has.asks in
       let there : act_at (pools_seen note) asked ≡ Some (Take count (Some first)) =
       subst (λ es. act_at es asked ≡ Some (Take count (Some first))) (sym (ap pools_read has.run.list)) said in
       let (rest, more) = pools_more note (united w note) (right_begins w note 4 has.both_aware) in
-      subst (λ es. act_at es asked ≡ Some (Take count (Some first))) (sym more) (act_at_more (pools_seen note) rest asked (Take count (Some first)) there)
+      subst (λ es. act_at es asked ≡ Some (Take count (Some first))) (sym more)
+      (act_at_more (pools_seen note) rest asked (Take count (Some first)) there)
 
   pub pages_seen : HasSeenTake p asked first count (united w note)
   pages_seen = asked_seen r line p count first asked v a w w note has.asks has.run has.both_aware
@@ -64,7 +67,8 @@ module _ (p line asked first class : ℕ) (s : RootState) (r : ℕ) (v a w note 
         has = has.run.has;
       } in
       let ready =
-      roots_are_ready.with_page p class first asked (with_view w s) note can real none (pages_found p line 1 asked first s r v a w note has) has.asks.later in
+      roots_are_ready.with_page p class first asked (with_view w s) note can real none
+      (pages_found p line 1 asked first s r v a w note has) has.asks.later in
       record {
         sound = has.sound;
         aware = ready.aware;

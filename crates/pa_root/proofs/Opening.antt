@@ -106,7 +106,8 @@ module _ (p number entry : ℕ) (s : RootState) (w : View) (can : CanTakePage p 
       known = λ t free.
           let before : 0 < free_of s.view t = subst (λ n. 0 < n) (free_same t) free in
           let well = made_is_whole s.root t (root_sound p s can.sound.journal) (can.sound.titles.made t before) in
-          can.sound.numbers.known t before ∙ ap Some (sym (left_number s.view w (t.start + t.len) t can.aware can.both_aware can.long well before));
+          can.sound.numbers.known t before ∙
+          ap Some (sym (left_number s.view w (t.start + t.len) t can.aware can.both_aware can.long well before));
     };
     rest = rest_now;
     leases = record {

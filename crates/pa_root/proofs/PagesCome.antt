@@ -1,4 +1,5 @@
--- Super pages that come from the pool: the root has none of them, so it has less than sixteen super pages and less than sixteen direct maps.
+-- Super pages that come from the pool: the root has none of them, so it has less than sixteen super pages and less than sixteen direct
+-- maps.
 use Rattle.std.proofs.Common.{◌≡◌, ℕ, ◌+◌, ◌*◌, ◌<◌, ◌≤◌, inr, map, length, refl, sym, subst, arith}
 use Rattle.std.specs.Prelude.{◌≢◌, All, AllPairs, Contains}
 use Rattle.std.proofs.lemmas.List.Elements.{All-contains}
@@ -72,7 +73,8 @@ module _ (p first count entry : ℕ) (s : RootState) (w : View) (sound : IsRootS
       let place : record_byte u ≡ 2097152 * at.number + 4128 = omega arith in
       not_ours b (omega arith, omega arith) (raw_held p s u sound payload b (omega arith) (omega arith))
 
-  pub few_supers : (l : ShelfParts) → ShowsRoot s.view l s.root → All (λ (a : SuperPage). a.number < region_supers) l.supers → first < region_supers →
+  pub few_supers : (l : ShelfParts) → ShowsRoot s.view l s.root → All (λ (a : SuperPage). a.number < region_supers) l.supers →
+      first < region_supers →
       length l.supers < region_supers
   few_supers l shown below small =
       let number : SuperPage → ℕ = λ a. a.number in
@@ -83,14 +85,17 @@ module _ (p first count entry : ℕ) (s : RootState) (w : View) (sound : IsRootS
       subst (λ n. n < region_supers) is (All-contains (λ (z : SuperPage). z.number < region_supers) l.supers a below member) in
       let never : Contains (map number l.supers) first → ⊥ = λ inside.
       let (a, member, is) = map_cases number l.supers first inside in new_number l shown a member is in
-      subst (λ n. n < region_supers) (length_map number l.supers) (length_less (map number l.supers) region_supers first once under small never)
+      subst (λ n. n < region_supers) (length_map number l.supers)
+      (length_less (map number l.supers) region_supers first once under small never)
 
-  pub few_maps : ((b : ℕ) → 0 < held_of_view s.view (RawByte b) → b < 134217728) → first < region_supers → length s.root.maps < region_supers
+  pub few_maps : ((b : ℕ) → 0 < held_of_view s.view (RawByte b) → b < 134217728) → first < region_supers →
+      length s.root.maps < region_supers
   few_maps inside_region small =
       let good = root_sound p s sound.journal in
       let start : Title → ℕ = λ t. super_page_at t.start in
       let once : AllPairs ◌≢◌ (map start s.root.maps) =
-      pairs_map (λ (t u : Title). t.born ≢ u.born) ◌≢◌ start s.root.maps (λ t u inside other differ. maps_apart p s t u sound inside other differ) good.alone in
+      pairs_map (λ (t u : Title). t.born ≢ u.born) ◌≢◌ start s.root.maps
+      (λ t u inside other differ. maps_apart p s t u sound inside other differ) good.alone in
       let raw : (t : Title) → Contains s.root.maps t → 0 < held_of_view s.view (RawByte (2097152 * super_page_at t.start)) = λ t among.
       let low = (map_first p s t sound among).1 in let held = low_held s.view (2097152 * super_page_at t.start) t.born in omega arith in
       let under : (k : ℕ) → Contains (map start s.root.maps) k → k < region_supers = λ k inside.
@@ -99,7 +104,8 @@ module _ (p first count entry : ℕ) (s : RootState) (w : View) (sound : IsRootS
       let never : Contains (map start s.root.maps) first → ⊥ = λ inside.
       let (t, member, is) = map_cases start s.root.maps first inside in
       not_ours (2097152 * super_page_at t.start) (omega arith, omega arith) (raw t member) in
-      subst (λ n. n < region_supers) (length_map start s.root.maps) (length_less (map start s.root.maps) region_supers first once under small never)
+      subst (λ n. n < region_supers) (length_map start s.root.maps)
+      (length_less (map start s.root.maps) region_supers first once under small never)
 
 -- the records of a super page that came are raw
 pub raw_records : (first count entry : ℕ) (v w : View) → HasRunOnly first count entry entry w → 1 ≤ count → HasRawRecords (united v w) first

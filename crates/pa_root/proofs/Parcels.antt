@@ -31,7 +31,8 @@ use Rattle.pa_root.specs.Filling.{free_item, frees_parcel, GivesTitles}
 -- ---- what can be given
 
 -- a list without one title has each other one as many times
-others_stay : (t u : Title) (ts : List Title) → (t ≡ u → ⊥) → sum_by (λ x. one (same_title x u)) (without (is_title_of t) ts) ≡ sum_by (λ x. one (same_title x u)) ts
+others_stay : (t u : Title) (ts : List Title) → (t ≡ u → ⊥) →
+    sum_by (λ x. one (same_title x u)) (without (is_title_of t) ts) ≡ sum_by (λ x. one (same_title x u)) ts
 others_stay t u [] ne = refl
 others_stay t u (x ∷ xs) ne =
     let c = sum_by-cons (λ (y : Title). one (same_title y u)) x xs in
@@ -45,7 +46,8 @@ others_stay t u (x ∷ xs) ne =
           rw n.0 (omega arith)
     ]
 
-pub can_give : (ts : List Title) (v : View) → AllPairs ◌≢◌ ts → ((t : Title) → Contains ts t → 0 < free_of v t) → CanGive (map free_item ts) v
+pub can_give : (ts : List Title) (v : View) → AllPairs ◌≢◌ ts → ((t : Title) → Contains ts t → 0 < free_of v t) →
+    CanGive (map free_item ts) v
 can_give [] v once has = tt
 can_give (t ∷ ts) v once has =
     let R : Title → Title → Type 0 = λ a b. a ≢ b in (
@@ -54,7 +56,8 @@ can_give (t ∷ ts) v once has =
           (λ u among. subst (λ n. 0 < n) (sym (others_stay t u v.frees (pairs_head R t u ts once among))) (has u (later_in t u ts among))),
     )
 
-pub can_hand : (ts : List Title) (v : View) → AllPairs ◌≢◌ ts → ((t : Title) → Contains ts t → 0 < free_of v t) → CanHand (frees_parcel ts) v
+pub can_hand : (ts : List Title) (v : View) → AllPairs ◌≢◌ ts → ((t : Title) → Contains ts t → 0 < free_of v t) →
+    CanHand (frees_parcel ts) v
 can_hand ts v once has = record { items = can_give ts v once has; budget = omega arith; leases = tt; clean = λ k e. cc }
 
 -- ---- what the note has
@@ -80,7 +83,8 @@ given_frees [] v w = record {
 given_frees (t ∷ ts) v w =
     let w' = with_item (Free t) v w in
     let ih = given_frees ts (without_item (Free t) v) w' in
-    let more : (u : Title) → free_of w' u ≡ one (same_title t u) + free_of w u = λ u. sum_by-cons (λ (y : Title). one (same_title y u)) t w.frees in
+    let more : (u : Title) → free_of w' u ≡ one (same_title t u) + free_of w u =
+    λ u. sum_by-cons (λ (y : Title). one (same_title y u)) t w.frees in
     record {
       raws = ih.raws;
       owns = ih.owns;
@@ -158,7 +162,8 @@ pub record KeepsBut (ts : List Title) (v y : View) : Type 0 where
 no_low : (v : View) (b n : ℕ) → held_of_view v (RawByte b) ≡ 0 → low_of v b n ≡ 0
 no_low v b n none = let e = low_held v b n in omega arith
 
-pub keeps_but : (ts : List Title) (v : View) → AllPairs ◌≢◌ ts → ((t : Title) → Contains ts t → 0 < free_of v t) → ((t : Title) → free_of v t ≤ 1) →
+pub keeps_but : (ts : List Title) (v : View) → AllPairs ◌≢◌ ts → ((t : Title) → Contains ts t → 0 < free_of v t) →
+    ((t : Title) → free_of v t ≤ 1) →
     KeepsBut ts v (left_after (frees_parcel ts) v)
 keeps_but ts v once has most =
     let can = can_hand ts v once has in

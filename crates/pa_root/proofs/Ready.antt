@@ -35,7 +35,8 @@ module _ (pools : List PoolEntry) where
   made_before None r t made = made
   made_before (Some j) r t made = made
 
-  pub supers_ready : (n : ℕ) (asked : Option ℕ) (r : Root) (at : SuperPage) → AsksFrom n asked → Contains (opened_by pools asked r).supers at →
+  pub supers_ready : (n : ℕ) (asked : Option ℕ) (r : Root) (at : SuperPage) → AsksFrom n asked →
+      Contains (opened_by pools asked r).supers at →
       Contains r.supers at ⊎ (n ≤ at.born)
   supers_ready n None r at later among = inl among
   supers_ready n (Some j) r at later among = elim (last_is r (super_of (act_at pools j)) j at among) [
@@ -47,13 +48,15 @@ module _ (pools : List PoolEntry) where
   maps_ready None r = refl
   maps_ready (Some j) r = refl
 
-  pub sound_ready : (n : ℕ) (asked : Option ℕ) (r : Root) → IsSound r → IsBornBelow n r → AsksFrom n asked → IsSound (opened_by pools asked r)
+  pub sound_ready : (n : ℕ) (asked : Option ℕ) (r : Root) → IsSound r → IsBornBelow n r → AsksFrom n asked →
+      IsSound (opened_by pools asked r)
   sound_ready n None r sound old later = sound
   sound_ready n (Some j) r sound old later = opened_sound (super_of (act_at pools j)) j r sound (born_more n j r later old)
 
 -- a journal's root has super pages by entries that it names
 pub root_born : (p : ℕ) (s : RootState) → HasJournal p s → IsBornBelow (least_after_all 0 s.journal) s.root
-root_born p s has = subst (λ r. IsBornBelow (least_after_all 0 s.journal) r) (sym has.replayed) (journal_leaves (pools_seen s.view) s.journal has.fits).born
+root_born p s has = subst (λ r. IsBornBelow (least_after_all 0 s.journal) r) (sym has.replayed)
+    (journal_leaves (pools_seen s.view) s.journal has.fits).born
 
 -- a slot that is out was made
 pub out_was_made : (r : Root) (name : SlotName) → IsSound r → IsOut r name → (u : Title) × IsMade r u × (name_of u ≡ name)
@@ -65,7 +68,8 @@ out_was_made r name sound (s, among, n, out) =
 
 -- ---- how it becomes ready
 
-as_it_is : (p class : ℕ) (s : RootState) → IsRootSound p s → IsAware s.view → class < 170 → IsSome (span_for class s.root) → IsReadyFor p class None s s.view
+as_it_is : (p class : ℕ) (s : RootState) → IsRootSound p s → IsAware s.view → class < 170 → IsSome (span_for class s.root) →
+    IsReadyFor p class None s s.view
 as_it_is p class s sound aware real some = record {
   sound = sound;
   aware = aware;
@@ -94,14 +98,17 @@ as_it_is p class s sound aware real some = record {
 pub named_seen : (p : ℕ) (s : RootState) → HasJournal p s → least_after_all 0 s.journal ≤ length (list_of 4 s.view)
 named_seen p s has =
     let n = calls_fit.next (pools_seen s.view) s.journal has.fits in
-    let e : length (pools_seen s.view) ≡ length (list_of 4 s.view) = length-map (list_of 4 s.view) (λ (m : Made). pool_entry_read m.numbers) in
+    let e : length (pools_seen s.view) ≡ length (list_of 4 s.view) =
+    length-map (list_of 4 s.view) (λ (m : Made). pool_entry_read m.numbers) in
     omega arith
 
 pub super_is : (pools : List PoolEntry) (j number : ℕ) → FoundRun pools j 1 number → super_of (act_at pools j) ≡ number
 super_is pools j number found = ap super_of found
 
-with_page : (p class number entry : ℕ) (s : RootState) (w : View) → CanTakePage p number entry s w → class < 170 → IsNone (span_for class s.root) →
-    FoundRun (pools_seen (united s.view w)) entry 1 number → length (list_of 4 s.view) ≤ entry → IsReadyFor p class (Some entry) s (united s.view w)
+with_page : (p class number entry : ℕ) (s : RootState) (w : View) → CanTakePage p number entry s w → class < 170 →
+    IsNone (span_for class s.root) →
+    FoundRun (pools_seen (united s.view w)) entry 1 number → length (list_of 4 s.view) ≤ entry →
+    IsReadyFor p class (Some entry) s (united s.view w)
 with_page p class number entry s w can real none found later =
     let (slots, hosts) = opening_keeps p number entry s w can in
     let u = united s.view w in
@@ -112,7 +119,8 @@ with_page p class number entry s w can real none found later =
       own_list = left_whole s.view w p can.aware can.both_aware can.sound.journal.hosts.1;
       pool_list = left_begins s.view w 4 can.both_aware;
       undone = λ t. let e = (united_parts s.view w).undone t in omega arith;
-      slots = subst (λ n. HasSlots (record { view = u; journal = s.journal; root = opened n entry s.root })) (sym (super_is (pools_seen u) entry number found)) slots;
+      slots = subst (λ n. HasSlots (record { view = u; journal = s.journal; root = opened n entry s.root }))
+          (sym (super_is (pools_seen u) entry number found)) slots;
       class_is = real;
       asked_if = (none, number, found);
       later = let n = named_seen p s can.sound.journal in omega arith;

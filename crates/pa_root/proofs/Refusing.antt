@@ -41,12 +41,15 @@ pub keeper_stays : (p : ℕ) (v x : View) → Keeps v x → 0 < keeper_of v p �
 keeper_stays p v x keeps has = subst (λ n. 0 < n) (sym (keeps.keepers p)) has
 
 -- what the pool's entry says to a seat that has seen it, and to one that was shown that
-pub pool_says : (a : View) (index count line p : ℕ) (found : Option ℕ) (r : ℕ) (v root : View) → IsAskedFor r line p count found index v a root →
+pub pool_says : (a : View) (index count line p : ℕ) (found : Option ℕ) (r : ℕ) (v root : View) →
+    IsAskedFor r line p count found index v a root →
     act_at (pools_seen a) index ≡ Some (Take count found)
 pool_says a index count line p found r v root asked = ap (option_map (λ (e : PoolEntry). e.act)) asked.stands
 
--- The root's seat had the view w, w1 once the pool was asked, w2 once it was shown what the caller's had seen, and x once the entry was made.
-pub record ToldNone (line p count j asked : ℕ) (class : Option ℕ) (v a b after w w1 w2 x : View) (m : Made) (js js_now : List RootEntry) : Type 0 where
+-- The root's seat had the view w, w1 once the pool was asked, w2 once it was shown what the caller's had seen, and x once the entry was
+-- made.
+pub record ToldNone (line p count j asked : ℕ) (class : Option ℕ) (v a b after w w1 w2 x : View) (m : Made)
+    (js js_now : List RootEntry) : Type 0 where
   pub lender : CanLend v
   pub host : HostsKeeper p w
   pub aware : IsAware w
@@ -61,7 +64,8 @@ pub record ToldNone (line p count j asked : ℕ) (class : Option ℕ) (v a b aft
   pub journal : js_now ≡ js ++ root_entry line (Full class asked) ∷ []
 
 pub refused_by : (line p count j asked : ℕ) (class : Option ℕ) (v a b after w w1 w2 x : View) (m : Made) (js js_now : List RootEntry) →
-    ToldNone line p count j asked class v a b after w w1 w2 x m js js_now → IsRefusedBy j (least_stake v.stakes) p line count class v after w x js js_now
+    ToldNone line p count j asked class v a b after w w1 w2 x m js js_now →
+    IsRefusedBy j (least_stake v.stakes) p line count class v after w x js js_now
 refused_by line p count j asked class v a b after w w1 w2 x m js js_now t =
     let r = least_stake v.stakes in
     let e : RootEntry = root_entry line (Full class asked) in
@@ -75,7 +79,8 @@ refused_by line p count j asked class v a b after w w1 w2 x m js js_now t =
     let lists : list_of p w2 ≡ list_of p w = (t.shown.taker 0).own_lists p has ∙ t.same p in
     let place : length (list_of p w2) ≡ j = ap length lists ∙ (t.long ∙ sym t.index) in
     let enters : EntersTwo asked j r p [] taken e v after =
-    subst (λ n. EntersTwo asked n r p [] taken e v after) place (entries_are_told.two asked r p [] taken e v b after w2 x pool m is_pool to_b noted) in
+    subst (λ n. EntersTwo asked n r p [] taken e v after) place
+    (entries_are_told.two asked r p [] taken e v b after w2 x pool m is_pool to_b noted) in
     let (rest, more) = pools_more a w2 (t.shown.lists 4) in
     let (rest', more') = pools_more w2 x (noted.hosts.lists 4) in
     let said : act_at (pools_seen a) asked ≡ Some (Take count None) = pool_says a asked count line p None r v w1 t.asks in
@@ -87,7 +92,8 @@ refused_by line p count j asked class v a b after w w1 w2 x m js js_now t =
       full = record { asked = asked; enters = enters };
       entered = (m, noted.list ∙ ap (λ l. l ++ m ∷ []) lists, noted.says);
       journal = t.journal;
-      none = subst (λ es. act_at es asked ≡ Some (Take count None)) (sym more') (act_at_more (pools_seen w2) rest' asked (Take count None) seen);
+      none = subst (λ es. act_at es asked ≡ Some (Take count None)) (sym more')
+          (act_at_more (pools_seen w2) rest' asked (Take count None) seen);
       later = omega arith;
       keeps = keeps_on w w1 x t.own.keeps (keeps_on w1 w2 x (t.shown.taker 0).keeps noted.hosts);
       aware = t.aware;
@@ -107,7 +113,8 @@ full_sound j r p line count class s v after x js sound told fits =
     let least = named_seen p s sound.journal in
     let later = told.later in
     subst (λ es. IsRootSound p (record { view = x; journal = es; root = s.root })) (sym told.journal)
-    (idle_entries_keep p s x e sound told.aware told.now_aware told.keeps told.entered (record { act = fits; asks = omega arith }) refl (same_slots s.root))
+    (idle_entries_keep p s x e sound told.aware told.now_aware told.keeps told.entered (record { act = fits; asks = omega arith }) refl
+    (same_slots s.root))
 
 pub full_tells : (j r p line count : ℕ) (class : Option ℕ) (s s_now : RootState) (v after : View) →
     IsRefusedBy j r p line count class v after s.view s_now.view s.journal s_now.journal → s_now.root ≡ s.root →
@@ -115,7 +122,8 @@ pub full_tells : (j r p line count : ℕ) (class : Option ℕ) (s s_now : RootSt
 full_tells j r p line count class s s_now v after told same = record { full = told.full; journal = told.journal; same = same }
 
 -- a root that got none: it says so and is sound, or nothing changed
-pub none_given : (r p line count : ℕ) (class : Option ℕ) (a b w w_now : Share) (js js_now : List RootEntry) (root : Root) (fault : FillFault) →
+pub none_given : (r p line count : ℕ) (class : Option ℕ) (a b w w_now : Share) (js js_now : List RootEntry) (root : Root)
+    (fault : FillFault) →
     IsRootSound p (root_of_parts w.view js root) →
     ((asked : ℕ) → FoundNone (pools_seen w_now.view) asked count → FullFits (pools_seen w_now.view) class asked root) →
     RefusesRoom r p line count class a b w w_now js js_now fault →
@@ -123,7 +131,8 @@ pub none_given : (r p line count : ℕ) (class : Option ℕ) (a b w w_now : Shar
     × IsRootSound p (root_of_parts w_now.view js_now root)
 none_given r p line count class a b w w_now js js_now root (fault.Full j) sound fits told = (
   full_tells j r p line count class (root_of_parts w.view js root) (root_of_parts w_now.view js_now root) a.view b.view told refl,
-  full_sound j r p line count class (root_of_parts w.view js root) a.view b.view w_now.view js_now sound told (fits told.full.asked told.none),
+  full_sound j r p line count class (root_of_parts w.view js root) a.view b.view w_now.view js_now sound told
+      (fits told.full.asked told.none),
 )
 none_given r p line count class a b w w_now js js_now root fault.OutOfMemory sound fits (seats, own, journals) =
     let same : root_of_parts w_now.view js_now root ≡ root_of_parts w.view js root =
@@ -132,7 +141,8 @@ none_given r p line count class a b w w_now js js_now root fault.OutOfMemory sou
 
 -- the journal of a root that gave none has one more entry at most
 pub none_long : (r p line count : ℕ) (class : Option ℕ) (a b : Share) (s s_now : RootState) (fault : FillFault) →
-    NoneGiven r p line count class a b s s_now fault → (length s.journal ≤ length s_now.journal) × (length s_now.journal ≤ length s.journal + 1)
+    NoneGiven r p line count class a b s s_now fault → (length s.journal ≤ length s_now.journal) ×
+    (length s_now.journal ≤ length s.journal + 1)
 none_long r p line count class a b s s_now (fault.Full j) told =
     let e = ap length told.journal in
     let more = length-append s.journal (root_entry line (Full class told.full.asked) ∷ []) in

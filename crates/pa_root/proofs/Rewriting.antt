@@ -44,7 +44,8 @@ slots_with s r u x h = let t = h.titles in record {
   leases = record { supers = h.leases.supers; maps = h.leases.maps };
 }
 
-pub ready_rewritten : (p class : ℕ) (asked : Option ℕ) (s : RootState) (u x : View) → IsReadyFor p class asked s u → Rewritten u x → IsAware x →
+pub ready_rewritten : (p class : ℕ) (asked : Option ℕ) (s : RootState) (u x : View) → IsReadyFor p class asked s u → Rewritten u x →
+    IsAware x →
     IsReadyFor p class asked s x
 ready_rewritten p class asked s u x ready wrote aware =
     let y = other_words u x in

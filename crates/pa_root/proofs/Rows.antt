@@ -24,25 +24,31 @@ pub cuts_go_on : CutsGoOn
 cuts_go_on = record { parts = parts; view = view; seen = λ ts v t. (beside_cuts ts v).seen t }
 
 -- one more, at the end
-pub one_beside : (first : Title) (from n : ℕ) → titles_beside first from (n + 1) ≡ titles_beside first from n ++ title_beside first (from + n) ∷ []
+pub one_beside : (first : Title) (from n : ℕ) → titles_beside first from (n + 1) ≡ titles_beside first from n ++
+    title_beside first (from + n) ∷ []
 one_beside first from zero = let e : from + 0 ≡ from = omega arith in ap (λ k. title_beside first k ∷ []) (sym e)
 one_beside first from (suc n) =
     let e : from + 1 + n ≡ from + suc n = omega arith in
     let s : suc n + 1 ≡ suc (n + 1) = omega arith in
     ap (titles_beside first from) s
-    ∙ ap (λ ts. title_beside first from ∷ ts) (one_beside first (from + 1) n ∙ ap (λ k. titles_beside first (from + 1) n ++ title_beside first k ∷ []) e)
+    ∙ ap (λ ts. title_beside first from ∷ ts) (one_beside first (from + 1) n ∙
+    ap (λ k. titles_beside first (from + 1) n ++ title_beside first k ∷ []) e)
 
 -- those after the first n
-pub beside_parts : (first : Title) (from n m : ℕ) → titles_beside first from (n + m) ≡ titles_beside first from n ++ titles_beside first (from + n) m
-beside_parts first from zero m = let e : from + 0 ≡ from = omega arith in let z : 0 + m ≡ m = omega arith in ap (titles_beside first from) z ∙ ap (λ k. titles_beside first k m) (sym e)
+pub beside_parts : (first : Title) (from n m : ℕ) → titles_beside first from (n + m) ≡ titles_beside first from n ++
+    titles_beside first (from + n) m
+beside_parts first from zero m = let e : from + 0 ≡ from = omega arith in let z : 0 + m ≡ m = omega arith in
+    ap (titles_beside first from) z ∙ ap (λ k. titles_beside first k m) (sym e)
 beside_parts first from (suc n) m =
     let e : from + 1 + n ≡ from + suc n = omega arith in
     let s : suc n + m ≡ suc (n + m) = omega arith in
     ap (titles_beside first from) s
-    ∙ ap (λ ts. title_beside first from ∷ ts) (beside_parts first (from + 1) n m ∙ ap (λ k. titles_beside first (from + 1) n ++ titles_beside first k m) e)
+    ∙ ap (λ ts. title_beside first from ∷ ts) (beside_parts first (from + 1) n m ∙
+    ap (λ k. titles_beside first (from + 1) n ++ titles_beside first k m) e)
 
 -- the next of a row can be cut after those before it
-pub next_can : (first : Title) (count n : ℕ) (v w : View) → n < count → CanCutAll (titles_beside first 0 count) v → w ≡ after_cuts (titles_beside first 0 n) v →
+pub next_can : (first : Title) (count n : ℕ) (v w : View) → n < count → CanCutAll (titles_beside first 0 count) v →
+    w ≡ after_cuts (titles_beside first 0 n) v →
     CanCut (title_beside first n) w
 next_can first count n v w below can e =
     let split : count ≡ n + suc (count - n - 1) = omega arith in
@@ -54,7 +60,8 @@ next_can first count n v w below can e =
     subst (λ k. CanCut (title_beside first k) w) z (subst (λ x. CanCut (title_beside first (0 + n)) x) (sym e) here)
 
 -- the view after it
-pub next_view : (first : Title) (n : ℕ) (v w x : View) → w ≡ after_cuts (titles_beside first 0 n) v → x ≡ after_cut (title_beside first n) w →
+pub next_view : (first : Title) (n : ℕ) (v w x : View) → w ≡ after_cuts (titles_beside first 0 n) v →
+    x ≡ after_cut (title_beside first n) w →
     x ≡ after_cuts (titles_beside first 0 (n + 1)) v
 next_view first n v w x e f =
     let z : n ≡ 0 + n = omega arith in
@@ -75,7 +82,8 @@ next_new first n v w e new now t among =
       | inr last ↦ elim (in_cases (title_beside first n) t [] last) [
         | inl here ↦
             let zero_here : seen_of v (title_beside first n) ≡ 0 =
-            sym ((beside_cuts (titles_beside first 0 n) v).seen (title_beside first n)) ∙ ap (λ x. seen_of x (title_beside first n)) (sym e) ∙ now in
+            sym ((beside_cuts (titles_beside first 0 n) v).seen (title_beside first n)) ∙
+            ap (λ x. seen_of x (title_beside first n)) (sym e) ∙ now in
             subst (λ x. seen_of v x ≡ 0) here zero_here
         | inr none ↦ absurd (not_in_none t none)
       ]
@@ -83,7 +91,8 @@ next_new first n v w e new now t among =
 
 -- ---- what is in a row
 
-pub in_row : (first : Title) (from count : ℕ) (t : Title) → Contains (titles_beside first from count) t → (k : ℕ) × (k < count) × (t ≡ title_beside first (from + k))
+pub in_row : (first : Title) (from count : ℕ) (t : Title) → Contains (titles_beside first from count) t → (k : ℕ) × (k < count) ×
+    (t ≡ title_beside first (from + k))
 in_row first from zero t among = absurd (not_in_none t among)
 in_row first from (suc n) t among = elim (in_cases (title_beside first from) t (titles_beside first (from + 1) n) among) [
   | inl here ↦ let z : from ≡ from + 0 = omega arith in (0, omega arith, sym here ∙ ap (title_beside first) z)
@@ -97,11 +106,13 @@ pub row_has : (first : Title) (from count k : ℕ) → k < count → Contains (t
 row_has first from zero k below = absurd (omega arith)
 row_has first from (suc n) zero below =
     let z : from ≡ from + 0 = omega arith in
-    subst (λ j. Contains (titles_beside first from (suc n)) (title_beside first j)) z (first_in (title_beside first from) (titles_beside first (from + 1) n))
+    subst (λ j. Contains (titles_beside first from (suc n)) (title_beside first j)) z
+    (first_in (title_beside first from) (titles_beside first (from + 1) n))
 row_has first from (suc n) (suc k) below =
     let s : from + 1 + k ≡ from + suc k = omega arith in
     subst (λ j. Contains (titles_beside first from (suc n)) (title_beside first j)) s
-    (later_in (title_beside first from) (title_beside first (from + 1 + k)) (titles_beside first (from + 1) n) (row_has first (from + 1) n k (omega arith)))
+    (later_in (title_beside first from) (title_beside first (from + 1 + k)) (titles_beside first (from + 1) n)
+    (row_has first (from + 1) n k (omega arith)))
 
 pub row_once : (first : Title) (from count : ℕ) → 1 ≤ first.len → AllPairs ◌≢◌ (titles_beside first from count)
 row_once first from zero long = pairs_none (λ (a : Title) (b : Title). a ≢ b)
@@ -135,7 +146,9 @@ next_place first next n e =
     ∙ ap (λ k. let x : Title = record { start = k; len = first.len; born = first.born } in x) more
 
 -- all of the row are new to the seat that cut them
-pub all_new : (first : Title) (count done : ℕ) (v w : View) → done ≡ count → w ≡ after_cuts (titles_beside first 0 done) v → NoneSeen v (titles_beside first 0 done) →
+pub all_new : (first : Title) (count done : ℕ) (v w : View) → done ≡ count → w ≡ after_cuts (titles_beside first 0 done) v →
+    NoneSeen v (titles_beside first 0 done) →
     NoneSeen w (titles_beside first 0 count)
 all_new first count done v w e f new t among =
-    ap (λ x. seen_of x t) f ∙ (beside_cuts (titles_beside first 0 done) v).seen t ∙ new t (subst (λ n. Contains (titles_beside first 0 n) t) (sym e) among)
+    ap (λ x. seen_of x t) f ∙ (beside_cuts (titles_beside first 0 done) v).seen t ∙
+    new t (subst (λ n. Contains (titles_beside first 0 n) t) (sym e) among)

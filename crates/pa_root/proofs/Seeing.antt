@@ -42,7 +42,8 @@ root_sound p s has = subst (λ r. IsSound r) (sym has.replayed) (journal_leaves 
 
 -- ---- parts that stay when the root has the same slots
 
-pub titles_stay : (s : RootState) (x : View) (journal : List RootEntry) (after : Root) → Keeps s.view x → HasSameSlots s.root after → HoldsMade s →
+pub titles_stay : (s : RootState) (x : View) (journal : List RootEntry) (after : Root) → Keeps s.view x → HasSameSlots s.root after →
+    HoldsMade s →
     HoldsMade (record { view = x; journal = journal; root = after })
 titles_stay s x journal after keeps same holds = record {
   has = λ t made. elim (holds.has t ((same.made t).0 made)) [
@@ -64,7 +65,8 @@ rest_before r after j b keeps supers maps (inl (at, among, born, inside, away)) 
 rest_before r after j b keeps supers maps (inr (t, first, among, born, start, inside, away)) =
     inr (t, first, subst (λ ts. Contains ts t) maps among, born, start, inside, away)
 
-pub rest_kept : (s : RootState) (x : View) (journal : List RootEntry) (after : Root) → ((b n : ℕ) → 0 < low_of s.view b n → 0 < low_of x b n) →
+pub rest_kept : (s : RootState) (x : View) (journal : List RootEntry) (after : Root) →
+    ((b n : ℕ) → 0 < low_of s.view b n → 0 < low_of x b n) →
     ((t : Title) → IsMade s.root t → IsMade after t) → after.supers ≡ s.root.supers → after.maps ≡ s.root.maps → HasRest s →
     HasRest (record { view = x; journal = journal; root = after })
 rest_kept s x journal after low keeps supers maps rest = record {
@@ -73,12 +75,15 @@ rest_kept s x journal after low keeps supers maps rest = record {
       rest.one j k b (rest_before s.root after j b keeps supers maps inside) (rest_before s.root after k b keeps supers maps other);
 }
 
-pub rest_stays : (s : RootState) (x : View) (journal : List RootEntry) (after : Root) → Keeps s.view x → HasSameSlots s.root after → HasRest s →
+pub rest_stays : (s : RootState) (x : View) (journal : List RootEntry) (after : Root) → Keeps s.view x → HasSameSlots s.root after →
+    HasRest s →
     HasRest (record { view = x; journal = journal; root = after })
 rest_stays s x journal after keeps same rest =
-    rest_kept s x journal after (λ b n some. subst (λ k. 0 < k) (sym (keeps.floors b n)) some) (λ t made. (same.made t).1 made) same.supers same.maps rest
+    rest_kept s x journal after (λ b n some. subst (λ k. 0 < k) (sym (keeps.floors b n)) some)
+    (λ t made. (same.made t).1 made) same.supers same.maps rest
 
-pub leases_stay : (s : RootState) (x : View) (journal : List RootEntry) (after : Root) → Keeps s.view x → HasSameSlots s.root after → KeepsLeases s →
+pub leases_stay : (s : RootState) (x : View) (journal : List RootEntry) (after : Root) → Keeps s.view x → HasSameSlots s.root after →
+    KeepsLeases s →
     KeepsLeases (record { view = x; journal = journal; root = after })
 leases_stay s x journal after keeps same leases = record {
   supers = λ at among. subst (λ n. 0 < n) (sym (keeps.leases at.born)) (leases.supers at (subst (λ ss. Contains ss at) same.supers among));
@@ -86,13 +91,15 @@ leases_stay s x journal after keeps same leases = record {
 }
 
 -- of a title that it holds free the seat has seen the same number
-pub number_stays : (p : ℕ) (s : RootState) (x : View) (t : Title) → IsRootSound p s → IsAware s.view → IsAware x → Keeps s.view x → 0 < free_of s.view t →
+pub number_stays : (p : ℕ) (s : RootState) (x : View) (t : Title) → IsRootSound p s → IsAware s.view → IsAware x → Keeps s.view x →
+    0 < free_of s.view t →
     seen_of x t ≡ seen_of s.view t
 number_stays p s x t sound aware now keeps free =
     kept_number s.view x (t.start + t.len) t aware now keeps
     (made_is_whole s.root t (root_sound p s sound.journal) (sound.titles.made t free)) free
 
-numbers_stay : (p : ℕ) (s : RootState) (x : View) → IsRootSound p s → IsAware s.view → IsAware x → Keeps s.view x → KnowsNumbers (with_view x s)
+numbers_stay : (p : ℕ) (s : RootState) (x : View) → IsRootSound p s → IsAware s.view → IsAware x → Keeps s.view x →
+    KnowsNumbers (with_view x s)
 numbers_stay p s x sound aware now keeps = record {
   numbered = sound.numbers.numbered;
   known = λ t free.

@@ -1,5 +1,5 @@
 -- A seat shows another what it has seen, by a note that has nothing.
-use Rattle.std.proofs.Common.{◌≡◌, ℕ, ◌<◌, ◌≤◌, ◌&&◌, List, [], ◌∷◌, ◌++◌, Bool, true, false, length, filter, refl, sym, ◌∙◌, ap, subst, arith, eqb, inl, inr}
+use Rattle.std.proofs.Common.{◌≡◌, ℕ, ◌<◌, ◌≤◌, ◌&&◌, ◌||◌, List, [], ◌∷◌, ◌++◌, Bool, true, false, length, filter, refl, sym, ◌∙◌, ap, subst, arith, eqb, inl, inr}
 use Rattle.std.specs.Prelude.{if◌then◌else◌}
 use Rattle.std.specs.List.{sum_by}
 use Rattle.std.proofs.lemmas.List.{append-nil, length-append}
@@ -74,7 +74,8 @@ gives_nothing v r =
     }
 
 -- a seat that takes a note of nothing keeps what it has
-pub takes_nothing : (v w : View) (r : ℕ) → IsAware w → IsAware (united w (given_after (frees_parcel []) v)) → length w.words ≡ length v.words →
+pub takes_nothing : (v w : View) (r : ℕ) → IsAware w → IsAware (united w (given_after (frees_parcel []) v)) →
+    length w.words ≡ length v.words →
     Lends r [] w (united w (given_after (frees_parcel []) v))
 takes_nothing v w r aware both long =
     let g = given_after (frees_parcel []) v in
@@ -85,7 +86,8 @@ takes_nothing v w r aware both long =
       keeps = record {
         things = λ x. let e = parts.things x in omega arith;
         floors = λ b n. let e = parts.floors b n in omega arith;
-        idle = λ t. let e = sum_by-append (λ (o : OwnTitle). one (same_title o.title t && o.idle)) w.owns g.owns in omega arith;
+        idle = λ t.
+            let e = sum_by-append (λ (o : OwnTitle). one (same_title o.title t && (o.idle || o.sealed))) w.owns g.owns in omega arith;
         poisoned = λ t. let e = parts.poisoned t in omega arith;
         unclean = let e = parts.unclean in omega arith;
         budget = let e = parts.budget in omega arith;
@@ -104,7 +106,8 @@ takes_nothing v w r aware both long =
       logs = λ k. more_none k r (log_of k w) (log_of k u) (ap (λ ss. log_among k ss) stakes);
     }
 
-pub shown_by : (v v_now g w w_now : View) → v_now ≡ left_after (frees_parcel []) v → g ≡ given_after (frees_parcel []) v → w_now ≡ united w g →
+pub shown_by : (v v_now g w w_now : View) → v_now ≡ left_after (frees_parcel []) v → g ≡ given_after (frees_parcel []) v →
+    w_now ≡ united w g →
     IsAware w → IsAware w_now → length w.words ≡ length v.words → IsShown v v_now w w_now
 shown_by v v_now g w w_now left given both aware now long =
     let g0 = given_after (frees_parcel []) v in
@@ -120,7 +123,8 @@ shown_by v v_now g w w_now left given both aware now long =
     }
 
 -- Two seats that show each other what they have seen have seen the same of a list if one of them has its keeper.
-module _ (p : ℕ) (v w v_mid w_mid v_now w_now : View) (there : IsShown w w_mid v v_mid) (back : IsShown v_mid v_now w_mid w_now) (has : 0 < keeper_of v p) where
+module _ (p : ℕ) (v w v_mid w_mid v_now w_now : View) (there : IsShown w w_mid v v_mid) (back : IsShown v_mid v_now w_mid w_now)
+    (has : 0 < keeper_of v p) where
   pub own_stays : list_of p v_now ≡ list_of p v
   own_stays = back.same p ∙ (there.taker 0).own_lists p has
 
@@ -131,7 +135,8 @@ module _ (p : ℕ) (v w v_mid w_mid v_now w_now : View) (there : IsShown w w_mid
         | inl mine ↦
             let whole : IsBeginning (list_of p w_mid) (list_of p v_mid) =
             subst (λ l. IsBeginning l (list_of p v_mid)) (sym (there.same p)) (there.lists p) in
-            mine ∙ (beginning_whole (list_of p w_mid) (list_of p v_mid) whole (begun_less (list_of p v_mid) (list_of p w_now) (list_of p w_mid) (back.lists p) mine) ∙ mid)
+            mine ∙ (beginning_whole (list_of p w_mid) (list_of p v_mid) whole
+            (begun_less (list_of p v_mid) (list_of p w_now) (list_of p w_mid) (back.lists p) mine) ∙ mid)
         | inr its ↦ its ∙ mid
       ]
     where

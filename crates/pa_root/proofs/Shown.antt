@@ -42,7 +42,8 @@ listed_made r s t sound among inside =
     (s, among, n, omega arith, sym is)
 
 -- a free slot of a span is free in the seat's view
-pub free_held : (p : ℕ) (s : RootState) (span : Span) (t : Title) → IsRootSound p s → Contains s.root.spans span → Contains (titles_free span) t →
+pub free_held : (p : ℕ) (s : RootState) (span : Span) (t : Title) → IsRootSound p s → Contains s.root.spans span →
+    Contains (titles_free span) t →
     0 < free_of s.view t
 free_held p s span t sound among inside =
     let good = root_sound p s sound.journal in
@@ -57,7 +58,8 @@ free_held p s span t sound among inside =
           let names : name_of (title_at other k) ≡ name_of (title_at span n) = sym away.named ∙ ap name_of (sym is) in
           let one = one_slot s.root other span k n good member among (omega arith) (omega arith)
           (ap (λ (a : SlotName). a.born) names) (ap (λ (a : SlotName). a.start) names) in
-          absurd (away.out (subst (λ m. Contains other.free m) (sym one.number) (subst (λ (z : Span). Contains z.free n) (sym one.span) numbered)))
+          absurd (away.out (subst (λ m. Contains other.free m) (sym one.number)
+          (subst (λ (z : Span). Contains z.free n) (sym one.span) numbered)))
     ]
 
 -- a record's bytes lie in the rest of its super page
@@ -69,11 +71,13 @@ pub raw_held : (p : ℕ) (s : RootState) (u : ℕ) → IsRootSound p s → IsPay
 raw_held p s u sound payload b low high =
     let good = root_sound p s sound.journal in
     let (at, among, number) = payload.super in
-    let place : record_byte u ≡ 2097152 * at.number + 4096 + 32 * (u % 2097152 / 16384) = ap (λ n. 2097152 * n + 4096 + 32 * (u % 2097152 / 16384)) (sym number) in
+    let place : record_byte u ≡ 2097152 * at.number + 4096 + 32 * (u % 2097152 / 16384) =
+    ap (λ n. 2097152 * n + 4096 + 32 * (u % 2097152 / 16384)) (sym number) in
     let inside = in_run at.number (u % 2097152 / 16384) b payload.page.1 (omega arith) (omega arith) in
     let away : IsInMade s.root at.born b → ⊥ = λ (t, (span, member, n, below, is), born, covers).
     let most = (good.spans span member).counted.most in
-    cuts_keep_shown.beside s.root.supers s.root span n good member (omega arith) u b payload (subst (λ (z : Title). Covers z b) is covers) low high in
+    cuts_keep_shown.beside s.root.supers s.root span n good member (omega arith) u b payload
+    (subst (λ (z : Title). Covers z b) is covers) low high in
     let floor = sound.rest.raw at.born b (inl (at, among, refl, inside, away)) in
     let held = low_held s.view b at.born in
     omega arith
@@ -83,7 +87,8 @@ raw_held p s u sound payload b low high =
 record_known : (v : View) (u q : ℕ) → HasRawRecord v u → record_word u ≤ q → q < record_word u + 4 → Knows v q
 record_known v u q raw low high = let whole = aligned u in inl (raw (8 * q) (omega arith) (omega arith))
 
-first_known : (v : View) (r : Root) (s : Span) (t : Title) → IsSound r → Contains r.spans s → Contains (titles_free s) t → 0 < free_of v t → Knows v (t.start / 8)
+first_known : (v : View) (r : Root) (s : Span) (t : Title) → IsSound r → Contains r.spans s → Contains (titles_free s) t → 0 < free_of v t →
+    Knows v (t.start / 8)
 first_known v r s t sound among inside free =
     let well = made_is_whole r t sound (listed_made r s t sound among inside) in
     let whole = well.start_aligned in let long = well.long in
@@ -94,10 +99,12 @@ abbrev pub SameKnown : View → View → Type 0
 SameKnown v x = (q : ℕ) → Knows v q → Knows x q → slice_index x.words q ≡ slice_index v.words q
 
 -- A sound root is shown by its view, if it was shown by another one with the same words where both know them.
-pub shown_later : (p : ℕ) (v : View) (s : RootState) (l : ShelfParts) → IsRootSound p s → SameKnown v s.view → ShowsRoot v l s.root → ShowsRoot s.view l s.root
+pub shown_later : (p : ℕ) (v : View) (s : RootState) (l : ShelfParts) → IsRootSound p s → SameKnown v s.view → ShowsRoot v l s.root →
+    ShowsRoot s.view l s.root
 shown_later p v s l sound same shown =
     let good = root_sound p s sound.journal in
-    let ours : (u : ℕ) → IsPayloadOf l.supers u → IsPayloadOf s.root.supers u = λ u payload. subst (λ ss. IsPayloadOf ss u) (sym shown.kept.supers) payload in
+    let ours : (u : ℕ) → IsPayloadOf l.supers u → IsPayloadOf s.root.supers u =
+    λ u payload. subst (λ ss. IsPayloadOf ss u) (sym shown.kept.supers) payload in
     shown_stays v s.view l s.root
     (record {
       words = λ u q payload low high. same q (record_known v u q (shown.kept.pages u payload).raw low high)

@@ -121,7 +121,8 @@ one_turn class v w l m z title sound real shown one = elim (take_cases class z s
       omega arith
 ]
 
-module _ (class want left : ℕ) (v w : View) (l0 l : ShelfParts) (r : Root) (titles : List Title) (can : CanTakeSlots v l0 r) (real : class < 170)
+module _ (class want left : ℕ) (v w : View) (l0 l : ShelfParts) (r : Root) (titles : List Title) (can : CanTakeSlots v l0 r)
+    (real : class < 170)
     (u : IsUnderWay class want left v w l r titles) where
   abbrev after : Root
   after = (one_take class u.now).root
@@ -136,7 +137,8 @@ module _ (class want left : ℕ) (v w : View) (l0 l : ShelfParts) (r : Root) (ti
   next_able =
       let (sound, supers) = one_sound class u.now u.sound real in
       let s : RootState = record { view = v; journal = []; root = r } in
-      let all : CanCutAll (u.new ++ now_new) v = what_is_made_can_be_cut s after (u.new ++ now_new) can.rest can.sound sound (supers ∙ u.supers) all_more in
+      let all : CanCutAll (u.new ++ now_new) v =
+      what_is_made_can_be_cut s after (u.new ++ now_new) can.rest can.sound sound (supers ∙ u.supers) all_more in
       record {
         sound = u.sound;
         shown = u.shown;
@@ -149,7 +151,8 @@ module _ (class want left : ℕ) (v w : View) (l0 l : ShelfParts) (r : Root) (ti
     all_cut : Rewritten (after_cuts (u.new ++ now_new) v) x
     all_cut =
         subst (λ (y : View). Rewritten y x) (sym (cuts_go_on.view u.new now_new v))
-        (rewritten_on (after_cuts now_new (after_cuts u.new v)) (after_cuts now_new w) x (cuts_rewritten now_new (after_cuts u.new v) w u.cut) one.cut)
+        (rewritten_on (after_cuts now_new (after_cuts u.new v)) (after_cuts now_new w) x
+        (cuts_rewritten now_new (after_cuts u.new v) w u.cut) one.cut)
 
     seen_same : (t : Title) → seen_of x t ≡ seen_of w t
     seen_same t = ap (λ (y : View). seen_of y t) one.cut.rest ∙ (beside_cuts now_new w).seen t
@@ -184,14 +187,16 @@ module _ (class want left : ℕ) (v w : View) (l0 l : ShelfParts) (r : Root) (ti
           new = u.new ++ now_new;
           titles_are = sym (ap (λ (f : Filled). f.titles) all);
           shown = subst (ShowsRoot x m) (ap (λ (t : Took). t.root) e ∙ sym (ap (λ (f : Filled). f.root) all)) one.shown;
-          more = subst (λ z. MakesMore r z (u.new ++ now_new)) (ap (λ (t : Took). t.root) e ∙ sym (ap (λ (f : Filled). f.root) all)) all_more;
+          more = subst (λ z. MakesMore r z (u.new ++ now_new))
+              (ap (λ (t : Took). t.root) e ∙ sym (ap (λ (f : Filled). f.root) all)) all_more;
           cut = all_cut x m None one;
           unseen = all_unseen x m None one;
         }
     | inr (some, given) ↦ absurd (not_some given.title (one.title_is ∙ given.gives))
   ]
     where
-      no_more : (n : ℕ) → one_take class u.now ≡ record { root = u.now; title = None } → takes class n u.now ≡ record { root = u.now; titles = [] }
+      no_more : (n : ℕ) → one_take class u.now ≡ record { root = u.now; title = None } →
+          takes class n u.now ≡ record { root = u.now; titles = [] }
       no_more zero e = refl
       no_more (suc n) e = ap (λ t. and_then t (takes class n)) e
 
@@ -211,31 +216,35 @@ all_taken class want v w l r titles u =
     }
 
 -- one more was taken
-pub one_on : (class want left next : ℕ) (v w : View) (l0 l : ShelfParts) (r : Root) (titles items : List Title) → CanTakeSlots v l0 r → class < 170 →
+pub one_on : (class want left next : ℕ) (v w : View) (l0 l : ShelfParts) (r : Root) (titles items : List Title) → CanTakeSlots v l0 r →
+    class < 170 →
     left ≡ suc next → (u : IsUnderWay class want left v w l r titles) → (x : View) (m : ShelfParts) (title : Title) →
     IsOneTaken class u.now w x m (Some title) → items ≡ titles ++ title ∷ [] → IsUnderWay class want next v x m r items
-one_on class want left next v w l0 l r titles items can real is_left u x m title one items_are = elim (take_cases class u.now u.sound real) [
-  | inl none ↦ absurd (not_some title (sym (one.title_is ∙ no_span class u.now none)))
-  | inr (some, given) ↦
-      let z = (one_take class u.now).root in
-      let is : given.title ≡ title = of_some given.title title (sym given.gives ∙ sym one.title_is) in
-      let step : takes class left u.now ≡ record { root = (takes class next z).root; titles = title ∷ (takes class next z).titles } =
-      ap (λ n. takes class n u.now) is_left ∙ and_then_some (one_take class u.now) (takes class next) title (given.gives ∙ ap Some is) in
-      let all : titles ++ title ∷ (takes class next z).titles ≡ items ++ (takes class next z).titles =
-      sym (append_assoc titles (title ∷ []) (takes class next z).titles) ∙ ap (λ ts. ts ++ (takes class next z).titles) (sym items_are) in
-      record {
-        now = z;
-        new = u.new ++ cut_for (span_for class u.now);
-        sound = given.sound;
-        shown = one.shown;
-        supers = given.supers ∙ u.supers;
-        more = all_more class want left v w l0 l r titles can real u;
-        has = all_has class want left v w l0 l r titles can real u x m (Some title) one given.stays;
-        cut = all_cut class want left v w l0 l r titles can real u x m (Some title) one;
-        unseen = all_unseen class want left v w l0 l r titles can real u x m (Some title) one;
-        filled =
-            u.filled
-            ∙ (ap (λ (f : Filled). let g : Filled = record { root = f.root; titles = titles ++ f.titles } in g) step
-            ∙ ap (λ ts. let g : Filled = record { root = (takes class next z).root; titles = ts } in g) all);
-      }
-]
+one_on class want left next v w l0 l r titles items can real is_left u x m title one items_are =
+    elim (take_cases class u.now u.sound real) [
+      | inl none ↦ absurd (not_some title (sym (one.title_is ∙ no_span class u.now none)))
+      | inr (some, given) ↦
+          let z = (one_take class u.now).root in
+          let is : given.title ≡ title = of_some given.title title (sym given.gives ∙ sym one.title_is) in
+          let step : takes class left u.now ≡ record { root = (takes class next z).root; titles = title ∷ (takes class next z).titles } =
+          ap (λ n. takes class n u.now) is_left ∙
+          and_then_some (one_take class u.now) (takes class next) title (given.gives ∙ ap Some is) in
+          let all : titles ++ title ∷ (takes class next z).titles ≡ items ++ (takes class next z).titles =
+          sym (append_assoc titles (title ∷ []) (takes class next z).titles) ∙
+          ap (λ ts. ts ++ (takes class next z).titles) (sym items_are) in
+          record {
+            now = z;
+            new = u.new ++ cut_for (span_for class u.now);
+            sound = given.sound;
+            shown = one.shown;
+            supers = given.supers ∙ u.supers;
+            more = all_more class want left v w l0 l r titles can real u;
+            has = all_has class want left v w l0 l r titles can real u x m (Some title) one given.stays;
+            cut = all_cut class want left v w l0 l r titles can real u x m (Some title) one;
+            unseen = all_unseen class want left v w l0 l r titles can real u x m (Some title) one;
+            filled =
+                u.filled
+                ∙ (ap (λ (f : Filled). let g : Filled = record { root = f.root; titles = titles ++ f.titles } in g) step
+                ∙ ap (λ ts. let g : Filled = record { root = (takes class next z).root; titles = ts } in g) all);
+          }
+    ]

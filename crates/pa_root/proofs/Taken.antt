@@ -52,7 +52,8 @@ module _ (p class : ℕ) (asked : Option ℕ) (s : RootState) (u c : View) (ts :
 
   pub good : IsSound r0
   good =
-      sound_ready (pools_seen u) (least_after_all 0 s.journal) asked s.root (root_sound p s cut.ready.sound.journal) (root_born p s cut.ready.sound.journal)
+      sound_ready (pools_seen u) (least_after_all 0 s.journal) asked s.root (root_sound p s cut.ready.sound.journal)
+      (root_born p s cut.ready.sound.journal)
       cut.ready.later
 
   pub fill : IsFilled class (fill_of class) r0 f
@@ -98,7 +99,8 @@ module _ (p class : ℕ) (asked : Option ℕ) (s : RootState) (u c : View) (ts :
   once = λ i j d less within. (λ e. fill.differ i j d less within (ap name_of e))
 
   once_named : AllPairs ◌≢◌ (map name_of f.titles)
-  once_named = pairs_map (λ (t : Title) (v : Title). name_of t ≢ name_of v) (λ (a : SlotName) (b : SlotName). a ≢ b) name_of f.titles (λ t v has has' differ. differ) fill.differ
+  once_named = pairs_map (λ (t : Title) (v : Title). name_of t ≢ name_of v) (λ (a : SlotName) (b : SlotName). a ≢ b) name_of f.titles
+      (λ t v has has' differ. differ) fill.differ
 
   pub gives_out : GivesTitles f.titles c
   gives_out = hands_out f.titles c once taken_free
@@ -124,7 +126,8 @@ module _ (p class : ℕ) (asked : Option ℕ) (s : RootState) (u c : View) (ts :
   unnamed t among =
       fresh_unnamed (pools_seen u) s.journal f.root t fits_now fill.sound
       (λ v made. cut.more.keeps v (made_ready (pools_seen u) asked s.root v (subst (λ r. IsMade r v) same_root made)))
-      (λ at has. elim (supers_ready (pools_seen u) (least_after_all 0 s.journal) asked s.root at cut.ready.later (subst (λ ss. Contains ss at) fill.supers has)) [
+      (λ at has. elim (supers_ready (pools_seen u) (least_after_all 0 s.journal) asked s.root at cut.ready.later
+      (subst (λ ss. Contains ss at) fill.supers has)) [
         | inl old ↦ inl (subst (λ r. Contains r.supers at) (sym same_root) old)
         | inr new ↦ inr new
       ])
@@ -177,21 +180,26 @@ module _ (p class : ℕ) (asked : Option ℕ) (s : RootState) (u c : View) (ts :
               | inl here ↦ cut.ready.slots.titles.with_root t here before
               | inr new ↦
                   let (v, made, same) = out_was_made r0 (name_of t) good before in
-                  cut.more.fresh t new (subst (λ z. IsMade r0 z) (made_name f.root v t fill.sound (cut.more.keeps v made) (cut.more.makes t new) same) made)
+                  cut.more.fresh t new (subst (λ z. IsMade r0 z)
+                  (made_name f.root v t fill.sound (cut.more.keeps v made) (cut.more.makes t new) same) made)
             ]
-            | inr (v, has, same) ↦ away (subst (λ z. Contains f.titles z) (made_name f.root v t fill.sound (fill.made v has) (made_free t free') (sym same)) has)
+            | inr (v, has, same) ↦ away
+                (subst (λ z. Contains f.titles z) (made_name f.root v t fill.sound (fill.made v has) (made_free t free') (sym same)) has)
           ];
       unused = λ t. handles_kept y x t keeps ∙ but.handles t ∙ beside.handles t ∙ cut.ready.slots.titles.unused t;
       budget = keeps.budget ∙ but.budget ∙ beside.budget ∙ cut.ready.slots.titles.budget;
     }
 
-    moves_out : (t : Title) → Contains f.titles t → filter (is_of (name_of t)) (map (move_of line Out) (numbered_by c f.titles)) ≡ move_of line Out (at_number_seen c t) ∷ []
+    moves_out : (t : Title) → Contains f.titles t →
+        filter (is_of (name_of t)) (map (move_of line Out) (numbered_by c f.titles)) ≡ move_of line Out (at_number_seen c t) ∷ []
     moves_out t among =
         one_moves line Out (at_number_seen c t) (numbered_by c f.titles)
         (subst (λ ns. AllPairs ◌≢◌ ns) (sym (names_by c f.titles)) once_named) (map_in (at_number_seen c) f.titles t among)
 
-    moves_not : (name : SlotName) → (Contains (map name_of f.titles) name → ⊥) → filter (is_of name) (map (move_of line Out) (numbered_by c f.titles)) ≡ []
-    moves_not name away = none_moves line Out name (numbered_by c f.titles) (λ among. away (subst (λ ns. Contains ns name) (names_by c f.titles) among))
+    moves_not : (name : SlotName) → (Contains (map name_of f.titles) name → ⊥) →
+        filter (is_of name) (map (move_of line Out) (numbered_by c f.titles)) ≡ []
+    moves_not name away = none_moves line Out name (numbered_by c f.titles)
+        (λ among. away (subst (λ ns. Contains ns name) (names_by c f.titles) among))
 
     numbers_now : KnowsNumbers last
     numbers_now = record {
@@ -201,7 +209,8 @@ module _ (p class : ℕ) (asked : Option ℕ) (s : RootState) (u c : View) (ts :
             subst (λ n. IsNumbered (Some 0) (moves_of (s.journal ++ entry ∷ []) n)) e
             (numbers_with s.journal entry (name_of t) (move_of line Out (at_number_seen c t)) (moves_out t among)
             (cut.ready.sound.numbers.numbered (name_of t)) (at_number t (taken_free t among))).0
-        | inr away ↦ subst (λ ms. IsNumbered (Some 0) ms) (sym (numbers_without s.journal entry name (moves_not name away))) (cut.ready.sound.numbers.numbered name)
+        | inr away ↦ subst (λ ms. IsNumbered (Some 0) ms) (sym (numbers_without s.journal entry name (moves_not name away)))
+            (cut.ready.sound.numbers.numbered name)
       ];
       known = λ t free.
           let (free', away) = free_left t free in
@@ -215,8 +224,10 @@ module _ (p class : ℕ) (asked : Option ℕ) (s : RootState) (u c : View) (ts :
     -- a byte of the rest lies in no slot that was cut
     away_from : (j b : ℕ) → IsInRest f.root j b → (t : Title) → Contains ts t → Covers t b → ⊥
     away_from j b inside t among covers =
-        let there = was_rest (record { view = u; journal = s.journal; root = r0 }) f.root ts cut.ready.slots.rest good fill.sound fill.supers cut.more t b among covers in
-        let same : j ≡ t.born = cut.ready.slots.rest.one j t.born b (rest_before r0 f.root j b cut.more.keeps fill.supers fill.maps inside) there in
+        let there = was_rest (record { view = u; journal = s.journal; root = r0 }) f.root ts cut.ready.slots.rest good fill.sound
+        fill.supers cut.more t b among covers in
+        let same : j ≡ t.born = cut.ready.slots.rest.one j t.born b
+        (rest_before r0 f.root j b cut.more.keeps fill.supers fill.maps inside) there in
         elim inside [
           | inl (at, has, born, in', free) ↦ free (t, cut.more.makes t among, sym same, covers)
           | inr (m, first, has, born, start, in', free) ↦
@@ -228,7 +239,8 @@ module _ (p class : ℕ) (asked : Option ℕ) (s : RootState) (u c : View) (ts :
     rest_now = record {
       raw = λ j b inside.
           let before = cut.ready.slots.rest.raw j b (rest_before r0 f.root j b cut.more.keeps fill.supers fill.maps inside) in
-          let after_cuts_low : low_of c b j ≡ low_of u b j = ap (λ (v : View). low_of v b j) cut.cut.rest ∙ low_stays ts u b j (away_from j b inside) in
+          let after_cuts_low : low_of c b j ≡ low_of u b j = ap (λ (v : View). low_of v b j) cut.cut.rest ∙
+          low_stays ts u b j (away_from j b inside) in
           let k = but.low b j in
           let l = keeps.floors b j in
           omega arith;
@@ -262,7 +274,8 @@ module _ (p class : ℕ) (asked : Option ℕ) (s : RootState) (u c : View) (ts :
     fits_here = (cut.ready.class_is, cut.ready.asked_if, sym (names_by c f.titles))
 
     pool_on : IsBeginning (list_of 4 u) (list_of 4 x)
-    pool_on = begins_on (list_of 4 u) (list_of 4 y) (list_of 4 x) (subst (λ l. IsBeginning (list_of 4 u) l) (sym (beside.lists 4)) ([], sym (append-nil (list_of 4 u)))) (keeps.lists 4)
+    pool_on = begins_on (list_of 4 u) (list_of 4 y) (list_of 4 x)
+        (subst (λ l. IsBeginning (list_of 4 u) l) (sym (beside.lists 4)) ([], sym (append-nil (list_of 4 u)))) (keeps.lists 4)
 
     maps_now : KnowsMaps p last
     maps_now =

@@ -25,7 +25,8 @@ use Rattle.pa_record.specs.Sound.{least_after_all}
 
 ready_sound : (p class : ℕ) (asked : Option ℕ) (s : RootState) (u : View) → IsReadyFor p class asked s u → IsSound (ready_root asked s u)
 ready_sound p class asked s u ready =
-    sound_ready (pools_seen u) (least_after_all 0 s.journal) asked s.root (root_sound p s ready.sound.journal) (root_born p s ready.sound.journal) ready.later
+    sound_ready (pools_seen u) (least_after_all 0 s.journal) asked s.root (root_sound p s ready.sound.journal)
+    (root_born p s ready.sound.journal) ready.later
 
 -- a root that is ready, and is shown, can give slots
 pub can_start : (p class : ℕ) (asked : Option ℕ) (s : RootState) (u : View) (l : ShelfParts) → IsReadyFor p class asked s u →
@@ -57,7 +58,8 @@ module _ (p class : ℕ) (asked : Option ℕ) (s : RootState) (u c : View) (l : 
   pub slots_free : All (λ (t : Title). 0 < free_of c t) titles
   slots_free k d less = free_there (slice_index_or titles k d) (All-contains_itself titles k d less)
 
-  pub slots_out : (left note : View) (slots : List Numbered) → left ≡ left_after (frees_parcel titles) c → note ≡ given_after (frees_parcel titles) c →
+  pub slots_out : (left note : View) (slots : List Numbered) → left ≡ left_after (frees_parcel titles) c →
+      note ≡ given_after (frees_parcel titles) c →
       slots ≡ numbered_by c titles → IsTakenOut p class asked s u left note titles slots (fill_taken class asked s u).root
   slots_out left note slots is_left is_note are = record {
     between = c;
@@ -74,6 +76,8 @@ module _ (p class : ℕ) (asked : Option ℕ) (s : RootState) (u c : View) (l : 
   slots_shown left is =
       let fill = taken.fill p class asked s u c h.are.new cut_for in
       let ts = (fill_taken class asked s u).titles in
-      subst (λ (v : View). ShowsRoot v l (fill_taken class asked s u).root) (sym (is ∙ ap (λ us. left_after (frees_parcel us) c) h.are.titles_are))
-      (handed_shown c l (fill_taken class asked s u).root ts fill.sound h.aware h.are.shown (taken.once p class asked s u c h.are.new cut_for)
+      subst (λ (v : View). ShowsRoot v l (fill_taken class asked s u).root)
+      (sym (is ∙ ap (λ us. left_after (frees_parcel us) c) h.are.titles_are))
+      (handed_shown c l (fill_taken class asked s u).root ts fill.sound h.aware h.are.shown
+      (taken.once p class asked s u c h.are.new cut_for)
       (taken.taken_free p class asked s u c h.are.new cut_for) fill.out)

@@ -25,7 +25,8 @@ use Rattle.pa_root.proofs.Seeing.{free_kept, handles_kept}
 pub no_own_clean : (v : View) → ((t : Title) → own_of v t ≡ 0) → unclean_of v ≡ 0
 no_own_clean v none = by_owns v.owns none
   where
-    by_owns : (os : List OwnTitle) → ((t : Title) → sum_by (λ (o : OwnTitle). one (same_title o.title t)) os ≡ 0) → sum_by (λ (o : OwnTitle). one (is_unclean o.state)) os ≡ 0
+    by_owns : (os : List OwnTitle) → ((t : Title) → sum_by (λ (o : OwnTitle). one (same_title o.title t)) os ≡ 0) →
+        sum_by (λ (o : OwnTitle). one (is_unclean o.state)) os ≡ 0
     by_owns [] h = refl
     by_owns (o ∷ os) h =
         let c = sum_by-cons (λ (y : OwnTitle). one (same_title y.title o.title)) o os in
@@ -43,7 +44,8 @@ free_both v w t =
     let c = frees_have w t in
     omega arith
 
-pub handles_both : (v w : View) (t : Title) → own_of (united v w) t + ref_of (united v w) t ≡ own_of v t + ref_of v t + (own_of w t + ref_of w t)
+pub handles_both : (v w : View) (t : Title) →
+    own_of (united v w) t + ref_of (united v w) t ≡ own_of v t + ref_of v t + (own_of w t + ref_of w t)
 handles_both v w t =
     let e = (united_parts v w).things (OwnOf t) in
     let f = (united_parts v w).things (RefOf t) in
@@ -101,17 +103,20 @@ module _ (v w y x : View) (wrote : Rewritten (united v w) y) (keeps : Keeps y x)
       (subst (λ l. IsBeginning l (list_of 4 x)) (lists_now 4) (keeps.lists 4))
 
   -- it has seen the same number of each title as the seat that held it free
-  number_now : (n : ℕ) (t : Title) → IsAware y → IsAware x → IsWellFormed n t → 0 < free_of (united v w) t → seen_of x t ≡ seen_of (united v w) t
+  number_now : (n : ℕ) (t : Title) → IsAware y → IsAware x → IsWellFormed n t → 0 < free_of (united v w) t →
+      seen_of x t ≡ seen_of (united v w) t
   number_now n t there now well free =
       kept_number y x n t there now keeps well (subst (λ z. 0 < free_of z t) (sym wrote.rest) free) ∙ ap (λ z. seen_of z t) wrote.rest
 
-  pub left_now : (n : ℕ) (t : Title) → IsAware v → IsAware (united v w) → IsAware y → IsAware x → length v.words ≡ length w.words → IsWellFormed n t →
+  pub left_now : (n : ℕ) (t : Title) → IsAware v → IsAware (united v w) → IsAware y → IsAware x → length v.words ≡ length w.words →
+      IsWellFormed n t →
       0 < free_of v t → seen_of x t ≡ seen_of v t
   left_now n t aware both there now long well free =
       let e = free_both v w t in
       number_now n t there now well (omega arith) ∙ left_number v w n t aware both long well free
 
-  pub right_now : (n : ℕ) (t : Title) → IsAware w → IsAware (united v w) → IsAware y → IsAware x → length v.words ≡ length w.words → IsWellFormed n t →
+  pub right_now : (n : ℕ) (t : Title) → IsAware w → IsAware (united v w) → IsAware y → IsAware x → length v.words ≡ length w.words →
+      IsWellFormed n t →
       0 < free_of w t → seen_of x t ≡ seen_of w t
   right_now n t aware both there now long well free =
       let e = free_both v w t in

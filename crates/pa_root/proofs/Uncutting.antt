@@ -45,7 +45,8 @@ without_one t o (x ∷ xs) some =
           rw n.0 (omega arith)
     ]
 
-module _ (a h : View) (t : Title) (lends : CanLend a) (host : CanHost h) (free : 0 < free_of h t) (aware_a : IsAware a) (aware_h : IsAware h)
+module _ (a h : View) (t : Title) (lends : CanLend a) (host : CanHost h) (free : 0 < free_of h t) (aware_a : IsAware a)
+    (aware_h : IsAware h)
     (long : length h.words ≡ length a.words) (aware_u : IsAware (both_of a h)) where
   abbrev r : ℕ
   r = least_stake a.stakes
@@ -119,10 +120,13 @@ module _ (a h : View) (t : Title) (lends : CanLend a) (host : CanHost h) (free :
       let can_e = can_hand r e (both_clean a h host) in
       let words : length u.words ≡ length h.words = merged_long h 0 h.words a.words long in
       let en = entry_leaves (Uncut t) u e uncut_can.1 refl in
-      let logged : log_of r e ≡ log_of r u ++ Uncut t ∷ [] = subst (λ (n : ℕ). log_of n e ≡ log_of n u ++ Uncut t ∷ []) (host_least a h lends host) en.log in
-      let was : log_of r u ≡ log_of r a = log_right r h.stakes g.stakes (host.0 r) ∙ log_filter (stake_parcel r).stakes r a.stakes (marked_here r) in
+      let logged : log_of r e ≡ log_of r u ++ Uncut t ∷ [] =
+      subst (λ (n : ℕ). log_of n e ≡ log_of n u ++ Uncut t ∷ []) (host_least a h lends host) en.log in
+      let was : log_of r u ≡ log_of r a = log_right r h.stakes g.stakes (host.0 r) ∙
+      log_filter (stake_parcel r).stakes r a.stakes (marked_here r) in
       record {
-        lends = lends_back a e r (Uncut t ∷ []) aware_a can_a can_e (sym (words ∙ long)) aware_f (en.stakes r ∙ both_stake a h host) (logged ∙ ap (λ log. log ++ Uncut t ∷ []) was);
+        lends = lends_back a e r (Uncut t ∷ []) aware_a can_a can_e (sym (words ∙ long)) aware_f (en.stakes r ∙ both_stake a h host)
+            (logged ∙ ap (λ log. log ++ Uncut t ∷ []) was);
         uncut = uncut_now;
       }
 
@@ -137,7 +141,8 @@ uncut_by a h l g u e l2 g2 f t l_is g_is u_is e_is l2_is g2_is f_is lends host f
     let u_by : u ≡ both_of a h = u_is ∙ ap (λ (x : View). united h x) g_is in
     let both : IsAware (both_of a h) = subst IsAware u_by aware_u in
     let e_by : e ≡ after_uncut t (both_of a h) = e_is ∙ ap (λ (x : View). after_uncut t x) u_by in
-    let least : least_stake e.stakes ≡ r = ap (λ (x : View). least_stake x.stakes) e_by ∙ uncut_least a h t lends host free aware_a aware_h long both in
+    let least : least_stake e.stakes ≡ r = ap (λ (x : View). least_stake x.stakes) e_by ∙
+    uncut_least a h t lends host free aware_a aware_h long both in
     let l2_by : l2 ≡ left_after (stake_parcel r) (after_uncut t (both_of a h)) =
     l2_is ∙ (ap (λ (n : ℕ). left_after (stake_parcel n) e) least ∙ ap (λ (x : View). left_after (stake_parcel r) x) e_by) in
     let g2_by : g2 ≡ given_after (stake_parcel r) (after_uncut t (both_of a h)) =
@@ -145,5 +150,6 @@ uncut_by a h l g u e l2 g2 f t l_is g_is u_is e_is l2_is g2_is f_is lends host f
     let f_by : f ≡ united (left_after (stake_parcel r) a) (given_after (stake_parcel r) (after_uncut t (both_of a h))) =
     f_is ∙ (ap (λ (x : View). united x g2) l_is ∙ ap (λ (x : View). united (left_after (stake_parcel r) a) x) g2_by) in
     subst (λ (x : View). IsUncutWith r t a x h l2) (sym f_by)
-    (subst (λ (x : View). IsUncutWith r t a (united (left_after (stake_parcel r) a) (given_after (stake_parcel r) (after_uncut t (both_of a h)))) h x) (sym l2_by)
+    (subst (λ (x : View). IsUncutWith r t a
+    (united (left_after (stake_parcel r) a) (given_after (stake_parcel r) (after_uncut t (both_of a h)))) h x) (sym l2_by)
     (uncut_with_now a h t lends host free aware_a aware_h long both (subst IsAware f_by aware_f)))

@@ -66,7 +66,14 @@ module _ (p r number : ℕ) (s : RootState) (t : Title) (v v1 c w : View) (b : I
   mapped : Contains s.root.maps t
   mapped =
       what_comes_is_mapped p s1 w t
-      (record { sound = sound1; aware = b.back.shown_aware; note_aware = b.back.note_aware; both_aware = b.back.both_aware; has = b.has; named = b.named })
+      (record {
+        sound = sound1;
+        aware = b.back.shown_aware;
+        note_aware = b.back.note_aware;
+        both_aware = b.back.both_aware;
+        has = b.has;
+        named = b.named;
+      })
 
   -- where it is, and which entry of the pool took its super pages
   taken : (t.start ≡ page_place first 1) × HasSeenTake p t.born first count b.back.shown
@@ -125,7 +132,8 @@ module _ (p r number : ℕ) (s : RootState) (t : Title) (v v1 c w : View) (b : I
   comes_as n gives = subst (λ z. ComesBack p t.born first count v1 z) (sym gives) comes
 
   pub given_for : (line q asked : ℕ) (v2 h n y2 : View) → h ≡ y → n ≡ g →
-      ((f d : ℕ) → ComesBack p t.born f d v1 n → IsGivenFor q line p f d asked v1 v2 h y2) → IsGivenFor q line p first count asked v1 v2 y y2
+      ((f d : ℕ) → ComesBack p t.born f d v1 n → IsGivenFor q line p f d asked v1 v2 h y2) →
+      IsGivenFor q line p first count asked v1 v2 y y2
   given_for line q asked v2 h n y2 left gives gave =
       subst (λ z. IsGivenFor q line p first count asked v1 v2 z y2) left
       (gave first count (comes_as n gives))
@@ -153,14 +161,18 @@ module _ (p r number : ℕ) (s : RootState) (t : Title) (v v1 c w : View) (b : I
 
     -- with the same stake
     pub told : q ≡ r → k ≡ r →
-        EntersTwo asked (length (list_of p y2)) r p (Uncut t ∷ []) (give_entry line p count first) (root_entry line (Unmap asked (at_number_seen w t))) v v3
+        EntersTwo asked (length (list_of p y2)) r p (Uncut t ∷ []) (give_entry line p count first)
+        (root_entry line (Unmap asked (at_number_seen w t))) v v3
     told same_q same_k =
         let lent : Lends r (Entered 4 given.made ∷ []) v1 v2 = subst (λ n. Lends n (Entered 4 given.made ∷ []) v1 v2) same_q given.lends in
         let at : IsEnteredAt asked r 4 (pool_numbers (give_entry line p count first)) v1 v2 given.made =
         subst (λ n. IsEnteredAt asked n 4 (pool_numbers (give_entry line p count first)) v1 v2 given.made) same_q given.is_made in
-        let here = entries_are_told.sooner asked r 4 (pool_numbers (give_entry line p count first)) v v1 v2 given.made b.back.lends.keeps at in
+        let here = entries_are_told.sooner asked r 4
+        (pool_numbers (give_entry line p count first)) v v1 v2 given.made b.back.lends.keeps at in
         let done = entries_are_told.on r (Uncut t ∷ []) (Entered 4 given.made ∷ []) v v1 v2 b.back.lends lent in
         let last : IsNoted r p (root_numbers e) v2 v3 y2 x m = subst (λ n. IsNoted n p (root_numbers e) v2 v3 y2 x m) same_k noted in
-        let both = entries_are_told.two asked r p (Uncut t ∷ []) (give_entry line p count first) e v v2 v3 y2 x given.made m here done last in
-        subst (λ z. EntersTwo asked (length (list_of p y2)) r p (Uncut t ∷ []) (give_entry line p count first) (root_entry line (Unmap asked z)) v v3)
+        let both = entries_are_told.two asked r p (Uncut t ∷ [])
+        (give_entry line p count first) e v v2 v3 y2 x given.made m here done last in
+        subst (λ z. EntersTwo asked (length (list_of p y2)) r p (Uncut t ∷ []) (give_entry line p count first)
+        (root_entry line (Unmap asked z)) v v3)
         same_slot both

@@ -124,7 +124,8 @@ module _ (p first : ℕ) (s : RootState) (w c : View) (t : Title) (cut : IsCutBa
   raw_now b inside = elim (covers_or t b) [
     | inl covers ↦ cut.uncut.raw_here b (t.born + 1) covers (omega arith)
     | inr away ↦
-        let not_in : Covers t b → ⊥ = λ covers. let a = covers.0 in let d = covers.1 in elim away [ inl low ↦ absurd (omega arith) | inr high ↦ absurd (omega arith) ] in
+        let not_in : Covers t b → ⊥ = λ covers. let a = covers.0 in let d = covers.1 in
+        elim away [ inl low ↦ absurd (omega arith) | inr high ↦ absurd (omega arith) ] in
         let here : IsInRest s.root t.born b = inr (t, first, cut.mapped, refl, cut.start, inside, not_in) in
         let some = low_left s.view w b t.born (cut.sound.rest.raw t.born b here) in
         let same = cut.uncut.raw_beside b t.born not_in in
@@ -137,7 +138,15 @@ module _ (p first : ℕ) (s : RootState) (w c : View) (t : Title) (cut : IsCutBa
 
   can : CanHand (run_parcel first count t.born) c
   can = record {
-    items = ((omega arith, omega arith, λ b low high. let r = raw_now b (omega arith, omega arith) in let l = low_held c b (t.born + 1) in omega arith), tt);
+    items = (
+      (
+        omega arith,
+        omega arith,
+        λ b low high. let r = raw_now b (omega arith, omega arith) in let l = low_held c b (t.born + 1) in
+            omega arith,
+      ),
+      tt,
+    );
     budget = omega arith;
     leases = (lease_now t.born (cut.sound.leases.maps t cut.mapped), tt);
     clean = λ k e. cc;
@@ -177,12 +186,14 @@ module _ (p first : ℕ) (s : RootState) (w c : View) (t : Title) (cut : IsCutBa
       let low = inside.0 in let high = inside.1 in
       let rs = outside (2097152 * first) (2097152 * first + 2097152 * count) c.raws in
       let z = outside_none (2097152 * first) (2097152 * first + 2097152 * count) b c.raws (omega arith) (omega arith) in
-      let l = sum_by-le-sum_by (λ (r : RawRange). one (has_byte r b && leb r.floor n)) (λ (r : RawRange). one (has_byte r b)) rs (λ r. one_and (has_byte r b) (leb r.floor n)) in
+      let l = sum_by-le-sum_by (λ (r : RawRange). one (has_byte r b && leb r.floor n)) (λ (r : RawRange). one (has_byte r b)) rs
+      (λ r. one_and (has_byte r b) (leb r.floor n)) in
       omega arith
 
   has_run : HasRunOnly first count (t.born + 1) t.born g
   has_run = record {
-    raws = λ b inside. let r = raw_now b inside in let n = none_left b (t.born + 1) inside in let f = parts.floors b (t.born + 1) in omega arith;
+    raws = λ b inside. let r = raw_now b inside in let n = none_left b (t.born + 1) inside in let f = parts.floors b (t.born + 1) in
+        omega arith;
     lease =
         let e : one (eqb t.born t.born) ≡ 1 = ap one (eq-eqb t.born t.born refl) in
         let d = sum_by-cons (λ (x : ℕ). one (eqb x t.born)) t.born [] in
@@ -211,7 +222,9 @@ module _ (p first : ℕ) (s : RootState) (w c : View) (t : Title) (cut : IsCutBa
   -- the seat has the keeper still, and can be lent a stake
   pub hosts_left : HostsKeeper p y
   hosts_left =
-      let ((none, clean), has) = hosts_both p s.view w cut.sound.journal.hosts cut.has.stakes (no_own_clean w (λ v. let h = cut.has.handles v in omega arith)) in (
+      let ((none, clean), has) =
+      hosts_both p s.view w cut.sound.journal.hosts cut.has.stakes
+      (no_own_clean w (λ v. let h = cut.has.handles v in omega arith)) in (
         (
           (λ k. let f = parts.stakes k in let a = note_stakes k in let b = cut.uncut.stakes k in let d = none k in omega arith),
           (let f = parts.unclean in let b = cut.uncut.unclean in omega arith),
@@ -219,7 +232,8 @@ module _ (p first : ℕ) (s : RootState) (w c : View) (t : Title) (cut : IsCutBa
         (let f = parts.keepers p in let a = note_keepers p in let b = cut.uncut.keepers p in omega arith),
       )
 
-  module _ (line asked : ℕ) (x : View) (later : length (list_of 4 s.view) ≤ asked) (gave : GaveRun (pools_seen x) asked count first) (now : IsAware x)
+  module _ (line asked : ℕ) (x : View) (later : length (list_of 4 s.view) ≤ asked) (gave : GaveRun (pools_seen x) asked count first)
+      (now : IsAware x)
       (left_aware : IsAware y) (keeps : Keeps y x) (more : HasEntryMore p (root_entry line (Unmap asked (at_number_seen w t))) y x) where
     abbrev e : RootEntry
     e = root_entry line (Unmap asked (at_number_seen w t))
@@ -271,8 +285,10 @@ module _ (p first : ℕ) (s : RootState) (w c : View) (t : Title) (cut : IsCutBa
       numbered = λ name. elim (same_slot_cases (name_of t) name) [
         | inl is ↦
             subst (λ n. IsNumbered (Some 0) (moves_of (s.journal ++ e ∷ []) n)) is
-            (numbers_with s.journal e (name_of t) (move_of line Back (at_number_seen w t)) moves_here (cut.sound.numbers.numbered (name_of t)) at_none).0
-        | inr away ↦ subst (λ ms. IsNumbered (Some 0) ms) (sym (numbers_without s.journal e name (moves_not name away))) (cut.sound.numbers.numbered name)
+            (numbers_with s.journal e (name_of t) (move_of line Back (at_number_seen w t)) moves_here
+            (cut.sound.numbers.numbered (name_of t)) at_none).0
+        | inr away ↦ subst (λ ms. IsNumbered (Some 0) ms) (sym (numbers_without s.journal e name (moves_not name away)))
+            (cut.sound.numbers.numbered name)
       ];
       known = λ v free.
           let before = free_left v free in
@@ -291,7 +307,8 @@ module _ (p first : ℕ) (s : RootState) (w c : View) (t : Title) (cut : IsCutBa
     -- ---- the rest
 
     rest_before : (j b : ℕ) → IsInRest (unmapped (name_of t) s.root) j b → IsInRest s.root j b × (j ≡ t.born → ⊥)
-    rest_before j b (inl (at, among, born, inside, away)) = (inl (at, among, born, inside, away), λ is. good.mixed t at cut.mapped among (sym (born ∙ is)))
+    rest_before j b (inl (at, among, born, inside, away)) =
+        (inl (at, among, born, inside, away), λ is. good.mixed t at cut.mapped among (sym (born ∙ is)))
     rest_before j b (inr (m, from, among, born, start, inside, away)) = (
       inr (m, from, without_map_in (name_of t) s.root.maps m among, born, start, inside, away),
       λ is. others_left t m s.root.maps good.alone cut.mapped among (born ∙ is),
@@ -324,7 +341,8 @@ module _ (p first : ℕ) (s : RootState) (w c : View) (t : Title) (cut : IsCutBa
           let k = keeps.leases at.born in
           omega arith;
       maps = λ m among.
-          let l = lease_beside m.born (others_left t m s.root.maps good.alone cut.mapped among) (cut.sound.leases.maps m (without_map_in (name_of t) s.root.maps m among)) in
+          let l = lease_beside m.born (others_left t m s.root.maps good.alone cut.mapped among)
+          (cut.sound.leases.maps m (without_map_in (name_of t) s.root.maps m among)) in
           let k = keeps.leases m.born in
           omega arith;
     }
@@ -338,7 +356,8 @@ module _ (p first : ℕ) (s : RootState) (w c : View) (t : Title) (cut : IsCutBa
 
     maps_now : KnowsMaps p last
     maps_now =
-        maps_go_on p s x e (unmapped (name_of t) s.root) cut.sound.maps (record { undone = grows; pool = pool_on }) stays (λ j len slot is. absurd (cc))
+        maps_go_on p s x e (unmapped (name_of t) s.root) cut.sound.maps (record { undone = grows; pool = pool_on }) stays
+        (λ j len slot is. absurd (cc))
         (λ v among. inl (without_map_in (name_of t) s.root.maps v among))
       where
         grows : (v : Title) → undone_of s.view v ≤ undone_of x v
@@ -358,12 +377,14 @@ module _ (p first : ℕ) (s : RootState) (w c : View) (t : Title) (cut : IsCutBa
         stays v among = elim (without_other (name_of t) v s.root.maps among) [
           | inl rest ↦ inl rest
           | inr is ↦
-              inr (subst (λ z. 0 < undone_of x z) (one_of_entry t v s.root.maps good.alone cut.mapped among (ap (λ (n : SlotName). n.born) is)) here)
+              inr (subst (λ z. 0 < undone_of x z)
+              (one_of_entry t v s.root.maps good.alone cut.mapped among (ap (λ (n : SlotName). n.born) is)) here)
         ]
 
     own_list : list_of p y ≡ list_of p s.view
     own_list =
-        let (can_host, has) = hosts_both p s.view w cut.sound.journal.hosts cut.has.stakes (no_own_clean w (λ v. let h = cut.has.handles v in omega arith)) in
+        let (can_host, has) = hosts_both p s.view w cut.sound.journal.hosts cut.has.stakes
+        (no_own_clean w (λ v. let h = cut.has.handles v in omega arith)) in
         cut.uncut.own_lists p has ∙ left_whole s.view w p cut.aware cut.both_aware cut.sound.journal.hosts.1
 
     journal_now : HasJournal p (after_entry x e s)

@@ -56,8 +56,8 @@ pub record CanTakePage (p number entry : ℕ) (s : RootState) (w : View) : Type 
 abbrev pub opened_state : (number entry : ℕ) → RootState → View → RootState
 opened_state number entry s u = record { view = u; journal = s.journal; root = opened number entry s.root }
 
--- If a root may take in such a note, all that holds of its slots, raw bytes and leases holds with the super page too, and its seat
--- may borrow a stake.
+-- If a root may take in such a note, all that holds of its slots, raw bytes and leases holds with the super page too,
+-- and its seat may borrow a stake.
 abbrev pub OpeningKeeps : Type 0
 OpeningKeeps =
     (p number entry : ℕ) (s : RootState) (w : View) → CanTakePage p number entry s w →

@@ -38,6 +38,7 @@ WhatComesIsOut = (p : ℕ) (s : RootState) (w : View) (titles : List Title) → 
 -- has written records and links, and has made the entry.
 abbrev pub GivesKeep : Type 0
 GivesKeep =
-    (p line : ℕ) (s : RootState) (w y x : View) (titles : List Title) → CanComeBack p s w titles → Rewritten (united s.view w) y → IsAware y →
+    (p line : ℕ) (s : RootState) (w y x : View) (titles : List Title) → CanComeBack p s w titles →
+    Rewritten (united s.view w) y → IsAware y →
     IsAware x → Keeps y x → HasEntryMore p (root_entry line (Give (numbered_by w titles))) y x →
     IsRootSound p (after_entry x (root_entry line (Give (numbered_by w titles))) s)

@@ -64,7 +64,7 @@ pub record IsFullFor (j r p line count : ℕ) (class : Option ℕ) (v after : Vi
   pub asked : ℕ
   pub enters : EntersTwo asked j r p [] (take_entry line p count None) (root_entry line (Full class asked)) v after
 
--- A direct map of this many bytes was made, and the note has its title, on which no seat has seen a step.
+-- In the region r the root of partition p made a direct map of this many bytes, and the note has its title, which no step has changed.
 pub record MapGives (r p line len : ℕ) (v after note : View) (title : Title) : Type 0 where
   pub long : title.len ≡ len
   pub has : HasOnly (title ∷ []) note

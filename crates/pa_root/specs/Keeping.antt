@@ -20,8 +20,8 @@ use Rattle.pa_legal.specs.Numbers.{moves_of, at_end, IsNumbered}
 use Rattle.pa_pool.specs.Calls.{HasSeenTake}
 use Rattle.pa_root.specs.Reading.{pools_seen}
 
--- The root of a partition, as contracts see it: the view of its seat, its journal, and what it has: super pages, spans and
--- direct maps.
+-- The root of a partition, as contracts see it: the view of its seat, its journal, and what it has:
+-- super pages, spans and direct maps.
 pub record RootState : Type 0 where
   pub view : View
   pub journal : List RootEntry

@@ -1,5 +1,5 @@
--- What a call of the root ensures for its caller's seat: the entries that were made for it, in the lists of the root and of
--- the pool, with its stake.
+-- What a call of the root ensures for its caller's seat: the entries that were made for it,
+-- in the lists of the root and of the pool, with its stake.
 use Rattle.std.specs.Prelude.{◌≡◌, ℕ, ◌<◌, ◌≤◌, List, [], ◌∷◌, ◌++◌, length}
 use Rattle.pa_slot.specs.declared.title.Title.{Title}
 use Rattle.pa_region.specs.declared.view.Entry.{Entry}
@@ -15,8 +15,8 @@ use Rattle.pa_record.specs.declared.root.RootEntry.{RootEntry}
 use Rattle.pa_record.specs.Numbers.{root_numbers, pool_numbers}
 
 -- The entry m, with these numbers, was made with the stake r for a seat with the view v: it has index j in the list of keeper
--- k, which the seat has then seen up to it at least. It carries all that the seat had seen, and the seat has seen what it
--- carries.
+-- k, which the seat has then seen up to it at least. It carries all that the seat had seen,
+-- and the seat has seen what it carries.
 pub record IsEnteredAt (j r k : ℕ) (numbers : List ℕ) (v after : View) (m : Made) : Type 0 where
   pub stake : m.stake ≡ r
   pub says : m.numbers ≡ numbers
@@ -26,8 +26,8 @@ pub record IsEnteredAt (j r k : ℕ) (numbers : List ℕ) (v after : View) (m : 
   pub before : (t : Title) → seen_of v t ≤ seen_among t m.seen
   pub known : (t : Title) → seen_among t m.seen ≤ seen_of after t
 
--- Entry j of partition p's journal was made for the seat. Its stake's log has that and nothing else besides, and it keeps what
--- it has.
+-- Entry j of partition p's journal was made for the seat. Its stake's log has that
+-- and nothing else besides, and it keeps what it has.
 pub record EntersOne (j r p : ℕ) (entry : RootEntry) (v after : View) : Type 0 where
   pub made : Made
   pub is_made : IsEnteredAt j r p (root_numbers entry) v after made

@@ -21,8 +21,8 @@ use Rattle.pa_root.specs.Filling.{HasRunOnly, frees_parcel, GivesTitles}
 use Rattle.pa_root.specs.Cutting.{map_beside}
 
 -- A sound root takes in a note of the super pages for a direct map of this many bytes, which the pool gave for its partition by an
--- entry after those that its seat had seen. It cuts the direct map's title, on which no seat has seen a step. Its seat has the view c
--- then.
+-- entry after those that its seat had seen. It cuts the direct map's title,
+-- on which no seat has seen a step. Its seat has the view c then.
 pub record IsCutForMap (p first entry len : ℕ) (s : RootState) (w c : View) : Type 0 where
   pub sound : IsRootSound p s
   pub aware : IsAware s.view
@@ -44,8 +44,8 @@ MapsHandOut =
     (p first entry len : ℕ) (s : RootState) (w c : View) → IsCutForMap p first entry len s w c →
     GivesTitles (map_beside first entry len ∷ []) c
 
--- A root is sound with the entry that names the title of a direct map, once its seat has handed the title over and has made the
--- entry.
+-- A root is sound with the entry that names the title of a direct map,
+-- once its seat has handed the title over and has made the entry.
 abbrev pub MapsKeep : Type 0
 MapsKeep =
     (p line first entry len : ℕ) (s : RootState) (w c x : View) (e : RootEntry) → IsCutForMap p first entry len s w c →

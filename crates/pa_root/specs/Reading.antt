@@ -19,8 +19,8 @@ abbrev pub given_read : List ℕ → ℕ
 given_read [] = 0
 given_read (first ∷ rest) = first
 
--- What the pool did: 0, a count and what was found, or 1, a count and the first. Numbers of no act are read as a give
--- of nothing.
+-- What the pool did: 0, a count and what was found, or 1, a count and the first.
+-- Numbers of no act are read as a give of nothing.
 abbrev pub pool_act_read : List ℕ → PoolAct
 pool_act_read [] = Give 0 0
 pool_act_read (kind ∷ []) = Give 0 0

@@ -49,8 +49,8 @@ RefusesRoom r p line count class a b w w_now js js_now OutOfMemory = (b ≡ a) �
 abbrev pub root_of_parts : View → List RootEntry → Root → RootState
 root_of_parts v journal r = record { view = v; journal = journal; root = r }
 
--- What the caller's seat knows once the pool was asked for a root that is to fill: the pool gave a super page by entry `index`, which
--- was made with the stake r.
+-- What the caller's seat knows once the pool was asked for a root that is to fill: the pool gave a super page by entry `index`,
+-- which was made with the stake r.
 pub record PoolGave (r p line index : ℕ) (v after : View) : Type 0 where
   pub first : ℕ
   pub made : Made

@@ -27,8 +27,8 @@ pub record FullTells (j r p line count : ℕ) (class : Option ℕ) (v after : Vi
   pub journal : s_now.journal ≡ s.journal ++ root_entry line (act.Full class full.asked) ∷ []
   pub same : s_now.root ≡ s.root
 
--- Why a fill or a direct map gave none. There is no room, as entry j of the journal says, or it ran out of memory, and nothing
--- changed.
+-- Why a fill or a direct map gave none. There is no room, as entry j of the journal says,
+-- or it ran out of memory, and nothing changed.
 abbrev pub NoneGiven : (r p line count : ℕ) → Option ℕ → (seat seat_now : Share) → (s s_now : RootState) → FillFault → Type 0
 NoneGiven r p line count class a b s s_now (Full j) = FullTells j r p line count class a.view b.view s s_now
 NoneGiven r p line count class a b s s_now OutOfMemory = (s_now ≡ s) × (b ≡ a)

@@ -35,8 +35,8 @@ pub record IsUncutWith (r : ℕ) (t : Title) (lender lender_now host host_now : 
   pub lends : Lends r (Uncut t ∷ []) lender lender_now
   pub uncut : IsUncut t host host_now
 
--- The seat with the view w has seen what the one with the view v has, and nothing besides. Each keeps what it has, and has done nothing with its
--- stakes.
+-- The seat with the view w has seen what the one with the view v has, and nothing besides. Each keeps what it has,
+-- and has done nothing with its stakes.
 pub record IsShown (v v_now w w_now : View) : Type 0 where
   pub giver : (r : ℕ) → Lends r [] v v_now
   pub taker : (r : ℕ) → Lends r [] w w_now

@@ -19,8 +19,8 @@ use pa_pool::Pool;
 use pa_region::{Mark, Name, Note, Region, Seat};
 use pa_slot::Title;
 
-// Shows the seat what the root's has seen, takes in the note, and uncuts its title with the seat's least stake. It returns
-// the title's number.
+// Shows the seat what the root's has seen, takes in the note, and uncuts its title with the seat's least stake.
+// It returns the title's number.
 pub(crate) fn take_title(
     region: &Region,
     seat: &mut Seat,
@@ -50,8 +50,8 @@ pub(crate) fn take_title(
     number
 }
 
-// Hands over the super pages of a direct map after its title was uncut, as raw bytes, with the lease of the entry of the pool
-// that took them.
+// Hands over the super pages of a direct map after its title was uncut, as raw bytes,
+// with the lease of the entry of the pool that took them.
 pub(crate) fn hand_map(region: &Region, seat: &mut Seat, title: Title) -> Note
     requires region { seat.old.region ≡ region.now }
     requires stands { title.start ≡ page_place (super_page_at title.start) 1 }

@@ -26,8 +26,8 @@ pub fn cut_beside(region: &Region, seat: &mut Seat, first: Title, count: u32)
     }
 }
 
-/// Cuts the title of a direct map of `len` bytes out of the raw super pages from `first` on, after their first partition
-/// page.
+/// Cuts the title of a direct map of `len` bytes out of the raw super pages from `first` on,
+/// after their first partition page.
 pub fn cut_map(region: &Region, seat: &mut Seat, first: u32, born: u32, len: u32) -> Title
     requires region { seat.old.region ≡ region.now }
     requires inside { first < 2048 }

@@ -26,8 +26,8 @@ impl<N: Name, const P: u32> Root<N, P> {
     /// Gives out as many free slots of the class as a thread asks for at once, or fewer if there are fewer, but at least
     /// one, as an op of the line asks. The pool is asked for a super page if no span has a slot of the class left and
     /// the current super page has no room for one. The note has the titles free, and nothing else. If there is no
-    /// slot, the journal says so. If it runs out of memory, nothing changed. The only memory that it needs for the journal is
-    /// the room for one entry.
+    /// slot, the journal says so. If it runs out of memory, nothing changed.
+    /// The only memory that it needs for the journal is the room for one entry.
     pub fn fill<R: Wait>(
         &mut self,
         rt: &R,

@@ -7,8 +7,8 @@ ghost use Rattle.pa_root.specs.Uncutting.{IsUncutWith, IsShown};
 use pa_region::{Region, Seat, lend_stake};
 use pa_slot::Title;
 
-/// Uncuts the host's free title, with the lender's least stake, so that its log says so. The stake is lent to the host
-/// and comes back.
+/// Uncuts the host's free title, with the lender's least stake, so that its log says so.
+/// The stake is lent to the host and comes back.
 pub fn uncut_with(region: &Region, lender: &mut Seat, host: &mut Seat, title: Title)
     requires regions { (lender.old.region ≡ region.now) × (host.old.region ≡ region.now) }
     requires lender { CanLend lender.old.view }

@@ -21,8 +21,8 @@ use std::sync::{Mutex, Wait};
 
 impl<const P: u32> Ledger<P> {
     // Asks the pool for `count` super pages, as `ask_pool` does. It returns the index of the pool's entry, the first super page,
-    // and a note that has them. If the pool has none, the journal, which has room for an entry, says so. If it runs out of memory,
-    // nothing has changed.
+    // and a note that has them. If the pool has none, the journal, which has room for an entry, says so.
+    // If it runs out of memory, nothing has changed.
     pub(crate) fn ask_room<N: Name, R: Wait>(
         &mut self,
         rt: &R,

@@ -28,7 +28,8 @@ pub gives_more : (xs : List Numbered) → 0 < length xs → gives xs ≡ Give (t
 gives_more [] some = absurd (omega arith)
 gives_more (x ∷ xs) some =
     let e = length-drop 16 (x ∷ xs) in
-    ap (λ z. Give (take 16 (x ∷ xs)) ∷ z) (batches_same (length xs) (length (drop 16 (x ∷ xs))) (drop 16 (x ∷ xs)) (omega arith) (omega arith))
+    ap (λ z. Give (take 16 (x ∷ xs)) ∷ z)
+    (batches_same (length xs) (length (drop 16 (x ∷ xs))) (drop 16 (x ∷ xs)) (omega arith) (omega arith))
 
 -- a batch that goes back names no entry of the pool
 pub batch_names_none : (n : ℕ) (xs : List Numbered) (act : RootAct) → Contains (batches n xs) act → asked_by act ≡ None
@@ -40,12 +41,14 @@ batch_names_none (suc n) (x ∷ xs) act among = elim (in_cases (Give (take 16 (x
 ]
 
 -- nor does a purge
-pub purge_names_none : (lists : ℕ → List Numbered) (class n : ℕ) (act : RootAct) → Contains (purge_acts lists class n) act → asked_by act ≡ None
+pub purge_names_none : (lists : ℕ → List Numbered) (class n : ℕ) (act : RootAct) → Contains (purge_acts lists class n) act →
+    asked_by act ≡ None
 purge_names_none lists class zero act among = ap asked_by (sym (in_one Purge act among))
-purge_names_none lists class (suc n) act among = elim (Contains-append_cases (gives (lists class)) (purge_acts lists (class + 1) n) act among) [
-  | inl here ↦ batch_names_none (length (lists class)) (lists class) act here
-  | inr rest ↦ purge_names_none lists (class + 1) n act rest
-]
+purge_names_none lists class (suc n) act among =
+    elim (Contains-append_cases (gives (lists class)) (purge_acts lists (class + 1) n) act among) [
+      | inl here ↦ batch_names_none (length (lists class)) (lists class) act here
+      | inr rest ↦ purge_names_none lists (class + 1) n act rest
+    ]
 
 -- each batch names slots
 batches_name : (n : ℕ) (xs : List Numbered) (a : RootAct) → Contains (batches n xs) a → NamesSlots a

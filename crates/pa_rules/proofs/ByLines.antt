@@ -36,7 +36,8 @@ acts_at es line = map (λ (e : RootEntry). e.act) (filter (λ (e : RootEntry). e
 abbrev here : (RootAct → ℕ) → RootEntry → ℕ → ℕ
 here f e line = cond (e.line == line) (f e.act) 0
 
-one_more : (f : RootAct → ℕ) (e : RootEntry) (es : List RootEntry) (line : ℕ) → weigh f (acts_at (e ∷ es) line) ≡ here f e line + weigh f (acts_at es line)
+one_more : (f : RootAct → ℕ) (e : RootEntry) (es : List RootEntry) (line : ℕ) →
+    weigh f (acts_at (e ∷ es) line) ≡ here f e line + weigh f (acts_at es line)
 one_more f e es line = elim (cases_Bool (e.line == line)) [
   | inl hit ↦ rw hit refl
   | inr miss ↦ rw miss (omega arith)
@@ -62,13 +63,15 @@ here_hit f e line same = rw (eq-eqb e.line line same) refl
 here_miss : (f : RootAct → ℕ) (e : RootEntry) (line : ℕ) → (e.line ≡ line → ⊥) → here f e line ≡ 0
 here_miss f e line other = rw (ne_eqb e.line line other) refl
 
-over_hit : (f : RootAct → ℕ) (e : RootEntry) (xs : List Played) (x : Played) → AllPairs OtherRecord xs → Contains xs x → e.line ≡ x.line → over (here f e) xs ≡ f e.act
+over_hit : (f : RootAct → ℕ) (e : RootEntry) (xs : List Played) (x : Played) → AllPairs OtherRecord xs → Contains xs x → e.line ≡ x.line →
+    over (here f e) xs ≡ f e.act
 over_hit f e [] x h among same = absurd (not_in_none x among)
 over_hit f e (y ∷ ys) x h among same = elim (in_cases y x ys among) [
   | inl i ↦
       let at : e.line ≡ y.line = same ∙ ap (λ (z : Played). z.line) (sym i) in
       let a = here_hit f e y.line at in
-      let rest = over_none (here f e) ys (λ z member. here_miss f e z.line (λ there. pairs_head OtherRecord y z ys h member (sym at ∙ there))) in
+      let rest = over_none (here f e) ys
+      (λ z member. here_miss f e z.line (λ there. pairs_head OtherRecord y z ys h member (sym at ∙ there))) in
       omega arith
   | inr after ↦
       let a = here_miss f e y.line (λ there. pairs_head OtherRecord y x ys h after (sym there ∙ same)) in
@@ -78,8 +81,10 @@ over_hit f e (y ∷ ys) x h among same = elim (in_cases y x ys among) [
 
 -- on the lines of these records the entries weigh what the list weighs, if each entry of it has the line of one of them and no
 -- entry after it has
-by_lines : (f : RootAct → ℕ) (es rest : List RootEntry) (xs : List Played) → AllPairs OtherRecord xs → ((e : RootEntry) → Contains es e → (x : Played) × Contains xs x × (e.line ≡ x.line))
-    → ((e : RootEntry) (x : Played) → Contains rest e → Contains xs x → e.line ≡ x.line → ⊥) → over (λ line. weigh f (acts_at (es ++ rest) line)) xs ≡ weight f es
+by_lines : (f : RootAct → ℕ) (es rest : List RootEntry) (xs : List Played) → AllPairs OtherRecord xs →
+    ((e : RootEntry) → Contains es e → (x : Played) × Contains xs x × (e.line ≡ x.line))
+    → ((e : RootEntry) (x : Played) → Contains rest e → Contains xs x → e.line ≡ x.line → ⊥) →
+    over (λ line. weigh f (acts_at (es ++ rest) line)) xs ≡ weight f es
 by_lines f [] [] xs h each none = over_none (λ line. 0) xs (λ x among. refl)
 by_lines f [] (e ∷ rest) xs h each none =
     let a = over_add (λ line. weigh f (acts_at (e ∷ rest) line)) (here f e) (λ line. weigh f (acts_at rest line)) xs (one_more f e rest) in
@@ -87,7 +92,8 @@ by_lines f [] (e ∷ rest) xs h each none =
     let ih = by_lines f [] rest xs h each (λ g x member. none g x (later_in e g rest member)) in
     omega arith
 by_lines f (e ∷ es) rest xs h each none =
-    let a = over_add (λ line. weigh f (acts_at ((e ∷ es) ++ rest) line)) (here f e) (λ line. weigh f (acts_at (es ++ rest) line)) xs (one_more f e (es ++ rest)) in
+    let a = over_add (λ line. weigh f (acts_at ((e ∷ es) ++ rest) line)) (here f e) (λ line. weigh f (acts_at (es ++ rest) line)) xs
+    (one_more f e (es ++ rest)) in
     let (x, among, same) = each e (first_in e es) in
     let b = over_hit f e xs x h among same in
     let ih = by_lines f es rest xs h (λ g member. each g (later_in e g es member)) none in
@@ -108,7 +114,8 @@ pub record IsFront (xs : List Played) (journal front : List RootEntry) : Type 0 
   pub none : (e : RootEntry) (x : Played) → Contains rest e → Contains xs x → e.line ≡ x.line → ⊥
 
 -- the entries of a journal up to the end of a phase are a front of it, by the records up to there
-pub until_front : (ps : List Played) (phase : ℕ) (journal before : List RootEntry) → AllPairs OtherRecord ps → AreUntil ps phase journal before → IsFront (until phase ps) journal before
+pub until_front : (ps : List Played) (phase : ℕ) (journal before : List RootEntry) → AllPairs OtherRecord ps →
+    AreUntil ps phase journal before → IsFront (until phase ps) journal before
 until_front ps phase journal before h u = record {
   rest = u.rest;
   parts = u.parts;
@@ -126,7 +133,8 @@ until_front ps phase journal before h u = record {
 
 front_weighs : (f : RootAct → ℕ) (xs : List Played) (journal front : List RootEntry) → AllPairs OtherRecord xs → IsFront xs journal front →
     over (λ line. weigh f (acts_at journal line)) xs ≡ weight f front
-front_weighs f xs journal front h u = ap (λ es. over (λ line. weigh f (acts_at es line)) xs) u.parts ∙ by_lines f front u.rest xs h u.each u.none
+front_weighs f xs journal front h u = ap (λ es. over (λ line. weigh f (acts_at es line)) xs) u.parts ∙
+    by_lines f front u.rest xs h u.each u.none
 
 -- ---- how often a slot leaves and comes back
 
@@ -144,11 +152,13 @@ back_weighs : (s : SlotName) (acts : List RootAct) → back_in s acts ≡ weigh 
 back_weighs s [] = refl
 back_weighs s (a ∷ acts) = ap (λ n. coming s a + n) (back_weighs s acts)
 
-left_over : (s : SlotName) (roots : Journals) (p : ℕ) (xs : List Played) → left_on s roots p xs ≡ over (λ line. weigh (leaving s) (acts_of roots line p)) xs
+left_over : (s : SlotName) (roots : Journals) (p : ℕ) (xs : List Played) →
+    left_on s roots p xs ≡ over (λ line. weigh (leaving s) (acts_of roots line p)) xs
 left_over s roots p [] = refl
 left_over s roots p (x ∷ xs) = let a = left_weighs s (acts_of roots x.line p) in let ih = left_over s roots p xs in omega arith
 
-back_over : (s : SlotName) (roots : Journals) (p : ℕ) (xs : List Played) → back_on s roots p xs ≡ over (λ line. weigh (coming s) (acts_of roots line p)) xs
+back_over : (s : SlotName) (roots : Journals) (p : ℕ) (xs : List Played) →
+    back_on s roots p xs ≡ over (λ line. weigh (coming s) (acts_of roots line p)) xs
 back_over s roots p [] = refl
 back_over s roots p (x ∷ xs) = let a = back_weighs s (acts_of roots x.line p) in let ih = back_over s roots p xs in omega arith
 

@@ -70,7 +70,8 @@ back_gives s xs = back_batches s (length xs) xs (omega arith)
 pub left_gives : (s : SlotName) (xs : List Numbered) → left_in s (gives xs) ≡ 0
 left_gives s xs = left_batches s (length xs) xs
 
-pub back_purge : (s : SlotName) (lists : ℕ → List Numbered) (class n : ℕ) → back_in s (purge_acts lists class n) ≡ listed_times s lists class n
+pub back_purge : (s : SlotName) (lists : ℕ → List Numbered) (class n : ℕ) →
+    back_in s (purge_acts lists class n) ≡ listed_times s lists class n
 unfolding listed_times
 back_purge s lists class zero = refl
 back_purge s lists class (suc n) =
@@ -88,7 +89,8 @@ left_purge s lists class (suc n) =
     omega arith
 
 -- lists that agree from a class on
-pub listed_agree : (s : SlotName) (f g : ℕ → List Numbered) (from n : ℕ) → ((c : ℕ) → from ≤ c → f c ≡ g c) → listed_times s f from n ≡ listed_times s g from n
+pub listed_agree : (s : SlotName) (f g : ℕ → List Numbered) (from n : ℕ) → ((c : ℕ) → from ≤ c → f c ≡ g c) →
+    listed_times s f from n ≡ listed_times s g from n
 unfolding listed_times
 listed_agree s f g from zero same = refl
 listed_agree s f g from (suc n) same =
@@ -97,7 +99,8 @@ listed_agree s f g from (suc n) same =
     omega arith
 
 -- lists that agree but at one class
-pub listed_but_one : (s : SlotName) (f g : ℕ → List Numbered) (k from n : ℕ) → from ≤ k → k < from + n → ((c : ℕ) → (c ≡ k → ⊥) → f c ≡ g c) →
+pub listed_but_one : (s : SlotName) (f g : ℕ → List Numbered) (k from n : ℕ) → from ≤ k → k < from + n →
+    ((c : ℕ) → (c ≡ k → ⊥) → f c ≡ g c) →
     listed_times s f from n + stands s (g k) ≡ listed_times s g from n + stands s (f k)
 unfolding listed_times
 listed_but_one s f g k from zero low high same = absurd (omega arith)
@@ -126,43 +129,52 @@ pub list_changed : (cache : Cache) (p class : ℕ) (xs : List Numbered) → with
 list_changed cache p class xs = rw (eq-eqb p p refl, eq-eqb class class refl) refl
 
 -- the list of another class stays as it was
-pub list_of_another_class : (cache : Cache) (p class : ℕ) (xs : List Numbered) (c : ℕ) → (c ≡ class → ⊥) → with_list cache p class xs p c ≡ cache p c
+pub list_of_another_class : (cache : Cache) (p class : ℕ) (xs : List Numbered) (c : ℕ) → (c ≡ class → ⊥) →
+    with_list cache p class xs p c ≡ cache p c
 list_of_another_class cache p class xs c ne = rw (eq-eqb p p refl, ne_eqb c class ne) refl
 
 -- the lists of another partition stay as they were
-pub list_of_another : (cache : Cache) (p class : ℕ) (xs : List Numbered) (q c : ℕ) → (q ≡ p → ⊥) → with_list cache p class xs q c ≡ cache q c
+pub list_of_another : (cache : Cache) (p class : ℕ) (xs : List Numbered) (q c : ℕ) → (q ≡ p → ⊥) →
+    with_list cache p class xs q c ≡ cache q c
 list_of_another cache p class xs q c ne = rw (ne_eqb q p ne) refl
 
 -- one list of a thread was changed
-pub listed_changed : (s : SlotName) (cache after : Cache) (p class : ℕ) (xs : List Numbered) → class < 170 → ((c : ℕ) → after p c ≡ with_list cache p class xs p c) →
+pub listed_changed : (s : SlotName) (cache after : Cache) (p class : ℕ) (xs : List Numbered) → class < 170 →
+    ((c : ℕ) → after p c ≡ with_list cache p class xs p c) →
     listed_times s (after p) 0 170 + stands s (cache p class) ≡ listed_times s (cache p) 0 170 + stands s xs
 listed_changed s cache after p class xs real becomes =
-    let one = listed_but_one s (after p) (cache p) class 0 170 (omega arith) (omega arith) (λ c ne. becomes c ∙ list_of_another_class cache p class xs c ne) in
+    let one = listed_but_one s (after p) (cache p) class 0 170 (omega arith) (omega arith)
+    (λ c ne. becomes c ∙ list_of_another_class cache p class xs c ne) in
     let here : stands s (after p class) ≡ stands s xs = ap (stands s) (becomes class ∙ list_changed cache p class xs) in
     omega arith
 
 -- one thread's lists were changed
-cached_below : (s : SlotName) (all : Caches) (thread p n : ℕ) (next : Cache) → n ≤ thread → cached_times s (with_cache all thread next) p n ≡ cached_times s all p n
+cached_below : (s : SlotName) (all : Caches) (thread p n : ℕ) (next : Cache) → n ≤ thread →
+    cached_times s (with_cache all thread next) p n ≡ cached_times s all p n
 cached_below s all thread p zero next below = refl
 cached_below s all thread p (suc n) next below =
     let ih = cached_below s all thread p n next (omega arith) in
     let same : with_cache all thread next n ≡ all n = rw (ne_eqb n thread (λ e. omega arith)) refl in
-    let here : listed_times s (with_cache all thread next n p) 0 170 ≡ listed_times s (all n p) 0 170 = ap (λ (c : Cache). listed_times s (c p) 0 170) same in
+    let here : listed_times s (with_cache all thread next n p) 0 170 ≡ listed_times s (all n p) 0 170 =
+    ap (λ (c : Cache). listed_times s (c p) 0 170) same in
     omega arith
 
 pub cached_changed : (s : SlotName) (all : Caches) (thread p n : ℕ) (next : Cache) → thread < n →
-    cached_times s (with_cache all thread next) p n + listed_times s (all thread p) 0 170 ≡ cached_times s all p n + listed_times s (next p) 0 170
+    cached_times s (with_cache all thread next) p n + listed_times s (all thread p) 0 170 ≡ cached_times s all p n + listed_times s
+    (next p) 0 170
 cached_changed s all thread p zero next below = absurd (omega arith)
 cached_changed s all thread p (suc n) next below = elim (cases_eq n thread) [
   | inl e ↦
       let rest = cached_below s all thread p n next (omega arith) in
       let same : with_cache all thread next n ≡ next = rw (eq-eqb n thread e) refl in
-      let here : listed_times s (with_cache all thread next n p) 0 170 ≡ listed_times s (next p) 0 170 = ap (λ (c : Cache). listed_times s (c p) 0 170) same in
+      let here : listed_times s (with_cache all thread next n p) 0 170 ≡ listed_times s (next p) 0 170 =
+      ap (λ (c : Cache). listed_times s (c p) 0 170) same in
       let old : listed_times s (all n p) 0 170 ≡ listed_times s (all thread p) 0 170 = ap (λ t. listed_times s (all t p) 0 170) e in
       omega arith
   | inr other ↦
       let ih = cached_changed s all thread p n next (omega arith) in
       let same : with_cache all thread next n ≡ all n = rw (ne_eqb n thread other) refl in
-      let here : listed_times s (with_cache all thread next n p) 0 170 ≡ listed_times s (all n p) 0 170 = ap (λ (c : Cache). listed_times s (c p) 0 170) same in
+      let here : listed_times s (with_cache all thread next n p) 0 170 ≡ listed_times s (all n p) 0 170 =
+      ap (λ (c : Cache). listed_times s (c p) 0 170) same in
       omega arith
 ]

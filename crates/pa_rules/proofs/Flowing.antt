@@ -47,7 +47,8 @@ mark_counted test (Some m) x xs e = rw e (sum_by-cons (λ y. cond (test y) 1 0) 
 -- or came back as it left or was returned
 abbrev Flows : SlotName → ℕ → List RootAct → Option Mark → Cache → Cache → Type 0
 Flows s p acts mark cache after =
-    listed_times s (after p) 0 170 + marked (is_issue_of s) mark + back_in s acts ≡ listed_times s (cache p) 0 170 + left_in s acts + marked (is_return_of s) mark
+    listed_times s (after p) 0 170 + marked (is_issue_of s) mark + back_in s acts ≡ listed_times s (cache p) 0 170 + left_in s acts + marked
+    (is_return_of s) mark
 
 -- a row without entries, steps that issue or return, and changes
 quiet : (s : SlotName) (p : ℕ) (acts : List RootAct) (mark : Option Mark) (cache after : Cache) → SameLists after cache →
@@ -61,14 +62,18 @@ none_left s acts e = (ap (left_in s) e, ap (back_in s) e)
 pub not_once : (s t : SlotName) → (s ≡ t → ⊥) → once s t ≡ 0
 not_once s t ne = let e = false_from_ne_true _ (λ hit. ne (same_slot_eq s t hit)) in rw e refl
 
-not_of : (roots : Journals) (s t : SlotName) (p q : ℕ) → IsOnlyOf roots p s → (q ≡ p → ⊥) → ((e : RootEntry) × Contains (roots q) e × Contains (leaves_by e.act) t) → once s t ≡ 0
-not_of roots s t p q own ne (e, among, leaves) = not_once s t (λ same. ne (own q e among (subst (λ z. Contains (leaves_by e.act) z) (sym same) leaves)))
+not_of : (roots : Journals) (s t : SlotName) (p q : ℕ) → IsOnlyOf roots p s → (q ≡ p → ⊥) →
+    ((e : RootEntry) × Contains (roots q) e × Contains (leaves_by e.act) t) → once s t ≡ 0
+not_of roots s t p q own ne (e, among, leaves) =
+    not_once s t (λ same. ne (own q e among (subst (λ z. Contains (leaves_by e.act) z) (sym same) leaves)))
 
 -- a fill or a map of an entry of the journal
-pub class_leaves : (roots : Journals) (t : SlotName) (q class : ℕ) → IsOfClass roots t q class → (e : RootEntry) × Contains (roots q) e × Contains (leaves_by e.act) t
+pub class_leaves : (roots : Journals) (t : SlotName) (q class : ℕ) → IsOfClass roots t q class → (e : RootEntry) × Contains (roots q) e ×
+    Contains (leaves_by e.act) t
 class_leaves roots t q class (e, asked, slots, among, act, member) = (e, among, subst (λ a. Contains (leaves_by a) t) (sym act) member)
 
-pub map_leaves : (roots : Journals) (t : SlotName) (q : ℕ) → IsDirect roots t q → (e : RootEntry) × Contains (roots q) e × Contains (leaves_by e.act) t
+pub map_leaves : (roots : Journals) (t : SlotName) (q : ℕ) → IsDirect roots t q → (e : RootEntry) × Contains (roots q) e ×
+    Contains (leaves_by e.act) t
 map_leaves roots t q (e, asked, len, among, act) = (e, among, subst (λ a. Contains (leaves_by a) t) (sym act) (first_in t []))
 
 -- the marks of an issue, and of a step that is none
@@ -83,7 +88,8 @@ on : (a b : Bool) → b ≡ true → cond {A = ℕ} (a && b) 1 0 ≡ cond {A = �
 on true b e = rw e refl
 on false b e = refl
 
-made_keeps : (s : SlotName) (p : ℕ) (roots : Journals) (x : Played) (seen : Seen) (cache after : Cache) → IsOnlyOf roots p s → IsKnown roots cache → MadeRow roots x seen cache after →
+made_keeps : (s : SlotName) (p : ℕ) (roots : Journals) (x : Played) (seen : Seen) (cache after : Cache) → IsOnlyOf roots p s →
+    IsKnown roots cache → MadeRow roots x seen cache after →
     Flows s p (acts_of roots x.line p) (Some (mark_at x.line seen (Some Issue))) cache after
 made_keeps s p roots x seen cache after own known (inl (q, class, xs, rest, asks, filled, front, becomes)) =
     let f = first_keeps s roots x.line q class (cache q class) xs (λ n. known q class n) filled in
@@ -92,19 +98,23 @@ made_keeps s p roots x seen cache after own known (inl (q, class, xs, rest, asks
     let g = times_cons s seen.slot (names rest) in
     let i = issue_marked s x.line seen in
     let o = off (same_slot s seen.slot) false refl in
-    let at : (n : Numbered) → Contains (head ∷ rest) n → IsOfClass roots n.slot q class = λ n member. f.known n (subst (λ zs. Contains zs n) (sym front) member) in
+    let at : (n : Numbered) → Contains (head ∷ rest) n →
+    IsOfClass roots n.slot q class = λ n member. f.known n (subst (λ zs. Contains zs n) (sym front) member) in
     elim (cases_eq q p) [
       | inl same ↦
-          let turned : FirstKeeps s roots x.line p class (cache p class) xs = subst (λ z. FirstKeeps s roots x.line z class (cache z class) xs) same f in
+          let turned : FirstKeeps s roots x.line p class (cache p class) xs =
+          subst (λ z. FirstKeeps s roots x.line z class (cache z class) xs) same f in
           let left = turned.flow in
           let back = turned.back in
-          let change = listed_changed s cache after p class rest (real_in x.rules.version class (asks.3.from, asks.3.real)) (λ c. becomes p c ∙ ap (λ z. with_list cache z class rest p c) same) in
+          let change = listed_changed s cache after p class rest (real_in x.rules.version class (asks.3.from, asks.3.real))
+          (λ c. becomes p c ∙ ap (λ z. with_list cache z class rest p c) same) in
           omega arith
       | inr other ↦
           let none = none_left s (acts_of roots x.line p) (f.others p (λ e. other (sym e))) in
           let (left, back) = none in
           let away = not_of roots s seen.slot p q own other (class_leaves roots seen.slot q class (at head (first_in head rest))) in
-          let same = listed_agree s (after p) (cache p) 0 170 (λ c low. becomes p c ∙ list_of_another cache q class rest p c (λ e. other (sym e))) in
+          let same = listed_agree s (after p) (cache p) 0 170
+          (λ c low. becomes p c ∙ list_of_another cache q class rest p c (λ e. other (sym e))) in
           omega arith
     ]
 made_keeps s p roots x seen cache after own known (inr (q, size, asked, len, asks, only, becomes)) =
@@ -122,23 +132,31 @@ made_keeps s p roots x seen cache after own known (inr (q, size, asked, len, ask
       | inr other ↦
           let (left, back) = none_left s (acts_of roots x.line p) (only.1 p (λ e. other (sym e))) in
           let (e, among, is) = entry_of_act roots x.line q act only.0 in
-          let away = not_of roots s seen.slot p q own other (e, among, subst (λ a. Contains (leaves_by a) seen.slot) (sym is) (first_in seen.slot [])) in
+          let away = not_of roots s seen.slot p q own other (
+            e,
+            among,
+            subst (λ a. Contains (leaves_by a) seen.slot) (sym is) (first_in seen.slot []),
+          ) in
           omega arith
     ])
 
 -- a fill of a journal is of a real class
-fill_real : (pools : List PoolEntry) (es : List RootEntry) (r : Root) (e : RootEntry) (class : ℕ) (asked : Option ℕ) (slots : List Numbered) → RootReplays pools es r →
+fill_real : (pools : List PoolEntry) (es : List RootEntry) (r : Root) (e : RootEntry) (class : ℕ) (asked : Option ℕ)
+    (slots : List Numbered) → RootReplays pools es r →
     Contains es e → e.act ≡ Fill class asked slots → class < 170
 fill_real pools [] r e class asked slots fits among act = absurd (not_in_none e among)
 fill_real pools (f ∷ es) r e class asked slots fits among act = elim (in_cases f e es among) [
   | inl same ↦
-      let here : RootActFits pools (Fill class asked slots) r = subst (λ a. RootActFits pools a r) (ap (λ (z : RootEntry). z.act) same ∙ act) fits.0 in
+      let here : RootActFits pools (Fill class asked slots) r =
+      subst (λ a. RootActFits pools a r) (ap (λ (z : RootEntry). z.act) same ∙ act) fits.0 in
       here.0
   | inr rest ↦ fill_real pools es (root_next pools f.act r) e class asked slots fits.1 rest act
 ]
 
-pub class_real : (pools : List PoolEntry) (roots : Journals) (t : SlotName) (q class : ℕ) → IsJournal pools (roots q) → IsOfClass roots t q class → class < 170
-class_real pools roots t q class j (e, asked, slots, among, act, member) = fill_real pools (roots q) new_root e class asked slots j.replays among act
+pub class_real : (pools : List PoolEntry) (roots : Journals) (t : SlotName) (q class : ℕ) → IsJournal pools (roots q) →
+    IsOfClass roots t q class → class < 170
+class_real pools roots t q class j (e, asked, slots, among, act, member) =
+    fill_real pools (roots q) new_root e class asked slots j.replays among act
 
 -- a slot that a step returned, if its mark is one return and no issue
 return_keeps : (s : SlotName) (p : ℕ) (pools : List PoolEntry) (roots : Journals) (x : Played) (slot : Numbered) (mark : Option Mark)
@@ -151,9 +169,11 @@ return_keeps s p pools roots x slot mark cache after journals own i o (inl (q, c
     let parts = stands_kept s class list in
     elim (cases_eq q p) [
       | inl same ↦
-          let acts : acts_of roots x.line p ≡ gives (spilled class list) = subst (λ z. acts_of roots x.line z ≡ gives (spilled class list)) same only.0 in
+          let acts : acts_of roots x.line p ≡ gives (spilled class list) =
+          subst (λ z. acts_of roots x.line z ≡ gives (spilled class list)) same only.0 in
           let left : left_in s (acts_of roots x.line p) ≡ 0 = ap (left_in s) acts ∙ left_gives s (spilled class list) in
-          let back : back_in s (acts_of roots x.line p) ≡ stands s (spilled class list) = ap (back_in s) acts ∙ back_gives s (spilled class list) in
+          let back : back_in s (acts_of roots x.line p) ≡ stands s (spilled class list) = ap (back_in s) acts ∙
+          back_gives s (spilled class list) in
           let change = listed_changed s cache after p class (kept class list) (class_real pools roots slot.slot q class (journals q) of)
           (λ c. becomes p c ∙ ap (λ z. with_list cache z class (kept class list) p c) same) in
           let old : stands s (cache q class) ≡ stands s (cache p class) = ap (λ z. stands s (cache z class)) same in
@@ -161,7 +181,8 @@ return_keeps s p pools roots x slot mark cache after journals own i o (inl (q, c
       | inr other ↦
           let (left, back) = none_left s (acts_of roots x.line p) (only.1 p (λ e. other (sym e))) in
           let away = not_of roots s slot.slot p q own other (class_leaves roots slot.slot q class of) in
-          let same = listed_agree s (after p) (cache p) 0 170 (λ c low. becomes p c ∙ list_of_another cache q class (kept class list) p c (λ e. other (sym e))) in
+          let same = listed_agree s (after p) (cache p) 0 170
+          (λ c low. becomes p c ∙ list_of_another cache q class (kept class list) p c (λ e. other (sym e))) in
           omega arith
     ]
 return_keeps s p pools roots x slot mark cache after journals own i o (inr (q, asked, number, direct, only, becomes)) =
@@ -235,12 +256,14 @@ one_full : (s : SlotName) (roots : Journals) (line p q : ℕ) (class : Option �
     → (left_in s (acts_of roots line p) ≡ 0) × (back_in s (acts_of roots line p) ≡ 0)
 one_full s roots line p q class asked only = elim (cases_eq p q) [
   | inl same ↦
-      let here : acts_of roots line p ≡ Full class asked ∷ [] = subst (λ z. acts_of roots line z ≡ Full class asked ∷ []) (sym same) only.0 in
+      let here : acts_of roots line p ≡ Full class asked ∷ [] =
+      subst (λ z. acts_of roots line z ≡ Full class asked ∷ []) (sym same) only.0 in
       (ap (left_in s) here, ap (back_in s) here)
   | inr other ↦ none_left s (acts_of roots line p) (only.1 p other)
 ]
 
-full_keeps : (s : SlotName) (p : ℕ) (roots : Journals) (x : Played) (cache after : Cache) → FullRow roots x cache after → Flows s p (acts_of roots x.line p) None cache after
+full_keeps : (s : SlotName) (p : ℕ) (roots : Journals) (x : Played) (cache after : Cache) → FullRow roots x cache after →
+    Flows s p (acts_of roots x.line p) None cache after
 full_keeps s p roots x cache after (inl (q, class, asked, asks, empty, only, becomes)) =
     let (left, back) = one_full s roots x.line p q (Some class) asked only in
     quiet s p (acts_of roots x.line p) None cache after becomes (omega arith)
@@ -248,16 +271,19 @@ full_keeps s p roots x cache after (inr (q, size, asked, asks, only, becomes)) =
     let (left, back) = one_full s roots x.line p q None asked only in
     quiet s p (acts_of roots x.line p) None cache after becomes (omega arith)
 
-purged_keeps : (partitions : ℕ) (s : SlotName) (p : ℕ) (roots : Journals) (x : Played) (slots : ℕ) (cache after : Cache) → p < partitions → PurgedRow partitions roots x slots cache after →
+purged_keeps : (partitions : ℕ) (s : SlotName) (p : ℕ) (roots : Journals) (x : Played) (slots : ℕ) (cache after : Cache) → p < partitions →
+    PurgedRow partitions roots x slots cache after →
     Flows s p (acts_of roots x.line p) None cache after
 purged_keeps partitions s p roots x slots cache after below (acts, counted, empty) =
     let left : left_in s (acts_of roots x.line p) ≡ 0 = ap (left_in s) (acts p below) ∙ left_purge s (cache p) 0 170 in
-    let back : back_in s (acts_of roots x.line p) ≡ listed_times s (cache p) 0 170 = ap (back_in s) (acts p below) ∙ back_purge s (cache p) 0 170 in
+    let back : back_in s (acts_of roots x.line p) ≡ listed_times s (cache p) 0 170 = ap (back_in s) (acts p below) ∙
+    back_purge s (cache p) 0 170 in
     let none = listed_none s (after p) 0 170 (empty p) in
     omega arith
 
 -- a row without entries, with a look or no mark
-look_keeps : (s : SlotName) (p : ℕ) (roots : Journals) (x : Played) (o : Option Seen) (cache after : Cache) → NoActs roots x.line × SameLists after cache →
+look_keeps : (s : SlotName) (p : ℕ) (roots : Journals) (x : Played) (o : Option Seen) (cache after : Cache) → NoActs roots x.line ×
+    SameLists after cache →
     Flows s p (acts_of roots x.line p) (look_at x.line o) cache after
 look_keeps s p roots x None cache after (acts, becomes) =
     let (left, back) = none_left s (acts_of roots x.line p) (acts p) in
@@ -269,35 +295,57 @@ look_keeps s p roots x (Some seen) cache after (acts, becomes) =
 
 row_keeps : (partitions : ℕ) (s : SlotName) (p : ℕ) (pools : List PoolEntry) (roots : Journals) (x : Played) (a : Answer)
     (cache after : Cache) → ((q : ℕ) → IsJournal pools (roots q)) → IsOnlyOf roots p s →
-    p < partitions → IsKnown roots cache → CacheRow partitions roots x a cache after → Flows s p (acts_of roots x.line p) (mark_of_answer x.line x.op a) cache after
-row_keeps partitions s p pools roots x (answers.Made seen usable) cache after journals own below known row = made_keeps s p roots x seen cache after own known row
-row_keeps partitions s p pools roots x (answers.Done seen) cache after journals own below known row = done_keeps s p pools roots x (step_of x.op) seen cache after journals own (no_issue x.op) row
-row_keeps partitions s p pools roots x (answers.Value seen value) cache after journals own below known row = look_keeps s p roots x (Some seen) cache after row
-row_keeps partitions s p pools roots x (answers.Dangling seen value) cache after journals own below known row = look_keeps s p roots x (Some seen) cache after row
-row_keeps partitions s p pools roots x (answers.SecondFree seen) cache after journals own below known row = look_keeps s p roots x seen cache after row
-row_keeps partitions s p pools roots x (answers.NotOwner seen) cache after journals own below known row = look_keeps s p roots x (Some seen) cache after row
-row_keeps partitions s p pools roots x answers.StaleReset cache after journals own below known row = look_keeps s p roots x None cache after row
-row_keeps partitions s p pools roots x (answers.StaleUse seen) cache after journals own below known row = look_keeps s p roots x seen cache after row
-row_keeps partitions s p pools roots x answers.Nothing cache after journals own below known row = look_keeps s p roots x None cache after row
+    p < partitions → IsKnown roots cache → CacheRow partitions roots x a cache after →
+    Flows s p (acts_of roots x.line p) (mark_of_answer x.line x.op a) cache after
+row_keeps partitions s p pools roots x (answers.Made seen usable) cache after journals own below known row =
+    made_keeps s p roots x seen cache after own known row
+row_keeps partitions s p pools roots x (answers.Done seen) cache after journals own below known row =
+    done_keeps s p pools roots x (step_of x.op) seen cache after journals own (no_issue x.op) row
+row_keeps partitions s p pools roots x (answers.Value seen value) cache after journals own below known row =
+    look_keeps s p roots x (Some seen) cache after row
+row_keeps partitions s p pools roots x (answers.Dangling seen value) cache after journals own below known row =
+    look_keeps s p roots x (Some seen) cache after row
+row_keeps partitions s p pools roots x (answers.SecondFree seen) cache after journals own below known row =
+    look_keeps s p roots x seen cache after row
+row_keeps partitions s p pools roots x (answers.NotOwner seen) cache after journals own below known row =
+    look_keeps s p roots x (Some seen) cache after row
+row_keeps partitions s p pools roots x answers.StaleReset cache after journals own below known row =
+    look_keeps s p roots x None cache after row
+row_keeps partitions s p pools roots x (answers.StaleUse seen) cache after journals own below known row =
+    look_keeps s p roots x seen cache after row
+row_keeps partitions s p pools roots x answers.Nothing cache after journals own below known row =
+    look_keeps s p roots x None cache after row
 row_keeps partitions s p pools roots x answers.Filled cache after journals own below known row = look_keeps s p roots x None cache after row
 row_keeps partitions s p pools roots x answers.NotRef cache after journals own below known row = look_keeps s p roots x None cache after row
-row_keeps partitions s p pools roots x (answers.Shared seen) cache after journals own below known row = look_keeps s p roots x (Some seen) cache after row
-row_keeps partitions s p pools roots x answers.OutOfRange cache after journals own below known row = look_keeps s p roots x None cache after row
-row_keeps partitions s p pools roots x answers.TooLarge cache after journals own below known row = look_keeps s p roots x None cache after row
-row_keeps partitions s p pools roots x (answers.Full entry) cache after journals own below known row = full_keeps s p roots x cache after row
-row_keeps partitions s p pools roots x (answers.Swapped entry) cache after journals own below known row = look_keeps s p roots x None cache after row
-row_keeps partitions s p pools roots x (answers.Purged slots) cache after journals own below known row = purged_keeps partitions s p roots x slots cache after below row
+row_keeps partitions s p pools roots x (answers.Shared seen) cache after journals own below known row =
+    look_keeps s p roots x (Some seen) cache after row
+row_keeps partitions s p pools roots x answers.OutOfRange cache after journals own below known row =
+    look_keeps s p roots x None cache after row
+row_keeps partitions s p pools roots x answers.TooLarge cache after journals own below known row =
+    look_keeps s p roots x None cache after row
+row_keeps partitions s p pools roots x (answers.Full entry) cache after journals own below known row =
+    full_keeps s p roots x cache after row
+row_keeps partitions s p pools roots x (answers.Swapped entry) cache after journals own below known row =
+    look_keeps s p roots x None cache after row
+row_keeps partitions s p pools roots x (answers.Purged slots) cache after journals own below known row =
+    purged_keeps partitions s p roots x slots cache after below row
+row_keeps partitions s p pools roots x answers.Uncounted cache after journals own below known row =
+    look_keeps s p roots x None cache after row
 
-all_keep : (partitions threads p : ℕ) (pools : List PoolEntry) (roots : Journals) (s : SlotName) (xs : List Played) (all after : Caches) → ((q : ℕ) → IsJournal pools (roots q)) → IsOnlyOf roots p s →
-    p < partitions → All (λ (x : Played). x.thread < threads) xs → ((t : ℕ) → IsKnown roots (all t)) → CachesTo partitions roots all xs after →
-    cached_times s after p threads + issues_of s (marks_of xs) + back_on s roots p xs ≡ cached_times s all p threads + left_on s roots p xs + returns_of s (marks_of xs)
+all_keep : (partitions threads p : ℕ) (pools : List PoolEntry) (roots : Journals) (s : SlotName) (xs : List Played) (all after : Caches) →
+    ((q : ℕ) → IsJournal pools (roots q)) → IsOnlyOf roots p s →
+    p < partitions → All (λ (x : Played). x.thread < threads) xs → ((t : ℕ) → IsKnown roots (all t)) →
+    CachesTo partitions roots all xs after →
+    cached_times s after p threads + issues_of s
+    (marks_of xs) + back_on s roots p xs ≡ cached_times s all p threads + left_on s roots p xs + returns_of s (marks_of xs)
 all_keep partitions threads p pools roots s [] all after journals own below few known e =
     let same : cached_times s after p threads ≡ cached_times s all p threads = ap (λ c. cached_times s c p threads) e in
     omega arith
 all_keep partitions threads p pools roots s (x ∷ xs) all after journals own below few known (next, row, rest) =
     let flow = row_keeps partitions s p pools roots x x.answer (all x.thread) next journals own below (known x.thread) row in
     let change = cached_changed s all x.thread p threads next (All-head (λ (y : Played). y.thread < threads) x xs few) in
-    let ih = all_keep partitions threads p pools roots s xs (with_cache all x.thread next) after journals own below (All-tail (λ (y : Played). y.thread < threads) x xs few)
+    let ih = all_keep partitions threads p pools roots s xs (with_cache all x.thread next) after journals own below
+    (All-tail (λ (y : Played). y.thread < threads) x xs few)
     (known_with roots all x.thread next known (row_known partitions roots x x.answer (all x.thread) next (known x.thread) row)) rest in
     let i = mark_counted (is_issue_of s) (mark_of x) x xs refl in
     let o = mark_counted (is_return_of s) (mark_of x) x xs refl in
@@ -313,5 +361,6 @@ no_cached s p (suc t) =
 pub caches_keep : CachesKeep
 caches_keep partitions threads p pools roots s xs after journals own below few to =
     let start = no_cached s p threads in
-    let k = all_keep partitions threads p pools roots s xs no_caches after journals own below few (λ t q c n among. absurd (not_in_none n among)) to in
+    let k = all_keep partitions threads p pools roots s xs no_caches after journals own below few
+    (λ t q c n among. absurd (not_in_none n among)) to in
     omega arith

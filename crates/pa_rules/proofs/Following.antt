@@ -11,7 +11,8 @@ use Rattle.pa_rules.specs.Roots.{Journals, AreRoots, IsPoolOf, Names}
 use Rattle.pa_rules.specs.Laws.{TitlesFollow}
 use Rattle.pa_rules.proofs.Naming.{asked_is}
 
-owned : (supers partitions : ℕ) (ps : List Played) (pools : List PoolEntry) (roots : Journals) → AreRoots partitions ps pools roots → IsPoolOf supers ps pools roots →
+owned : (supers partitions : ℕ) (ps : List Played) (pools : List PoolEntry) (roots : Journals) → AreRoots partitions ps pools roots →
+    IsPoolOf supers ps pools roots →
     (p q : ℕ) (t u : Title) → IsMadeBy pools (roots p) t → IsMadeBy pools (roots q) u → t.born ≡ u.born → p ≡ q
 owned supers partitions ps pools roots r h p q t u made made' same =
     let (i, e, at, named) = titles_are_asked pools (roots p) t (r.journals p) made in
@@ -19,7 +20,8 @@ owned supers partitions ps pools roots r h p q t u made made' same =
     let (x, there) = asked_is pools (roots p) i t.born e (r.journals p) at named in
     (h.once t.born p q i k x there (e, at, named) (f, at', named' ∙ ap Some (sym same))).0
 
-own : (supers : ℕ) (ps : List Played) (pools : List PoolEntry) (roots : Journals) (p i j : ℕ) (e : PoolEntry) → IsPoolOf supers ps pools roots → Names roots p i j →
+own : (supers : ℕ) (ps : List Played) (pools : List PoolEntry) (roots : Journals) (p i j : ℕ) (e : PoolEntry) →
+    IsPoolOf supers ps pools roots → Names roots p i j →
     slice_get pools j ≡ Some e → e.partition ≡ p
 own supers ps pools roots p i j e h names at =
     let (k, f, here, named, line) = h.named j e at in

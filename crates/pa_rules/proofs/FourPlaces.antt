@@ -41,7 +41,8 @@ use Rattle.pa_rules.proofs.Totals.{total_add, total_same, total_ones, times_in, 
 
 -- what the places of slots after some records rest on: the journals and the pool, those records with a line each, the
 -- entries on their lines, which come before partition p's journal, and the caches after them
-pub record Given (supers partitions threads p : ℕ) (ps : List Played) (pools : List PoolEntry) (roots : Journals) (xs : List Played) (front : List RootEntry) (all : Caches) : Type 0 where
+pub record Given (supers partitions threads p : ℕ) (ps : List Played) (pools : List PoolEntry) (roots : Journals) (xs : List Played)
+    (front : List RootEntry) (all : Caches) : Type 0 where
   pub are_roots : AreRoots partitions ps pools roots
   pub are_pool : IsPoolOf supers ps pools roots
   pub lines : AllPairs OtherRecord xs
@@ -59,12 +60,15 @@ HasLeft roots p s = (e : RootEntry) × Contains (roots p) e × Contains (leaves_
 abbrev pub IsOnce : Root → SlotName → ℕ → Type 0
 IsOnce r s n = (IsNameOut r s × (n ≡ 1)) ⊎ ((IsNameOut r s → ⊥) × (n ≡ 0))
 
-front_is : (pools : List PoolEntry) (xs : List Played) (journal front : List RootEntry) → IsJournal pools journal → IsFront xs journal front → IsJournal pools front
+front_is : (pools : List PoolEntry) (xs : List Played) (journal front : List RootEntry) → IsJournal pools journal →
+    IsFront xs journal front → IsJournal pools front
 front_is pools xs journal front h u = journal_front pools front u.rest (subst (λ z. IsJournal pools z) u.parts h)
 
 -- where a slot that left is after some records: its times in the caches and in use
-pub slot_once : (supers partitions threads p : ℕ) (ps : List Played) (pools : List PoolEntry) (roots : Journals) (xs : List Played) (front : List RootEntry) (all : Caches) (s : SlotName) (w : ℕ) →
-    Given supers partitions threads p ps pools roots xs front all → HasLeft roots p s → HasWord xs s w → IsOnce (root_replayed pools front new_root) s (cached_times s all p threads + busy w)
+pub slot_once : (supers partitions threads p : ℕ) (ps : List Played) (pools : List PoolEntry) (roots : Journals) (xs : List Played)
+    (front : List RootEntry) (all : Caches) (s : SlotName) (w : ℕ) →
+    Given supers partitions threads p ps pools roots xs front all → HasLeft roots p s → HasWord xs s w →
+    IsOnce (root_replayed pools front new_root) s (cached_times s all p threads + busy w)
 slot_once supers partitions threads p ps pools roots xs front all s w g (e, among, leaves) word =
     let own = only_of supers partitions ps pools roots p e s g.are_roots g.are_pool among leaves in
     let flow = caches_keep partitions threads p pools roots s xs all g.are_roots.journals own g.below g.threads_below g.caches in
@@ -87,14 +91,16 @@ times_member s (t ∷ ss) some = elim (once_cases s t) [
     once_cases : (s t : SlotName) → (s ≡ t) ⊎ (once s t ≡ 0)
     once_cases s t = elim (same_slot_cases s t) [ inl e ↦ inl e | inr ne ↦ inr (not_once s t ne) ]
 
-pub left_member : (s : SlotName) (es : List RootEntry) → 1 ≤ times_left s es → (e : RootEntry) × Contains es e × Contains (leaves_by e.act) s
+pub left_member : (s : SlotName) (es : List RootEntry) → 1 ≤ times_left s es → (e : RootEntry) × Contains es e ×
+    Contains (leaves_by e.act) s
 left_member s [] some = absurd (omega arith)
 left_member s (e ∷ es) some = elim (cases_eq (times s (leaves_by e.act)) 0) [
   | inl none ↦ let (f, member, leaves) = left_member s es (omega arith) in (f, later_in e f es member, leaves)
   | inr more ↦ (e, first_in e es, times_member s (leaves_by e.act) (omega arith))
 ]
 
-out_left : (pools : List PoolEntry) (xs : List Played) (p : ℕ) (roots : Journals) (front : List RootEntry) (s : SlotName) → IsJournal pools (roots p) → IsFront xs (roots p) front →
+out_left : (pools : List PoolEntry) (xs : List Played) (p : ℕ) (roots : Journals) (front : List RootEntry) (s : SlotName) →
+    IsJournal pools (roots p) → IsFront xs (roots p) front →
     IsNameOut (root_replayed pools front new_root) s → HasLeft roots p s
 out_left pools xs p roots front s h u out = elim (out_is_left pools front s (front_is pools xs (roots p) front h u)) [
   | inl (still, more) ↦
@@ -104,7 +110,8 @@ out_left pools xs p roots front s h u out = elim (out_is_left pools front s (fro
 ]
 
 -- its size
-size_by : (roots : Journals) (p : ℕ) (s : SlotName) (e : RootEntry) (act : RootAct) → Contains (roots p) e → e.act ≡ act → Contains (leaves_by act) s → (len : ℕ) × HasSize roots p s len
+size_by : (roots : Journals) (p : ℕ) (s : SlotName) (e : RootEntry) (act : RootAct) → Contains (roots p) e → e.act ≡ act →
+    Contains (leaves_by act) s → (len : ℕ) × HasSize roots p s len
 size_by roots p s e (Fill class asked slots) among is leaves = (slot_of class, inl (class, (e, asked, slots, among, is, leaves), refl))
 size_by roots p s e (Map asked slot len) among is leaves = elim (in_cases slot s [] leaves) [
   | inl same ↦ (len, inr (e, asked, among, is ∙ ap (λ z. Map asked z len) same))
@@ -120,11 +127,14 @@ sized_left roots p s len (inl (class, of, is)) = class_leaves roots s p class of
 sized_left roots p s len (inr (e, asked, among, is)) = (e, among, subst (λ a. Contains (leaves_by a) s) (sym is) (first_in s []))
 
 pub one_word : (xs : List Played) (s : SlotName) (u w : ℕ) → AllPairs OtherRecord xs → HasWord xs s u → HasWord xs s w → u ≡ w
-one_word xs s u w h (vs, run, last) (ws, run', last') = last ∙ one_run (marks_of xs) s 0 0 vs ws (marks_differ xs h) refl run run' ∙ sym last'
+one_word xs s u w h (vs, run, last) (ws, run', last') = last ∙ one_run (marks_of xs) s 0 0 vs ws (marks_differ xs h) refl run run' ∙
+    sym last'
 
 -- a slot that isn't free is live or quarantined
-in_use : (roots : Journals) (xs : List Played) (p : ℕ) (lives quarantined : List SlotName) (sizes more : List ℕ) (s : SlotName) (len w : ℕ) → AllPairs OtherRecord xs →
-    AreSlots IsLive roots xs p lives sizes → AreSlots IsQuarantined roots xs p quarantined more → HasSize roots p s len → HasWord xs s w → times s lives + times s quarantined ≡ busy w
+in_use : (roots : Journals) (xs : List Played) (p : ℕ) (lives quarantined : List SlotName) (sizes more : List ℕ) (s : SlotName)
+    (len w : ℕ) → AllPairs OtherRecord xs →
+    AreSlots IsLive roots xs p lives sizes → AreSlots IsQuarantined roots xs p quarantined more → HasSize roots p s len → HasWord xs s w →
+    times s lives + times s quarantined ≡ busy w
 in_use roots xs p lives quarantined sizes more s len w h live quarantine size word = elim (cases_eq (held_of w) 0) [
   | inl low ↦
       let a = times_out s lives live.once (λ among.
@@ -157,7 +167,8 @@ in_use roots xs p lives quarantined sizes more s len w h live quarantine size wo
 -- the sum over what is out
 out_adds : (supers partitions threads p : ℕ) (ps : List Played) (pools : List PoolEntry) (roots : Journals) (xs : List Played)
     (front : List RootEntry) (all : Caches) (lives quarantined : List SlotName) (sizes more : List ℕ) →
-    Given supers partitions threads p ps pools roots xs front all → AreSlots IsLive roots xs p lives sizes → AreSlots IsQuarantined roots xs p quarantined more →
+    Given supers partitions threads p ps pools roots xs front all → AreSlots IsLive roots xs p lives sizes →
+    AreSlots IsQuarantined roots xs p quarantined more →
     length lives + length quarantined + cached_slots all p threads ≡ length (names_out (root_replayed pools front new_root))
 out_adds supers partitions threads p ps pools roots xs front all lives quarantined sizes more g live quarantine =
     let r = root_replayed pools front new_root in
@@ -207,20 +218,26 @@ not_both ps phase e h (x, of, low) (y, of', high) =
     let phases : x.phase ≡ y.phase = ap (λ (z : Played). z.phase) same in
     omega arith
 
-one_front : (ps : List Played) (phase : ℕ) (xs ys us vs : List RootEntry) → AllPairs OtherRecord ps → All (InPhases ps phase) xs → All (InPhases ps phase) ys → All (PastPhases ps phase) us →
+one_front : (ps : List Played) (phase : ℕ) (xs ys us vs : List RootEntry) → AllPairs OtherRecord ps → All (InPhases ps phase) xs →
+    All (InPhases ps phase) ys → All (PastPhases ps phase) us →
     All (PastPhases ps phase) vs → xs ++ us ≡ ys ++ vs → xs ≡ ys
 one_front ps phase [] [] us vs h inx iny pastu pastv e = refl
 one_front ps phase [] (y ∷ ys) us vs h inx iny pastu pastv e =
-    absurd (not_both ps phase y h (All-head (InPhases ps phase) y ys iny) (All-head (PastPhases ps phase) y (ys ++ vs) (subst (λ z. All (PastPhases ps phase) z) e pastu)))
+    absurd (not_both ps phase y h (All-head (InPhases ps phase) y ys iny)
+    (All-head (PastPhases ps phase) y (ys ++ vs) (subst (λ z. All (PastPhases ps phase) z) e pastu)))
 one_front ps phase (x ∷ xs) [] us vs h inx iny pastu pastv e =
-    absurd (not_both ps phase x h (All-head (InPhases ps phase) x xs inx) (All-head (PastPhases ps phase) x (xs ++ us) (subst (λ z. All (PastPhases ps phase) z) (sym e) pastv)))
+    absurd (not_both ps phase x h (All-head (InPhases ps phase) x xs inx)
+    (All-head (PastPhases ps phase) x (xs ++ us) (subst (λ z. All (PastPhases ps phase) z) (sym e) pastv)))
 one_front ps phase (x ∷ xs) (y ∷ ys) us vs h inx iny pastu pastv e =
     let head : x ≡ y = ap (λ z. get_or z 0 x) e in
-    let rest = one_front ps phase xs ys us vs h (All-tail (InPhases ps phase) x xs inx) (All-tail (InPhases ps phase) y ys iny) pastu pastv (ap (drop 1) e) in
+    let rest = one_front ps phase xs ys us vs h (All-tail (InPhases ps phase) x xs inx) (All-tail (InPhases ps phase) y ys iny) pastu pastv
+    (ap (drop 1) e) in
     ap (λ z. z ∷ xs) head ∙ ap (λ zs. y ∷ zs) rest
 
-pub one_until : (ps : List Played) (phase : ℕ) (journal xs ys : List RootEntry) → AllPairs OtherRecord ps → AreUntil ps phase journal xs → AreUntil ps phase journal ys → xs ≡ ys
-one_until ps phase journal xs ys h a b = one_front ps phase xs ys a.rest b.rest h a.in_phases b.in_phases a.past_phases b.past_phases (sym a.parts ∙ b.parts)
+pub one_until : (ps : List Played) (phase : ℕ) (journal xs ys : List RootEntry) → AllPairs OtherRecord ps → AreUntil ps phase journal xs →
+    AreUntil ps phase journal ys → xs ≡ ys
+one_until ps phase journal xs ys h a b =
+    one_front ps phase xs ys a.rest b.rest h a.in_phases b.in_phases a.past_phases b.past_phases (sym a.parts ∙ b.parts)
 
 abbrev census_at : List PoolEntry → List RootEntry → Census
 census_at pools es = census (root_replayed pools es new_root)

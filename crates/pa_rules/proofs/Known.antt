@@ -32,7 +32,8 @@ pub known_same : (roots : Journals) (cache after : Cache) → IsKnown roots cach
 known_same roots cache after known becomes q c n among = known q c n (subst (λ xs. Contains xs n) (becomes q c) among)
 
 -- the slots of one list are known, and the others stayed
-pub known_changed : (roots : Journals) (cache after : Cache) (p class : ℕ) (xs : List Numbered) → IsKnown roots cache → SameLists after (with_list cache p class xs) →
+pub known_changed : (roots : Journals) (cache after : Cache) (p class : ℕ) (xs : List Numbered) → IsKnown roots cache →
+    SameLists after (with_list cache p class xs) →
     ((n : Numbered) → Contains xs n → IsOfClass roots n.slot p class) → IsKnown roots after
 known_changed roots cache after p class xs known becomes new q c n among =
     let there : Contains (with_list cache p class xs q c) n = subst (λ ys. Contains ys n) (becomes q c) among in
@@ -47,7 +48,8 @@ known_changed roots cache after p class xs known becomes new q c n among =
     ]
 
 -- the entry of a line
-pub entry_of_act : (roots : Journals) (line q : ℕ) (act : RootAct) → acts_of roots line q ≡ act ∷ [] → (e : RootEntry) × Contains (roots q) e × (e.act ≡ act)
+pub entry_of_act : (roots : Journals) (line q : ℕ) (act : RootAct) → acts_of roots line q ≡ act ∷ [] → (e : RootEntry) ×
+    Contains (roots q) e × (e.act ≡ act)
 entry_of_act roots line q act only =
     let among : Contains (acts_of roots line q) act = subst (λ acts. Contains acts act) (sym only) (first_in act []) in
     let (e, member, same) = map_cases (λ (e : RootEntry). e.act) (filter (λ (e : RootEntry). e.line == line) (roots q)) act among in
@@ -60,7 +62,8 @@ pub record FirstKeeps (s : SlotName) (roots : Journals) (line p class : ℕ) (ol
   pub back : back_in s (acts_of roots line p) ≡ 0
   pub others : (q : ℕ) → (q ≡ p → ⊥) → acts_of roots line q ≡ []
 
-pub first_keeps : (s : SlotName) (roots : Journals) (line p class : ℕ) (old xs : List Numbered) → ((n : Numbered) → Contains old n → IsOfClass roots n.slot p class) →
+pub first_keeps : (s : SlotName) (roots : Journals) (line p class : ℕ) (old xs : List Numbered) →
+    ((n : Numbered) → Contains old n → IsOfClass roots n.slot p class) →
     FilledFirst roots line p class old xs → FirstKeeps s roots line p class old xs
 first_keeps s roots line p class [] xs known (asked, only) =
     let (e, among, act) = entry_of_act roots line p (Fill class asked xs) only.0 in
@@ -90,20 +93,24 @@ kept_in class xs n among = elim (cases_Bool (nat_lt (limit_of class) (length xs)
   | inr within ↦ rw within at among
 ]
 
-pub known_with : (roots : Journals) (all : Caches) (thread : ℕ) (next : Cache) → ((t : ℕ) → IsKnown roots (all t)) → IsKnown roots next → (t : ℕ) → IsKnown roots (with_cache all thread next t)
+pub known_with : (roots : Journals) (all : Caches) (thread : ℕ) (next : Cache) → ((t : ℕ) → IsKnown roots (all t)) → IsKnown roots next →
+    (t : ℕ) → IsKnown roots (with_cache all thread next t)
 known_with roots all thread next known new t = elim (cases_eq t thread) [
   | inl e ↦ rw (eq-eqb t thread e) new
   | inr e ↦ rw (ne_eqb t thread e) (known t)
 ]
 
-made_known : (roots : Journals) (x : Played) (seen : Seen) (cache after : Cache) → IsKnown roots cache → MadeRow roots x seen cache after → IsKnown roots after
+made_known : (roots : Journals) (x : Played) (seen : Seen) (cache after : Cache) → IsKnown roots cache → MadeRow roots x seen cache after →
+    IsKnown roots after
 made_known roots x seen cache after known (inl (q, class, xs, rest, asks, filled, front, becomes)) =
     let f = first_keeps seen.slot roots x.line q class (cache q class) xs (λ n. known q class n) filled in
     let head : Numbered = record { slot = seen.slot; number = number_of seen.found.0 } in
-    known_changed roots cache after q class rest known becomes (λ n member. f.known n (subst (λ zs. Contains zs n) (sym front) (later_in head n rest member)))
+    known_changed roots cache after q class rest known becomes
+    (λ n member. f.known n (subst (λ zs. Contains zs n) (sym front) (later_in head n rest member)))
 made_known roots x seen cache after known (inr (q, size, asked, len, asks, only, becomes)) = known_same roots cache after known becomes
 
-return_known : (roots : Journals) (x : Played) (slot : Numbered) (cache after : Cache) → IsKnown roots cache → ReturnRow roots x slot cache after → IsKnown roots after
+return_known : (roots : Journals) (x : Played) (slot : Numbered) (cache after : Cache) → IsKnown roots cache →
+    ReturnRow roots x slot cache after → IsKnown roots after
 return_known roots x slot cache after known (inl (q, class, of, only, becomes)) =
     known_changed roots cache after q class (kept class (slot ∷ cache q class)) known becomes
     (λ n member. elim (in_cases slot n (cache q class) (kept_in class (slot ∷ cache q class) n member)) [
@@ -112,7 +119,8 @@ return_known roots x slot cache after known (inl (q, class, of, only, becomes)) 
     ])
 return_known roots x slot cache after known (inr (q, asked, number, direct, only, becomes)) = known_same roots cache after known becomes
 
-done_known : (roots : Journals) (x : Played) (o : Option Step) (seen : Seen) (cache after : Cache) → IsKnown roots cache → DoneRow roots x o seen cache after → IsKnown roots after
+done_known : (roots : Journals) (x : Played) (o : Option Step) (seen : Seen) (cache after : Cache) → IsKnown roots cache →
+    DoneRow roots x o seen cache after → IsKnown roots after
 done_known roots x None seen cache after known (acts, becomes) = known_same roots cache after known becomes
 done_known roots x (Some step) seen cache after known (inl (returning, row)) = return_known roots x _ cache after known row
 done_known roots x (Some step) seen cache after known (inr (other, acts, becomes)) = known_same roots cache after known becomes
@@ -121,7 +129,8 @@ full_known : (roots : Journals) (x : Played) (cache after : Cache) → IsKnown r
 full_known roots x cache after known (inl (q, class, asked, asks, empty, only, becomes)) = known_same roots cache after known becomes
 full_known roots x cache after known (inr (q, size, asked, asks, only, becomes)) = known_same roots cache after known becomes
 
-pub row_known : (partitions : ℕ) (roots : Journals) (x : Played) (a : Answer) (cache after : Cache) → IsKnown roots cache → CacheRow partitions roots x a cache after → IsKnown roots after
+pub row_known : (partitions : ℕ) (roots : Journals) (x : Played) (a : Answer) (cache after : Cache) → IsKnown roots cache →
+    CacheRow partitions roots x a cache after → IsKnown roots after
 row_known partitions roots x (answers.Made seen usable) cache after known row = made_known roots x seen cache after known row
 row_known partitions roots x (answers.Done seen) cache after known row = done_known roots x (step_of x.op) seen cache after known row
 row_known partitions roots x (answers.Value seen value) cache after known row = known_same roots cache after known row.1
@@ -138,7 +147,9 @@ row_known partitions roots x answers.OutOfRange cache after known row = known_sa
 row_known partitions roots x answers.TooLarge cache after known row = known_same roots cache after known row.1
 row_known partitions roots x (answers.Full entry) cache after known row = full_known roots x cache after known row
 row_known partitions roots x (answers.Swapped entry) cache after known row = known_same roots cache after known row.1
-row_known partitions roots x (answers.Purged slots) cache after known row = λ q c n among. absurd (not_in_none n (subst (λ zs. Contains zs n) (row.2 q c) among))
+row_known partitions roots x (answers.Purged slots) cache after known row =
+    λ q c n among. absurd (not_in_none n (subst (λ zs. Contains zs n) (row.2 q c) among))
+row_known partitions roots x answers.Uncounted cache after known row = known_same roots cache after known row.1
 
 pub all_known : (partitions : ℕ) (roots : Journals) (xs : List Played) (all after : Caches) → ((t : ℕ) → IsKnown roots (all t))
     → CachesTo partitions roots all xs after → (t : ℕ) → IsKnown roots (after t)

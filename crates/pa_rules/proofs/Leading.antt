@@ -197,10 +197,12 @@ rows_cut facts all (p ∷ before) rest after (next, row, more) =
     (mid, (next, row, first), second)
 
 -- the registers that a list of records leads to are one
-pub rows_one : (facts : Facts) (all after other : AllRegs) (ps : List Played) → RowsTo facts all ps after → RowsTo facts all ps other → after ≡ other
+pub rows_one : (facts : Facts) (all after other : AllRegs) (ps : List Played) → RowsTo facts all ps after → RowsTo facts all ps other →
+    after ≡ other
 rows_one facts all after other [] h k = h ∙ sym k
 rows_one facts all after other (p ∷ ps) (next, row, more) (next', row', more') =
     let one = (row_leads facts p.op (all p.thread) p.answer next row).registers in
     let two = (row_leads facts p.op (all p.thread) p.answer next' row').registers in
     let same : next' ≡ next = λ i r. (two r ∙ sym (one r)) i in
-    rows_one facts (with_thread all p.thread next) after other ps more (subst (λ (z : Regs). RowsTo facts (with_thread all p.thread z) ps other) same more')
+    rows_one facts (with_thread all p.thread next) after other ps more
+    (subst (λ (z : Regs). RowsTo facts (with_thread all p.thread z) ps other) same more')

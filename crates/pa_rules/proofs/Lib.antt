@@ -29,3 +29,4 @@ pub mod ReportLines
 pub mod Lined
 pub mod Paths
 pub mod Sums
+pub mod Tallies

@@ -9,15 +9,18 @@ use Rattle.pa_rules.specs.Legal.{is_phase, phases_in}
 use Rattle.pa_trace.specs.declared.script.Line.TheVariants.{Phase, Do}
 
 -- lines and phases only grow
-pub lines_from : (rules : Rules) (n phase : ℕ) (ls : List Line) (a : OpLine) → Contains (op_lines rules n phase ls) a → (n ≤ a.line) × (phase ≤ a.phase)
+pub lines_from : (rules : Rules) (n phase : ℕ) (ls : List Line) (a : OpLine) → Contains (op_lines rules n phase ls) a → (n ≤ a.line) ×
+    (phase ≤ a.phase)
 lines_from rules n phase [] a c = absurd (omega (arith, c.1))
 lines_from rules n phase (Phase ∷ ls) a c = let k = lines_from rules (n + 1) (phase + 1) ls a c in (omega (arith, k.0), omega (arith, k.1))
-lines_from rules n phase (Do t o ∷ ls) a (zero, c, e) = (omega (arith, ap (λ (x : OpLine). x.line) e), omega (arith, ap (λ (x : OpLine). x.phase) e))
+lines_from rules n phase (Do t o ∷ ls) a (zero, c, e) =
+    (omega (arith, ap (λ (x : OpLine). x.line) e), omega (arith, ap (λ (x : OpLine). x.phase) e))
 lines_from rules n phase (Do t o ∷ ls) a (suc i, c, e) =
     let k = lines_from rules (n + 1) phase ls a (i, omega (arith, c), e) in (omega (arith, k.0), k.1)
 
 -- an op line of an earlier phase has a smaller line
-pub lines_phases : (rules : Rules) (n phase : ℕ) (ls : List Line) (a b : OpLine) → Contains (op_lines rules n phase ls) a → Contains (op_lines rules n phase ls) b
+pub lines_phases : (rules : Rules) (n phase : ℕ) (ls : List Line) (a b : OpLine) → Contains (op_lines rules n phase ls) a →
+    Contains (op_lines rules n phase ls) b
     → a.phase < b.phase → a.line < b.line
 lines_phases rules n phase [] a b c d lt = absurd (omega (arith, c.1))
 lines_phases rules n phase (Phase ∷ ls) a b c d lt = lines_phases rules (n + 1) (phase + 1) ls a b c d lt
@@ -56,18 +59,22 @@ phase_on phase (Do thread op ∷ ls) = phase_on phase ls
 -- an op line more, and one more phase
 pub lines_push : (rules : Rules) (n phase : ℕ) (ls : List Line) (thread : ℕ) (op : Op)
     → op_lines rules n phase (ls ++ Do thread op ∷ [])
-    ≡ op_lines rules n phase ls ++ record { line = n + length ls; thread = thread; phase = phase_after phase ls; rules = rules; op = op } ∷ []
+    ≡ op_lines rules n phase ls ++
+    record { line = n + length ls; thread = thread; phase = phase_after phase ls; rules = rules; op = op } ∷ []
 lines_push rules n phase [] thread op =
     let f : ℕ → List OpLine = λ x. record { line = x; thread = thread; phase = phase; rules = rules; op = op } ∷ [] in
     let e : n ≡ n + 0 = omega arith in
     ap f e
 lines_push rules n phase (Phase ∷ ls) thread op =
-    let f : ℕ → List OpLine = λ x. op_lines rules (n + 1) (phase + 1) ls ++ record { line = x; thread = thread; phase = phase_after (phase + 1) ls; rules = rules; op = op } ∷ [] in
+    let f : ℕ → List OpLine = λ x. op_lines rules (n + 1) (phase + 1) ls ++
+    record { line = x; thread = thread; phase = phase_after (phase + 1) ls; rules = rules; op = op } ∷ [] in
     let e : n + 1 + length ls ≡ n + length (Phase ∷ ls) = omega arith in
     lines_push rules (n + 1) (phase + 1) ls thread op ∙ ap f e
 lines_push rules n phase (Do t o ∷ ls) thread op =
     let first : OpLine = record { line = n; thread = t; phase = phase; rules = rules; op = o } in
-    let f : ℕ → List OpLine = λ x. first ∷ (op_lines rules (n + 1) phase ls ++ record { line = x; thread = thread; phase = phase_after phase ls; rules = rules; op = op } ∷ []) in
+    let f : ℕ → List OpLine =
+    λ x. first ∷ (op_lines rules (n + 1) phase ls ++
+    record { line = x; thread = thread; phase = phase_after phase ls; rules = rules; op = op } ∷ []) in
     let g : List OpLine → List OpLine = λ xs. first ∷ xs in
     let e : n + 1 + length ls ≡ n + length (Do t o ∷ ls) = omega arith in
     ap g (lines_push rules (n + 1) phase ls thread op) ∙ ap f e

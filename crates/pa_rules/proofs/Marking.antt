@@ -35,6 +35,7 @@ answer_line line op answers.TooLarge m e = absurd (not_some m e)
 answer_line line op (answers.Full entry) m e = absurd (not_some m e)
 answer_line line op (answers.Swapped entry) m e = absurd (not_some m e)
 answer_line line op (answers.Purged slots) m e = absurd (not_some m e)
+answer_line line op answers.Uncounted m e = absurd (not_some m e)
 
 pub mark_line : (x : Played) (m : Mark) → mark_of x ≡ Some m → m.line ≡ x.line
 mark_line x m e = answer_line x.line x.op x.answer m e

@@ -20,10 +20,11 @@ EarlierRecord x y = x.line < y.line
 from_line : (rules : Rules) (n phase : ℕ) (ls : List Line) (a : OpLine) → Contains (op_lines rules n phase ls) a → n ≤ a.line
 from_line rules n phase [] a among = absurd (not_in_none a among)
 from_line rules n phase (Phase ∷ ls) a among = let ih = from_line rules (n + 1) (phase + 1) ls a among in omega arith
-from_line rules n phase (Do thread op ∷ ls) a among = elim (in_cases (record { line = n; thread = thread; phase = phase; rules = rules; op = op }) a (op_lines rules (n + 1) phase ls) among) [
-  | inl e ↦ let same : n ≡ a.line = ap (λ (z : OpLine). z.line) e in omega arith
-  | inr rest ↦ let ih = from_line rules (n + 1) phase ls a rest in omega arith
-]
+from_line rules n phase (Do thread op ∷ ls) a among =
+    elim (in_cases (record { line = n; thread = thread; phase = phase; rules = rules; op = op }) a (op_lines rules (n + 1) phase ls) among) [
+      | inl e ↦ let same : n ≡ a.line = ap (λ (z : OpLine). z.line) e in omega arith
+      | inr rest ↦ let ih = from_line rules (n + 1) phase ls a rest in omega arith
+    ]
 
 ops_rise : (rules : Rules) (n phase : ℕ) (ls : List Line) → AllPairs EarlierOp (op_lines rules n phase ls)
 ops_rise rules n phase [] = pairs_none EarlierOp
@@ -40,7 +41,8 @@ records_rise (x ∷ xs) h =
     (λ y among. pairs_head EarlierOp (op_line_of x) (op_line_of y) (map op_line_of xs) h (map_in op_line_of xs y among))
     (records_rise xs (pairs_tail EarlierOp (op_line_of x) (map op_line_of xs) h))
 
-pub lines_rise : (rules : Rules) (ls : List Line) (ps : List Played) → AreLines rules ls ps → AllPairs (λ (x y : Played). x.line < y.line) ps
+pub lines_rise : (rules : Rules) (ls : List Line) (ps : List Played) → AreLines rules ls ps →
+    AllPairs (λ (x y : Played). x.line < y.line) ps
 lines_rise rules ls ps h = records_rise ps (subst (λ z. AllPairs EarlierOp z) (sym h) (ops_rise rules 2 1 ls))
 
 -- lines that rise differ

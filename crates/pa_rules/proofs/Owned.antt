@@ -37,17 +37,21 @@ HasLen (Give slots) t = Unit {0}
 HasLen (Unmap asked slot) t = Unit {0}
 HasLen Purge t = Unit {0}
 
-pub fill_len : (pools : List PoolEntry) (n class : ℕ) (asked : Option ℕ) (r : Root) → IsSound r → IsBornBelow n r → AsksFrom n asked → class < 170 →
+pub fill_len : (pools : List PoolEntry) (n class : ℕ) (asked : Option ℕ) (r : Root) → IsSound r → IsBornBelow n r → AsksFrom n asked →
+    class < 170 →
     (t : Title) → Contains (takes class (fill_of class) (opened_by pools asked r)).titles t → t.len ≡ slot_of class
 fill_len pools n class None r sound old asks real t among = (takes_filled class (fill_of class) r sound real).len t among
 fill_len pools n class (Some j) r sound old asks real t among =
-    (takes_filled class (fill_of class) (opened (super_of (act_at pools j)) j r) (opened_sound (super_of (act_at pools j)) j r sound (born_more n j r asks old)) real).len t among
+    (takes_filled class (fill_of class) (opened (super_of (act_at pools j)) j r)
+    (opened_sound (super_of (act_at pools j)) j r sound (born_more n j r asks old)) real).len t among
 
 -- a title that an entry makes, for a slot that leaves by it
-title_here : (pools : List PoolEntry) (act : RootAct) (n : ℕ) (r : Root) (s : SlotName) → IsSound r → IsBornBelow n r → AsksFrom n (asked_by act) → RootActFits pools act r →
+title_here : (pools : List PoolEntry) (act : RootAct) (n : ℕ) (r : Root) (s : SlotName) → IsSound r → IsBornBelow n r →
+    AsksFrom n (asked_by act) → RootActFits pools act r →
     Contains (leaves_by act) s → (t : Title) × Contains (next_titles pools act r) t × (name_of t ≡ s) × HasLen act t
 title_here pools (Fill class asked slots) n r s sound old asks (real, found, same) among =
-    let (t, member, is) = map_cases name_of (takes class (fill_of class) (opened_by pools asked r)).titles s (subst (λ xs. Contains xs s) (sym same) among) in
+    let (t, member, is) = map_cases name_of (takes class (fill_of class) (opened_by pools asked r)).titles s
+    (subst (λ xs. Contains xs s) (sym same) among) in
     (t, member, is, (real, fill_len pools n class asked r sound old asks real t member))
 title_here pools (Map asked slot len) n r s sound old asks fits among = elim (in_cases slot s [] among) [
   | inl e ↦ (map_title slot len, first_in (map_title slot len) [], name_is slot.start slot.born slot refl refl ∙ e, refl)
@@ -58,30 +62,42 @@ title_here pools (Give slots) n r s sound old asks fits among = absurd (not_in_n
 title_here pools (Unmap asked slot) n r s sound old asks fits among = absurd (not_in_none s among)
 title_here pools Purge n r s sound old asks fits among = absurd (not_in_none s among)
 
-title_from : (pools : List PoolEntry) (es : List RootEntry) (n : ℕ) (r : Root) (e : RootEntry) (s : SlotName) → IsSound r → IsSettled r → IsBornBelow n r → RootReplays pools es r →
-    RiseFrom n (all_asked es) → Contains es e → Contains (leaves_by e.act) s → (t : Title) × Contains (titles_taken pools es r) t × (name_of t ≡ s) × HasLen e.act t
+title_from : (pools : List PoolEntry) (es : List RootEntry) (n : ℕ) (r : Root) (e : RootEntry) (s : SlotName) → IsSound r → IsSettled r →
+    IsBornBelow n r → RootReplays pools es r →
+    RiseFrom n (all_asked es) → Contains es e → Contains (leaves_by e.act) s → (t : Title) × Contains (titles_taken pools es r) t ×
+    (name_of t ≡ s) × HasLen e.act t
 title_from pools [] n r e s sound few old fits rise among leaves = absurd (not_in_none e among)
 title_from pools (f ∷ es) n r e s sound few old fits rise among leaves =
     let (asks, rest) = rise_parts n (asked_by f.act) (all_asked es) rise in
     let after = root_next pools f.act r in
     elim (in_cases f e es among) [
       | inl same ↦
-          let (t, member, is, len) = title_here pools f.act n r s sound old asks fits.0 (subst (λ (z : RootEntry). Contains (leaves_by z.act) s) (sym same) leaves) in
-          (t, Contains-append_left (next_titles pools f.act r) (titles_taken pools es after) t member, is, subst (λ (z : RootEntry). HasLen z.act t) same len)
+          let (t, member, is, len) =
+          title_here pools f.act n r s sound old asks fits.0
+          (subst (λ (z : RootEntry). Contains (leaves_by z.act) s) (sym same) leaves) in (
+            t,
+            Contains-append_left (next_titles pools f.act r) (titles_taken pools es after) t member,
+            is,
+            subst (λ (z : RootEntry). HasLen z.act t) same len,
+          )
       | inr later ↦
           let next = next_is pools f.act n r sound few old asks fits.0 in
-          let (t, member, is, len) = title_from pools es (least_after n (asked_by f.act)) after e s next.sound next.settled next.born fits.1 rest later leaves in
+          let (t, member, is, len) =
+          title_from pools es (least_after n (asked_by f.act)) after e s next.sound next.settled next.born fits.1 rest later
+          leaves in
           (t, Contains-append_right (next_titles pools f.act r) (titles_taken pools es after) t member, is, len)
     ]
 
 -- a slot that leaves by an entry of a journal has a title, as long as the entry says
-pub title_of : (pools : List PoolEntry) (journal : List RootEntry) (e : RootEntry) (s : SlotName) → IsJournal pools journal → Contains journal e → Contains (leaves_by e.act) s →
+pub title_of : (pools : List PoolEntry) (journal : List RootEntry) (e : RootEntry) (s : SlotName) → IsJournal pools journal →
+    Contains journal e → Contains (leaves_by e.act) s →
     (t : Title) × IsMadeBy pools journal t × (name_of t ≡ s) × HasLen e.act t
 title_of pools journal e s h among leaves =
     let (t, taken, is, len) = title_from pools journal 0 new_root e s new_sound (omega arith) new_born h.replays h.rise among leaves in
     (t, taken_made pools journal t h taken, is, len)
 
-pub only_of : (supers partitions : ℕ) (ps : List Played) (pools : List PoolEntry) (roots : Journals) (p : ℕ) (e : RootEntry) (s : SlotName) → AreRoots partitions ps pools roots →
+pub only_of : (supers partitions : ℕ) (ps : List Played) (pools : List PoolEntry) (roots : Journals) (p : ℕ) (e : RootEntry)
+    (s : SlotName) → AreRoots partitions ps pools roots →
     IsPoolOf supers ps pools roots → Contains (roots p) e → Contains (leaves_by e.act) s → IsOnlyOf roots p s
 only_of supers partitions ps pools roots p e s r h among leaves q f member leaves' =
     let (t, made, is, len) = title_of pools (roots p) e s (r.journals p) among leaves in

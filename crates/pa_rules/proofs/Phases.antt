@@ -17,7 +17,8 @@ use Rattle.pa_rules.proofs.Marking.{mark_line}
 use Rattle.pa_rules.proofs.Running.{OtherRecord, Used, mark_from, first_line, run_rises}
 use Rattle.pa_rules.proofs.ByLines.{is_until, same_record}
 
-mark_in_one : (x : Played) (xs : List Played) (m : Mark) (o : Option Mark) → mark_of x ≡ o → Contains (marks_of xs) m → Contains (marks_of (x ∷ xs)) m
+mark_in_one : (x : Played) (xs : List Played) (m : Mark) (o : Option Mark) → mark_of x ≡ o → Contains (marks_of xs) m →
+    Contains (marks_of (x ∷ xs)) m
 mark_in_one x xs m None e rest = rw e rest
 mark_in_one x xs m (Some n) e rest = rw e (later_in n m (marks_of xs) rest)
 
@@ -34,13 +35,15 @@ mark_in (y ∷ ys) x m among e = elim (in_cases y x ys among) [
 abbrev IsPast : List Played → ℕ → Mark → Type 0
 IsPast ps phase m = (y : Played) × Contains ps y × (mark_of y ≡ Some m) × (phase < y.phase)
 
-front_in : (ps : List Played) (phase : ℕ) (m : Mark) → Contains (marks_of (until phase ps)) m → (x : Played) × Contains ps x × (mark_of x ≡ Some m) × (x.phase ≤ phase)
+front_in : (ps : List Played) (phase : ℕ) (m : Mark) → Contains (marks_of (until phase ps)) m → (x : Played) × Contains ps x ×
+    (mark_of x ≡ Some m) × (x.phase ≤ phase)
 front_in ps phase m among =
     let (x, member, is) = mark_from (until phase ps) m among in
     let (there, low) = filter_cases (is_until phase) ps x member in
     (x, there, is, leb-true _ _ low)
 
-front_or_past : (ps : List Played) (phase : ℕ) (m : Mark) → Contains (marks_of ps) m → Contains (marks_of (until phase ps)) m ⊎ IsPast ps phase m
+front_or_past : (ps : List Played) (phase : ℕ) (m : Mark) → Contains (marks_of ps) m → Contains (marks_of (until phase ps)) m ⊎
+    IsPast ps phase m
 front_or_past ps phase m among =
     let (x, member, is) = mark_from ps m among in
     elim (cases_lt phase x.phase) [
@@ -52,7 +55,8 @@ pub within : (ps : List Played) (phase : ℕ) (m : Mark) → Contains (marks_of 
 within ps phase m among = let (x, there, is, low) = front_in ps phase m among in mark_in ps x m there is
 
 -- no mark of a front has the line of one that is past it
-not_past : (ps : List Played) (phase : ℕ) (n m : Mark) → AllPairs OtherRecord ps → Contains (marks_of (until phase ps)) n → IsPast ps phase m → n.line ≡ m.line → ⊥
+not_past : (ps : List Played) (phase : ℕ) (n m : Mark) → AllPairs OtherRecord ps → Contains (marks_of (until phase ps)) n →
+    IsPast ps phase m → n.line ≡ m.line → ⊥
 not_past ps phase n m h among (y, member, is, late) same =
     let (x, there, is', low) = front_in ps phase n among in
     let one = same_record ps x y h there member (sym (mark_line x n is') ∙ same ∙ mark_line y m is) in
@@ -68,7 +72,8 @@ record Front (ps : List Played) (phase : ℕ) (s : SlotName) (u : ℕ) (ws vs : 
   run : IsRunFrom (marks_of (until phase ps)) s u vs
   covers : (f : ℕ) → Contains (u ∷ ws) f → Contains (u ∷ vs) f ⊎ IsBeyond ps phase s f
 
-first_within : (ps : List Played) (phase : ℕ) (s : SlotName) (u : ℕ) (m : Mark) (p : Step) → Contains (marks_of (until phase ps)) m → IsFirstAt (marks_of ps) s u m p →
+first_within : (ps : List Played) (phase : ℕ) (s : SlotName) (u : ℕ) (m : Mark) (p : Step) → Contains (marks_of (until phase ps)) m →
+    IsFirstAt (marks_of ps) s u m p →
     IsFirstAt (marks_of (until phase ps)) s u m p
 first_within ps phase s u m p among first = record {
   among = among;
@@ -79,10 +84,13 @@ first_within ps phase s u m p among first = record {
 }
 
 -- a first step of the front is the first of all
-first_of_all : (ps : List Played) (phase : ℕ) (s : SlotName) (u : ℕ) (m : Mark) (p : Step) → Used (marks_of ps) s → IsFirstAt (marks_of (until phase ps)) s u m p → IsFirstAt (marks_of ps) s u m p
-first_of_all ps phase s u m p used first = subst (λ z. IsFirstAt (marks_of ps) s z m p) first.found (used m p (within ps phase m first.among) first.slot first.step).0
+first_of_all : (ps : List Played) (phase : ℕ) (s : SlotName) (u : ℕ) (m : Mark) (p : Step) → Used (marks_of ps) s →
+    IsFirstAt (marks_of (until phase ps)) s u m p → IsFirstAt (marks_of ps) s u m p
+first_of_all ps phase s u m p used first =
+    subst (λ z. IsFirstAt (marks_of ps) s z m p) first.found (used m p (within ps phase m first.among) first.slot first.step).0
 
-front_of : (ps : List Played) (phase : ℕ) (s : SlotName) (u : ℕ) (ws : List ℕ) → AllPairs OtherRecord ps → Used (marks_of ps) s → IsRunFrom (marks_of ps) s u ws →
+front_of : (ps : List Played) (phase : ℕ) (s : SlotName) (u : ℕ) (ws : List ℕ) → AllPairs OtherRecord ps → Used (marks_of ps) s →
+    IsRunFrom (marks_of ps) s u ws →
     (vs : List ℕ) × Front ps phase s u ws vs
 front_of ps phase s u [] h used run =
     ([], record { run = λ m p first can. run m p (first_of_all ps phase s u m p used first) can; covers = λ f among. inl among })
@@ -104,7 +112,8 @@ front_of ps phase s u (v ∷ ws) h used (m, p, first, can, is, rest) = elim (fro
   | inr past ↦ (
     [],
     record {
-      run = λ n q first' can'. not_past ps phase n m h first'.among past (first_line (marks_of ps) s u n m q p (first_of_all ps phase s u n q used first') first);
+      run = λ n q first' can'. not_past ps phase n m h first'.among past
+          (first_line (marks_of ps) s u n m q p (first_of_all ps phase s u n q used first') first);
       covers = λ f among. elim (in_cases u f (v ∷ ws) among) [
         | inl e ↦ inl (subst (λ z. Contains (u ∷ []) z) e (first_in u []))
         | inr after ↦

@@ -24,7 +24,8 @@ told_of [] (e ∷ es) h = absurd cc
 told_of (o ∷ os) [] h = refl
 told_of (o ∷ os) (e ∷ es) h =
     let key = head_key e o es os h in
-    let same : entry_of (beside (o, e)) ≡ e = ap {B = Entry} (λ (k : ℕ × ℕ). record { line = k.0; thread = k.1; answer = e.answer }) (sym key) in
+    let same : entry_of (beside (o, e)) ≡ e =
+    ap {B = Entry} (λ (k : ℕ × ℕ). record { line = k.0; thread = k.1; answer = e.answer }) (sym key) in
     ap (λ z. z ∷ map entry_of (map beside (zip os es))) same ∙ ap (λ zs. e ∷ zs) (told_of os es (ap (drop 1) h))
 
 keys_of : (ps : List Played) → map key_of_entry (map entry_of ps) ≡ map key_of_line (map op_line_of ps)

@@ -29,10 +29,11 @@ in_partitions phase p (suc n) at among = elim (in_cases (phase, p) at (partition
 
 in_phases : (partitions phase n : ℕ) (at : ℕ × ℕ) → Contains (phases_of partitions phase n) at → at.1 < partitions
 in_phases partitions phase zero at among = absurd (not_in_none at among)
-in_phases partitions phase (suc n) at among = elim (Contains-append_cases (partitions_of phase 0 partitions) (phases_of partitions (phase + 1) n) at among) [
-  | inl here ↦ let low = in_partitions phase 0 partitions at here in omega arith
-  | inr rest ↦ in_phases partitions (phase + 1) n at rest
-]
+in_phases partitions phase (suc n) at among =
+    elim (Contains-append_cases (partitions_of phase 0 partitions) (phases_of partitions (phase + 1) n) at among) [
+      | inl here ↦ let low = in_partitions phase 0 partitions at here in omega arith
+      | inr rest ↦ in_phases partitions (phase + 1) n at rest
+    ]
 
 -- what was seen is in the order of the phases
 pub seen_in_phases : (cells : _) (ps : List Played) → IsSeenInOrder cells ps → IsInPhases ps
@@ -51,7 +52,8 @@ report_adds_up t r l limits legal among =
     let (before, parts, census) = right.root in (
       before,
       parts,
-      places_add_up t.region t.partitions t.threads ps r.pools r.roots l before legal.roots legal.pool (lines_differ (rules_of t) t.lines ps lines)
+      places_add_up t.region t.partitions t.threads ps r.pools r.roots l before legal.roots legal.pool
+          (lines_differ (rules_of t) t.lines ps lines)
           (λ k d low. (records_within t ps (get_or ps k d) limits lines (Contains-get_or ps k d low)).0) legal.slots
           (seen_in_phases _ ps legal.seen) (in_phases t.partitions 1 (phases_in t.lines) (place_of l) place) right parts,
     )

@@ -23,7 +23,8 @@ abbrev pub OtherLine : Mark → Mark → Type 0
 OtherLine m n = m.line ≢ n.line
 
 -- a list whose elements differ in f has one of each value
-pub one_by : {A B : Type 0} (f : A → B) (xs : List A) (x y : A) → AllPairs (λ u v. f u ≢ f v) xs → Contains xs x → Contains xs y → f x ≡ f y → x ≡ y
+pub one_by : {A B : Type 0} (f : A → B) (xs : List A) (x y : A) → AllPairs (λ u v. f u ≢ f v) xs → Contains xs x → Contains xs y →
+    f x ≡ f y → x ≡ y
 one_by f [] x y h first second e = absurd (not_in_none x first)
 one_by f (z ∷ zs) x y h first second e = elim (in_cases z x zs first) [
   | inl same ↦ elim (in_cases z y zs second) [
@@ -40,23 +41,29 @@ pub made_some : (o : Option Step) (p : Step) → o ≡ Some p → IsSome o
 made_some o p e = subst (λ z. IsSome z) (sym e) refl
 
 -- two first marks at a word have one line
-pub first_line : (ms : List Mark) (s : SlotName) (u : ℕ) (m n : Mark) (p q : Step) → IsFirstAt ms s u m p → IsFirstAt ms s u n q → m.line ≡ n.line
+pub first_line : (ms : List Mark) (s : SlotName) (u : ℕ) (m n : Mark) (p q : Step) → IsFirstAt ms s u m p → IsFirstAt ms s u n q →
+    m.line ≡ n.line
 first_line ms s u m n p q f g =
     let a = f.least n g.among g.slot g.found (made_some n.step q g.step) in
     let b = g.least m f.among f.slot f.found (made_some m.step p f.step) in
     omega arith
 
 -- if no two marks have the same line, two first marks at a slot's word are one mark, and runs from one word end in one word
-pub one_mark : (ms : List Mark) (s : SlotName) (u : ℕ) (m n : Mark) (p q : Step) → AllPairs OtherLine ms → IsFirstAt ms s u m p → IsFirstAt ms s u n q → m ≡ n
+pub one_mark : (ms : List Mark) (s : SlotName) (u : ℕ) (m n : Mark) (p q : Step) → AllPairs OtherLine ms → IsFirstAt ms s u m p →
+    IsFirstAt ms s u n q → m ≡ n
 one_mark ms s u m n p q h f g = one_by (λ (z : Mark). z.line) ms m n h f.among g.among (first_line ms s u m n p q f g)
 
-one_step : (ms : List Mark) (s : SlotName) (u : ℕ) (m n : Mark) (p q : Step) → AllPairs OtherLine ms → IsFirstAt ms s u m p → IsFirstAt ms s u n q → p ≡ q
+one_step : (ms : List Mark) (s : SlotName) (u : ℕ) (m n : Mark) (p q : Step) → AllPairs OtherLine ms → IsFirstAt ms s u m p →
+    IsFirstAt ms s u n q → p ≡ q
 one_step ms s u m n p q h f g = of_some p q (sym f.step ∙ ap (λ (z : Mark). z.step) (one_mark ms s u m n p q h f g) ∙ g.step)
 
-pub one_run : (ms : List Mark) (s : SlotName) (u w : ℕ) (vs ws : List ℕ) → AllPairs OtherLine ms → u ≡ w → IsRunFrom ms s u vs → IsRunFrom ms s w ws → last_word u vs ≡ last_word w ws
+pub one_run : (ms : List Mark) (s : SlotName) (u w : ℕ) (vs ws : List ℕ) → AllPairs OtherLine ms → u ≡ w → IsRunFrom ms s u vs →
+    IsRunFrom ms s w ws → last_word u vs ≡ last_word w ws
 one_run ms s u w [] [] h e f g = e
-one_run ms s u w [] (x ∷ xs) h e f (m, p, first, can, is, rest) = absurd (f m p (subst (λ z. IsFirstAt ms s z m p) (sym e) first) (subst (λ z. CanStep p z) (sym e) can))
-one_run ms s u w (v ∷ vs) [] h e (m, p, first, can, is, rest) g = absurd (g m p (subst (λ z. IsFirstAt ms s z m p) e first) (subst (λ z. CanStep p z) e can))
+one_run ms s u w [] (x ∷ xs) h e f (m, p, first, can, is, rest) =
+    absurd (f m p (subst (λ z. IsFirstAt ms s z m p) (sym e) first) (subst (λ z. CanStep p z) (sym e) can))
+one_run ms s u w (v ∷ vs) [] h e (m, p, first, can, is, rest) g =
+    absurd (g m p (subst (λ z. IsFirstAt ms s z m p) e first) (subst (λ z. CanStep p z) e can))
 one_run ms s u w (v ∷ vs) (x ∷ xs) h e (m, p, first, can, is, rest) (n, q, first', can', is', rest') =
     let same = one_step ms s w m n p q h (subst (λ z. IsFirstAt ms s z m p) e first) first' in
     let next : v ≡ x = is ∙ ap (stepped p) e ∙ ap (λ z. stepped z w) same ∙ sym is' in
@@ -117,7 +124,8 @@ from_next k f m h = elim (cases_Bool (f m)) [
 
 -- one mark at the number, and those from the next on
 one_at : (k : ℕ) (f : Mark → Bool) (ms : List Mark) (m : Mark) → AllPairs OtherLine ms → Contains ms m → number_of m.found ≡ k
-    → ((n : Mark) → Contains ms n → f n ≡ true → number_of n.found ≡ k → n.line ≡ m.line) → count_by (from k f) ms ≡ cond {A = ℕ} (f m) 1 0 + count_by (from (k + 1) f) ms
+    → ((n : Mark) → Contains ms n → f n ≡ true → number_of n.found ≡ k → n.line ≡ m.line) →
+    count_by (from k f) ms ≡ cond {A = ℕ} (f m) 1 0 + count_by (from (k + 1) f) ms
 one_at k f [] m h among at only = absurd (not_in_none m among)
 one_at k f (x ∷ ms) m h among at only =
     let a = sum_by-cons (λ y. cond (from k f y) 1 0) x ms in
@@ -127,8 +135,10 @@ one_at k f (x ∷ ms) m h among at only =
           let rest = count_same (from k f) (from (k + 1) f) ms (λ n member. from_next k f n (λ hit there.
           pairs_head OtherLine x n ms h member (ap (λ (z : Mark). z.line) e ∙ sym (only n (later_in x n ms member) hit there)))) in
           let place : number_of x.found ≡ k = ap (λ (z : Mark). number_of z.found) e ∙ at in
-          let now : cond {A = ℕ} (from k f x) 1 0 ≡ cond {A = ℕ} (f x) 1 0 = at_it (leb k (number_of x.found)) (f x) (le-leb _ _ (omega arith)) in
-          let then' : cond {A = ℕ} (from (k + 1) f x) 1 0 ≡ 0 = past_it (leb (k + 1) (number_of x.found)) (f x) (lt-leb _ _ (omega arith)) in
+          let now : cond {A = ℕ} (from k f x) 1 0 ≡ cond {A = ℕ} (f x) 1 0 =
+          at_it (leb k (number_of x.found)) (f x) (le-leb _ _ (omega arith)) in
+          let then' : cond {A = ℕ} (from (k + 1) f x) 1 0 ≡ 0 =
+          past_it (leb (k + 1) (number_of x.found)) (f x) (lt-leb _ _ (omega arith)) in
           let same : cond {A = ℕ} (f x) 1 0 ≡ cond {A = ℕ} (f m) 1 0 = ap (λ z. cond {A = ℕ} (f z) 1 0) e in
           omega arith
       | inr rest ↦
@@ -220,7 +230,8 @@ balance Write u can =
 -- ---- along a run
 
 -- the words of a run have no lesser number than its first
-pub run_rises : (ms : List Mark) (s : SlotName) (u : ℕ) (vs : List ℕ) (x : ℕ) → IsRunFrom ms s u vs → Contains (u ∷ vs) x → number_of u ≤ number_of x
+pub run_rises : (ms : List Mark) (s : SlotName) (u : ℕ) (vs : List ℕ) (x : ℕ) → IsRunFrom ms s u vs → Contains (u ∷ vs) x →
+    number_of u ≤ number_of x
 run_rises ms s u [] x run among = elim (in_cases u x [] among) [
   | inl e ↦ let f : number_of u ≡ number_of x = ap number_of e in omega arith
   | inr none ↦ absurd (not_in_none x none)
@@ -234,7 +245,8 @@ run_rises ms s u (v ∷ vs) x (m, p, first, can, is, rest) among = elim (in_case
 ]
 
 -- two words of a run with the same number are the same word
-pub same_word : (ms : List Mark) (s : SlotName) (u : ℕ) (vs : List ℕ) (x y : ℕ) → IsRunFrom ms s u vs → Contains (u ∷ vs) x → Contains (u ∷ vs) y → number_of x ≡ number_of y → x ≡ y
+pub same_word : (ms : List Mark) (s : SlotName) (u : ℕ) (vs : List ℕ) (x y : ℕ) → IsRunFrom ms s u vs → Contains (u ∷ vs) x →
+    Contains (u ∷ vs) y → number_of x ≡ number_of y → x ≡ y
 same_word ms s u [] x y run first second e = sym (in_one u x first) ∙ in_one u y second
 same_word ms s u (v ∷ vs) x y (m, p, at, can, is, rest) first second e =
     let up : number_of v ≡ number_of u + 1 = ap number_of is ∙ number_stepped p u can in
@@ -277,7 +289,8 @@ Used ms s = (m : Mark) (p : Step) → Contains ms m → m.slot ≡ s → m.step 
 abbrev Lies : List Mark → SlotName → ℕ → List ℕ → Type 0
 Lies ms s u vs = (m : Mark) → Contains ms m → m.slot ≡ s → number_of u ≤ number_of m.found → Contains (u ∷ vs) m.found
 
-at_end : (ms : List Mark) (s : SlotName) (u : ℕ) (f : Mark → Bool) → IsOfSteps s f → IsRunFrom ms s u [] → Used ms s → Lies ms s u [] → count_by (from (number_of u) f) ms ≡ 0
+at_end : (ms : List Mark) (s : SlotName) (u : ℕ) (f : Mark → Bool) → IsOfSteps s f → IsRunFrom ms s u [] → Used ms s → Lies ms s u [] →
+    count_by (from (number_of u) f) ms ≡ 0
 at_end ms s u f of run used lies = count_none (from (number_of u) f) ms (λ m among hit.
     let (low, passes) = and_parts _ _ hit in
     let (slot, p, step) = of m passes in
@@ -289,7 +302,8 @@ at_end ms s u f of run used lies = count_none (from (number_of u) f) ms (λ m am
 
 at_step_of : (ms : List Mark) (s : SlotName) (u v : ℕ) (vs : List ℕ) (f : Mark → Bool) (m : Mark) (p : Step) → AllPairs OtherLine ms
     → IsOfSteps s f → IsFirstAt ms s u m p → CanStep p u → v ≡ stepped p u →
-    IsRunFrom ms s v vs → Used ms s → Lies ms s u (v ∷ vs) → count_by (from (number_of u) f) ms ≡ one_if (f m) + count_by (from (number_of v) f) ms
+    IsRunFrom ms s v vs → Used ms s → Lies ms s u (v ∷ vs) →
+    count_by (from (number_of u) f) ms ≡ one_if (f m) + count_by (from (number_of v) f) ms
 at_step_of ms s u v vs f m p h of first can is rest used lies =
     let up : number_of v ≡ number_of u + 1 = ap number_of is ∙ number_stepped p u can in
     let one = one_at (number_of u) f ms m h first.among (ap number_of first.found) (λ n among hit there.
@@ -305,7 +319,8 @@ from_0 : (f : Mark → Bool) (m : Mark) → from 0 f m ≡ f m
 from_0 f m = rw (le-leb 0 (number_of m.found) (omega arith)) refl
 
 -- the test at the mark that made the run's step
-so_at : (test : Step → ℕ → Bool) (s : SlotName) (m : Mark) (p : Step) (u : ℕ) → m.slot ≡ s → m.found ≡ u → m.step ≡ Some p → one_if (steps_so test s m) ≡ one_if (test p u)
+so_at : (test : Step → ℕ → Bool) (s : SlotName) (m : Mark) (p : Step) (u : ℕ) → m.slot ≡ s → m.found ≡ u → m.step ≡ Some p →
+    one_if (steps_so test s m) ≡ one_if (test p u)
 so_at test s m p u slot found step = rw (same_slot_yes s m.slot (sym slot), step, found) refl
 
 -- a step of the one kind raises the level of a slot's word, one of the other lowers it, and the rest leave it
@@ -314,7 +329,8 @@ Balances up down level = (p : Step) (u : ℕ) → CanStep p u → one_if (up p u
 
 module _ (up down : Step → ℕ → Bool) (level : ℕ → ℕ) (even : Balances up down level) where
   walk : (ms : List Mark) (s : SlotName) (u : ℕ) (vs : List ℕ) → AllPairs OtherLine ms → IsRunFrom ms s u vs → Used ms s → Lies ms s u vs →
-      count_by (from (number_of u) (steps_so up s)) ms + level u ≡ count_by (from (number_of u) (steps_so down s)) ms + level (last_word u vs)
+      count_by (from (number_of u) (steps_so up s)) ms + level u ≡ count_by (from (number_of u) (steps_so down s)) ms + level
+      (last_word u vs)
   walk ms s u [] h run used lies =
       let a = at_end ms s u (steps_so up s) (so_steps up s) run used lies in
       let b = at_end ms s u (steps_so down s) (so_steps down s) run used lies in
@@ -339,8 +355,10 @@ module _ (up down : Step → ℕ → Bool) (level : ℕ → ℕ) (even : Balance
   run_levels ms s vs h run one =
       let zero_first : number_of 0 ≡ 0 = omega arith in
       let w = walk ms s 0 vs h run one.used (λ m among slot low. one.found m among slot) in
-      let a : count_by (from (number_of 0) (steps_so up s)) ms ≡ count_by (from 0 (steps_so up s)) ms = ap (λ k. count_by (from k (steps_so up s)) ms) zero_first in
-      let b : count_by (from (number_of 0) (steps_so down s)) ms ≡ count_by (from 0 (steps_so down s)) ms = ap (λ k. count_by (from k (steps_so down s)) ms) zero_first in
+      let a : count_by (from (number_of 0) (steps_so up s)) ms ≡ count_by (from 0 (steps_so up s)) ms =
+      ap (λ k. count_by (from k (steps_so up s)) ms) zero_first in
+      let b : count_by (from (number_of 0) (steps_so down s)) ms ≡ count_by (from 0 (steps_so down s)) ms =
+      ap (λ k. count_by (from k (steps_so down s)) ms) zero_first in
       let c = count_same (from 0 (steps_so up s)) (steps_so up s) ms (λ m among. from_0 (steps_so up s) m) in
       let d = count_same (from 0 (steps_so down s)) (steps_so down s) ms (λ m among. from_0 (steps_so down s) m) in
       omega arith
@@ -348,11 +366,13 @@ module _ (up down : Step → ℕ → Bool) (level : ℕ → ℕ) (even : Balance
 abbrev issues_so : Step → ℕ → Bool
 issues_so p w = is_issue (Some p)
 
-run_counts : (ms : List Mark) (s : SlotName) (vs : List ℕ) → AllPairs OtherLine ms → IsRunFrom ms s 0 vs → IsOneRun ms s (0 ∷ vs) → issues_of s ms ≡ returns_of s ms + busy (last_word 0 vs)
+run_counts : (ms : List Mark) (s : SlotName) (vs : List ℕ) → AllPairs OtherLine ms → IsRunFrom ms s 0 vs → IsOneRun ms s (0 ∷ vs) →
+    issues_of s ms ≡ returns_of s ms + busy (last_word 0 vs)
 run_counts ms s vs h run one =
     let levels = run_levels issues_so returns_at busy balance ms s vs h run one in
     let c = count_same (is_issue_of s) (steps_so issues_so s) ms (λ m among. ap (λ b. same_slot s m.slot && b) (issue_so m.found m.step)) in
-    let d = count_same (is_return_of s) (steps_so returns_at s) ms (λ m among. ap (λ b. same_slot s m.slot && b) (return_so m.found m.step)) in
+    let d = count_same (is_return_of s) (steps_so returns_at s) ms
+    (λ m among. ap (λ b. same_slot s m.slot && b) (return_so m.found m.step)) in
     let e = busy_free 0 (omega arith) (omega arith) in
     omega arith
   where
@@ -373,7 +393,8 @@ OtherRecord x y = x.line ≢ y.line
 abbrev pub IsMarkFrom : List Played → Mark → Type 0
 IsMarkFrom ps m = (x : Played) × Contains ps x × (mark_of x ≡ Some m)
 
-mark_from_one : (x : Played) (xs : List Played) (m : Mark) (o : Option Mark) → mark_of x ≡ o → (Contains (marks_of xs) m → IsMarkFrom xs m) → Contains (marks_of (x ∷ xs)) m → IsMarkFrom (x ∷ xs) m
+mark_from_one : (x : Played) (xs : List Played) (m : Mark) (o : Option Mark) → mark_of x ≡ o →
+    (Contains (marks_of xs) m → IsMarkFrom xs m) → Contains (marks_of (x ∷ xs)) m → IsMarkFrom (x ∷ xs) m
 mark_from_one x xs m None e ih among = let (y, member, is) = ih (rw e at among) in (y, later_in x y xs member, is)
 mark_from_one x xs m (Some n) e ih among = elim (in_cases n m (marks_of xs) (rw e at among)) [
   | inl same ↦ (x, first_in x xs, e ∙ ap Some same)
@@ -389,7 +410,9 @@ one_more_pair : (R : Played → Played → Type 0) (S : Mark → Mark → Type 0
     → (x : Played) (xs : List Played) (o : Option Mark) → mark_of x ≡ o → AllPairs R (x ∷ xs) → AllPairs S (marks_of xs)
     → AllPairs S (marks_of (x ∷ xs))
 one_more_pair R S of x xs None e h rest = rw e rest
-one_more_pair R S of x xs (Some m) e h rest = rw e (pairs_cons S m (marks_of xs) (λ n among. let (y, member, is) = mark_from xs n among in of x y m n (pairs_head R x y xs h member) e is) rest)
+one_more_pair R S of x xs (Some m) e h rest =
+    rw e (pairs_cons S m (marks_of xs) (λ n among. let (y, member, is) = mark_from xs n among in
+    of x y m n (pairs_head R x y xs h member) e is) rest)
 
 -- what pairs of records say of their marks
 pub marks_pairs : (R : Played → Played → Type 0) (S : Mark → Mark → Type 0)
@@ -399,7 +422,8 @@ marks_pairs R S of [] h = pairs_none S
 marks_pairs R S of (x ∷ xs) h = one_more_pair R S of x xs (mark_of x) refl h (marks_pairs R S of xs (pairs_tail R x xs h))
 
 pub marks_differ : (ps : List Played) → AllPairs OtherRecord ps → AllPairs OtherLine (marks_of ps)
-marks_differ ps h = marks_pairs OtherRecord OtherLine (λ x y m n other is is' same. other (sym (mark_line x m is) ∙ same ∙ mark_line y n is')) ps h
+marks_differ ps h = marks_pairs OtherRecord OtherLine
+    (λ x y m n other is is' same. other (sym (mark_line x m is) ∙ same ∙ mark_line y n is')) ps h
 
 pub issues_return : IssuesReturn
 issues_return ps s w h slots (vs, run, last) =

@@ -8,7 +8,8 @@ use Rattle.pa_record.specs.declared.history.CellEntry.{CellEntry}
 use Rattle.pa_record.specs.declared.report.ReportLine.{ReportLine}
 
 -- two runs' contents with the same lists are the same
-pub same_lists : (a b : Told) → a.entries ≡ b.entries → a.roots ≡ b.roots → a.pools ≡ b.pools → a.cells ≡ b.cells → a.report ≡ b.report → a ≡ b
+pub same_lists : (a b : Told) → a.entries ≡ b.entries → a.roots ≡ b.roots → a.pools ≡ b.pools → a.cells ≡ b.cells → a.report ≡ b.report →
+    a ≡ b
 same_lists a b entries roots pools cells report =
     let first : List Entry → Told = λ x. record a { entries = x } in
     let second : Journals → Told = λ x. record a { entries = b.entries; roots = x } in

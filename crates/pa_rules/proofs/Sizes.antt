@@ -16,14 +16,17 @@ find_at : {A : Type 0} (test : A → Bool) (xs : List A) (k : ℕ) (d : A) → k
     → ((j : ℕ) → j < k → test (get_or xs j d) ≡ false) → find test xs ≡ Some (get_or xs k d)
 find_at test [] k d few passes before = absurd (omega arith)
 find_at test (x ∷ xs) zero d few passes before = rw passes refl
-find_at test (x ∷ xs) (suc k) d few passes before = rw (before 0 (omega arith)) (find_at test xs k d (omega arith) passes (λ j less. before (suc j) (omega arith)))
+find_at test (x ∷ xs) (suc k) d few passes before =
+    rw (before 0 (omega arith)) (find_at test xs k d (omega arith) passes (λ j less. before (suc j) (omega arith)))
 
-find_nowhere : {A : Type 0} (test : A → Bool) (xs : List A) (d : A) → ((j : ℕ) → j < length xs → test (get_or xs j d) ≡ false) → find test xs ≡ None
+find_nowhere : {A : Type 0} (test : A → Bool) (xs : List A) (d : A) → ((j : ℕ) → j < length xs → test (get_or xs j d) ≡ false) →
+    find test xs ≡ None
 find_nowhere test [] d none = refl
 find_nowhere test (x ∷ xs) d none = rw (none 0 (omega arith)) (find_nowhere test xs d (λ j less. none (suc j) (omega arith)))
 
 -- the rows of a version are by its classes
-row_count_by : (b : Bool) → length (slice_range rows (if b then 0 else 59) (if b then 59 else 170)) ≡ (if b then 59 else 170) - (if b then 0 else 59)
+row_count_by : (b : Bool) →
+    length (slice_range rows (if b then 0 else 59) (if b then 59 else 170)) ≡ (if b then 59 else 170) - (if b then 0 else 59)
 unfolding rows
 row_count_by true = refl
 row_count_by false = refl
@@ -45,7 +48,8 @@ abbrev found_in : List Row → ℕ → ℕ
 found_in rs size = option_map_or (λ (r : Row). r.slot) (find (is_enough size) rs) (shape_of size).slot
 
 -- rows of the classes from `first` on
-module _ (rs : List Row) (first count : ℕ) (long : length rs ≡ count) (slots : (d : Row) (k : ℕ) → k < count → (get_or rs k d).slot ≡ slot_of (first + k)) where
+module _ (rs : List Row) (first count : ℕ) (long : length rs ≡ count)
+    (slots : (d : Row) (k : ℕ) → k < count → (get_or rs k d).slot ≡ slot_of (first + k)) where
   enough : (size k : ℕ) → k < count → max size 1 + 8 ≤ slot_of (first + k) → is_enough size (get_or rs k no_row) ≡ true
   enough size k real fits = let same = slots no_row k real in le-leb _ _ (omega arith)
 
@@ -59,11 +63,13 @@ module _ (rs : List Row) (first count : ℕ) (long : length rs ≡ count) (slots
       let here = subst (λ c. max size 1 + 8 ≤ slot_of c) (sym at) fits in
       let found = find_at (is_enough size) rs (class - first) no_row (omega arith) (enough size (class - first) (omega arith) here)
       (λ j less. too_small size j (omega arith) (least (first + j) (omega arith) (omega arith))) in
-      ap (λ o. option_map_or (λ (r : Row). r.slot) o (shape_of size).slot) found ∙ (slots no_row (class - first) (omega arith) ∙ ap slot_of at)
+      ap (λ o. option_map_or (λ (r : Row). r.slot) o (shape_of size).slot) found ∙
+      (slots no_row (class - first) (omega arith) ∙ ap slot_of at)
 
   none_found : (size : ℕ) → ((k : ℕ) → k < count → slot_of (first + k) < max size 1 + 8) → found_in rs size ≡ (shape_of size).slot
   none_found size small =
-      let none = find_nowhere (is_enough size) rs no_row (λ j less. let real : j < count = omega arith in too_small size j real (small j real)) in
+      let none = find_nowhere (is_enough size) rs no_row
+      (λ j less. let real : j < count = omega arith in too_small size j real (small j real)) in
       ap (λ o. option_map_or (λ (r : Row). r.slot) o (shape_of size).slot) none
 
 -- a version has a class at least

@@ -61,7 +61,8 @@ pub times_out : (n : SlotName) (ss : List SlotName) → AllPairs ◌≢◌ ss �
 times_out n ss h away = elim (once_or_not n ss h) [ inl k ↦ absurd (away k.0) | inr k ↦ k.1 ]
 
 -- all members of a list are among these slots: then the sum is its length
-pub total_times : (ns ss : List SlotName) → AllPairs ◌≢◌ ss → ((n : SlotName) → Contains ns n → Contains ss n) → total (λ s. times s ns) ss ≡ length ns
+pub total_times : (ns ss : List SlotName) → AllPairs ◌≢◌ ss → ((n : SlotName) → Contains ns n → Contains ss n) →
+    total (λ s. times s ns) ss ≡ length ns
 total_times [] ss h inside = total_none ss
 total_times (n ∷ ns) ss h inside =
     let a = total_same (λ s. times s (n ∷ ns)) (λ s. once s n + times s ns) ss (λ s among. times_cons s n ns) in
@@ -73,7 +74,8 @@ total_times (n ∷ ns) ss h inside =
 
 -- ---- the caches
 
-pub total_listed : (lists : ℕ → List Numbered) (from k : ℕ) (ss : List SlotName) → AllPairs ◌≢◌ ss → ((c : ℕ) (m : Numbered) → c < from + k → Contains (lists c) m → Contains ss m.slot)
+pub total_listed : (lists : ℕ → List Numbered) (from k : ℕ) (ss : List SlotName) → AllPairs ◌≢◌ ss →
+    ((c : ℕ) (m : Numbered) → c < from + k → Contains (lists c) m → Contains ss m.slot)
     → total (λ s. listed_times s lists from k) ss ≡ listed_slots lists from k
 unfolding listed_times listed_slots
 total_listed lists from zero ss h inside = total_none ss
@@ -105,7 +107,8 @@ some_times s (t ∷ ss) among =
       | inr rest ↦ let ih = some_times s ss rest in omega arith
     ]
 
-pub some_listed : (s : SlotName) (lists : ℕ → List Numbered) (c from k : ℕ) → from ≤ c → c < from + k → 1 ≤ stands s (lists c) → 1 ≤ listed_times s lists from k
+pub some_listed : (s : SlotName) (lists : ℕ → List Numbered) (c from k : ℕ) → from ≤ c → c < from + k → 1 ≤ stands s (lists c) →
+    1 ≤ listed_times s lists from k
 unfolding listed_times
 some_listed s lists c from zero low high some = absurd (omega arith)
 some_listed s lists c from (suc k) low high some = elim (cases_eq from c) [
@@ -114,12 +117,15 @@ some_listed s lists c from (suc k) low high some = elim (cases_eq from c) [
 ]
 
 -- a slot that is in a list is cached
-pub some_cached : (all : Caches) (p threads t c : ℕ) (m : Numbered) → t < threads → c < 170 → Contains (all t p c) m → 1 ≤ cached_times m.slot all p threads
+pub some_cached : (all : Caches) (p threads t c : ℕ) (m : Numbered) → t < threads → c < 170 → Contains (all t p c) m →
+    1 ≤ cached_times m.slot all p threads
 some_cached all p zero t c m below real among = absurd (omega arith)
 some_cached all p (suc u) t c m below real among = elim (cases_eq u t) [
   | inl e ↦
-      let here = some_listed m.slot (all t p) c 0 170 (omega arith) (omega arith) (some_times m.slot (names (all t p c)) (map_in (λ (n : Numbered). n.slot) (all t p c) m among)) in
-      let same : listed_times m.slot (all u p) 0 170 ≡ listed_times m.slot (all t p) 0 170 = ap (λ z. listed_times m.slot (all z p) 0 170) e in
+      let here = some_listed m.slot (all t p) c 0 170 (omega arith) (omega arith)
+      (some_times m.slot (names (all t p c)) (map_in (λ (n : Numbered). n.slot) (all t p c) m among)) in
+      let same : listed_times m.slot (all u p) 0 170 ≡ listed_times m.slot (all t p) 0 170 =
+      ap (λ z. listed_times m.slot (all z p) 0 170) e in
       omega arith
   | inr other ↦ let ih = some_cached all p u t c m (omega arith) real among in omega arith
 ]

@@ -2,11 +2,13 @@
 use Rattle.std.proofs.Common.{◌≡◌, ℕ, ◌+◌, ◌-◌, ◌*◌, ◌<◌, ◌≤◌, ◌⊎◌, max, Bool, true, false, refl, sym, subst, arith, inl, inr}
 use Rattle.std.specs.Prelude.{nat_le, nat_lt, if◌then◌else◌}
 use Rattle.std.proofs.lemmas.Bool.{cases_order, cases_lt, and_from, and_left, and_right, le-leb, lt-leb, lt-ltb, le-ltb}
+use Rattle.std.proofs.lemmas.Nat.{mul-add-lt}
 use Rattle.pa_buckets.specs.Limits.{first_class, past_class, greatest_raw}
 use Rattle.pa_buckets.specs.Table.{slot_of}
 use Rattle.pa_buckets.specs.Classes.{IsClassIn}
 use Rattle.pa_buckets.proofs.Facts.{IsRow-of, IsRow_1-of, slot_of-rises, slot_of-rises_2}
 use Rattle.pa_direct.specs.Shapes.{shape_of, IsDirectSize}
+use Rattle.pa_rules.specs.Lists.{cache_place}
 use Rattle.pa_rules.specs.Sizes.{HasClass, is_class, class_total, most_with_class, IsMapSize}
 
 real_by : (b : Bool) (c : ℕ) → c < (if b then 59 else 170) → c < 170
@@ -120,6 +122,14 @@ class_end version = total_by (nat_le version 1)
 pub class_few : (version : ℕ) → class_total version ≤ 111
 class_few version = few_by (nat_le version 1)
 
+some_by : (b : Bool) → 0 < (if b then 59 else 170) - (if b then 0 else 59)
+some_by true = omega arith
+some_by false = omega arith
+
+-- a version has classes
+pub class_some : (version : ℕ) → 0 < class_total version
+class_some version = some_by (nat_le version 1)
+
 -- those before it, its own, and those after it are all classes
 pub class_parts : (version : ℕ) → first_class version + (class_total version + (170 - past_class version)) ≡ 170
 class_parts version = rest_by (nat_le version 1)
@@ -128,16 +138,24 @@ class_parts version = rest_by (nat_le version 1)
 pub class_among : (version c : ℕ) → HasClass version c → c - first_class version < class_total version
 class_among version c h = let end = class_end version in let from = h.0 in let real = h.1 in omega arith
 
-row_by : (b : Bool) (a d c e : ℕ) → (if b then 0 else 59) ≤ c → c < (if b then 59 else 170) → (if b then 0 else 59) ≤ e → e < (if b then 59 else 170)
-    → a * ((if b then 59 else 170) - (if b then 0 else 59)) + (c - (if b then 0 else 59)) ≡ d * ((if b then 59 else 170) - (if b then 0 else 59)) + (e - (if b then 0 else 59))
+row_by : (b : Bool) (a d c e : ℕ) → (if b then 0 else 59) ≤ c → c < (if b then 59 else 170) → (if b then 0 else 59) ≤ e →
+    e < (if b then 59 else 170)
+    → a * ((if b then 59 else 170) - (if b then 0 else 59)) + (c - (if b then 0 else 59)) ≡ d * ((if b then 59 else 170) - (if
+    b then 0 else 59)) + (e - (if b then 0 else 59))
     → (a ≡ d) × (c ≡ e)
 row_by true a d c e low high down up is = (omega (arith, high, up, is), omega (arith, high, up, is))
 row_by false a d c e low high down up is = (omega (arith, low, high, down, up, is), omega (arith, low, high, down, up, is))
 
 -- rows of as many places as the version has classes: one place is of one row and class
-pub class_row : (version a d c e : ℕ) → HasClass version c → HasClass version e
-    → a * class_total version + (c - first_class version) ≡ d * class_total version + (e - first_class version) → (a ≡ d) × (c ≡ e)
-class_row version a d c e h k is = row_by (nat_le version 1) a d c e h.0 h.1 k.0 k.1 is
+pub one_place : (version p c q d : ℕ) → HasClass version c → HasClass version d → cache_place version p c ≡ cache_place version q d →
+    (p ≡ q) × (c ≡ d)
+one_place version p c q d h k is = row_by (nat_le version 1) p q c d h.0 h.1 k.0 k.1 is
+
+-- so many rows have as many places
+pub place_within : (version rows row c : ℕ) → row < rows → HasClass version c → cache_place version row c < rows * class_total version
+place_within version rows row c low real =
+    let within = mul-add-lt row (class_total version) (c - first_class version) rows low (class_among version c real) in
+    omega (arith, within)
 
 -- ---- version 1
 

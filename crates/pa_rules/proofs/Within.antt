@@ -27,6 +27,8 @@ ops_within rules partitions threads n phase (Do thread op ∷ ls) a h among = el
       | inr rest ↦ ops_within rules partitions threads (n + 1) phase ls a h.1 rest
     ]
 
-pub records_within : (t : Trace) (ps : List Played) (x : Played) → IsWithinLimits t → AreLines (rules_of t) t.lines ps → Contains ps x → (x.thread < t.threads) × IsOpWithin t.partitions x.op
+pub records_within : (t : Trace) (ps : List Played) (x : Played) → IsWithinLimits t → AreLines (rules_of t) t.lines ps → Contains ps x →
+    (x.thread < t.threads) × IsOpWithin t.partitions x.op
 records_within t ps x limits lines among =
-    ops_within (rules_of t) t.partitions t.threads 2 1 t.lines (op_line_of x) limits.lines (subst (λ z. Contains z (op_line_of x)) lines (map_in op_line_of ps x among))
+    ops_within (rules_of t) t.partitions t.threads 2 1 t.lines (op_line_of x) limits.lines
+    (subst (λ z. Contains z (op_line_of x)) lines (map_in op_line_of ps x among))

@@ -53,15 +53,20 @@ after_again = with_list after_purge 0 0 rest
 made_first : MadeRow roots (of_first_thread 2 (ops.Alloc 0 0 8) (answers.Made (first_slot 0) 8)) (first_slot 0) (no_caches 0) after_made
 made_first = inl (0, 0, filled, rest, (0, 8, refl, class_0), (Some 0, (refl, no_other 2)), refl, λ p c. refl)
 
-freed : DoneRow roots (of_first_thread 3 (ops.Free 0) (answers.Done (first_slot 16777217))) (Some steps.Free) (first_slot 16777217) after_made after_free
+freed : DoneRow roots (of_first_thread 3 (ops.Free 0) (answers.Done (first_slot 16777217))) (Some steps.Free)
+    (first_slot 16777217) after_made after_free
 unfolding rows row_of limit_of
-freed = inl ((refl, refl), inl (0, 0, (fill 2 0 (Some 0) filled, Some 0, filled, (0, lit< tt, refl), refl, (0, lit< tt, refl)), (refl, no_other 3), λ p c. refl))
+freed = inl (
+  (refl, refl),
+  inl (0, 0, (fill 2 0 (Some 0) filled, Some 0, filled, (0, lit< tt, refl), refl, (0, lit< tt, refl)), (refl, no_other 3), λ p c. refl),
+)
 
 purged_acts : (p : ℕ) → p < 1 → acts_of roots 4 p ≡ purge_acts (after_free p) 0 170
 purged_acts zero below = refl
 purged_acts (suc p) below = absurd (omega arith)
 
-made_again : MadeRow roots (of_first_thread 5 (ops.Alloc 1 0 8) (answers.Made (first_slot 33554432) 8)) (first_slot 33554432) after_purge after_again
+made_again : MadeRow roots (of_first_thread 5 (ops.Alloc 1 0 8) (answers.Made (first_slot 33554432) 8))
+    (first_slot 33554432) after_purge after_again
 made_again = inl (0, 0, first 2 ∷ rest, rest, (1, 8, refl, class_0), (None, (refl, no_other 5)), refl, λ p c. refl)
 
 pub purge_is_cached : PurgeIsCached

@@ -84,8 +84,8 @@ MadeRow roots x seen cache after =
     × FrontIs seen xs rest × SameLists after (with_list cache p class rest))
     ⊎ ((p size asked len : ℕ) × AsksForMap x p size × OnlyActs roots x.line p (Map asked seen.slot len ∷ []) × SameLists after cache)
 
--- there was no room for a class with an empty list, or for a direct map: one Full is the line's only entry, and the lists stay
--- as they were
+-- there was no room for a class with an empty list, or for a direct map: one Full is the line's only entry,
+-- and the lists stay as they were
 abbrev pub FullRow : Journals → Played → Cache → Cache → Type 0
 FullRow roots x cache after =
     ((p class asked : ℕ) × AsksForClass x p class × (cache p class ≡ []) × OnlyActs roots x.line p (Full (Some class) asked ∷ [])
@@ -113,8 +113,8 @@ ReturnRow roots x slot cache after =
     ⊎ ((p asked number : ℕ) × IsDirect roots slot.slot p × OnlyActs roots x.line p (unmap_at asked slot.slot number ∷ [])
     × SameLists after cache)
 
--- a step was made: if it is a returning one the slot comes back, and else no entry is of the line and the lists stay as they
--- were
+-- a step was made: if it is a returning one the slot comes back,
+-- and else no entry is of the line and the lists stay as they were
 abbrev pub DoneRow : Journals → Played → Option Step → Seen → Cache → Cache → Type 0
 DoneRow roots x None seen cache after = NoActs roots x.line × SameLists after cache
 DoneRow roots x (Some step) seen cache after =
@@ -165,7 +165,7 @@ CachesTo partitions roots all (x ∷ xs) after =
 abbrev pub no_caches : Caches
 no_caches thread p class = []
 
--- from empty lists on, the records and these journals lead to some lists: each record has the entries that its answer asks
--- for
+-- from empty lists on, the records and these journals lead to some lists:
+-- each record has the entries that its answer asks for
 abbrev pub AreCaches : ℕ → Journals → List Played → Type 0
 AreCaches partitions roots ps = (after : Caches) × CachesTo partitions roots no_caches ps after

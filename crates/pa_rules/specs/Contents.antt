@@ -69,14 +69,14 @@ abbrev pub ReadsByRef : (ℕ → ℕ) → (ℕ → List CellEntry) → List Play
 ReadsByRef usable_of cells ps x s =
     (reg place : ℕ) × (regs : Regs) × (x.op ≡ ops.Read reg place) × HasRegs usable_of cells ps x regs × (regs reg ≡ Ref s)
 
--- the record may read poison at number k: it reads the slot through a raw_ptr, and the slot's next free is another thread's, in
--- the same phase
+-- the record may read poison at number k: it reads the slot through a raw_ptr,
+-- and the slot's next free is another thread's, in the same phase
 abbrev pub IsBeingFreed : (ℕ → ℕ) → (ℕ → List CellEntry) → List Played → Played → SlotName → ℕ → Type 0
 IsBeingFreed usable_of cells ps x s k =
     ReadsByRef usable_of cells ps x s × (y : Played) × IsNextFree ps s k y × (y.thread ≢ x.thread) × (y.phase ≡ x.phase)
 
--- what an answer may have read: of a held slot its content at the number found, or poison if it is being freed then, and of a
--- freed slot poison
+-- what an answer may have read: of a held slot its content at the number found,
+-- or poison if it is being freed then, and of a freed slot poison
 abbrev pub IsReadAllowed : (ℕ → ℕ) → (ℕ → List CellEntry) → List Played → Played → Answer → Type 0
 IsReadAllowed usable_of cells ps x (Value seen value) =
     IsContent ps seen.slot (number_of seen.found.0) value

@@ -40,8 +40,8 @@ PoolDemand supers ps pools roots place = Unit {0}
 
 -- An entry of a journal is of a partition of the trace and fits the root after those before it; it names a later entry of
 -- the pool than they do, its line's op makes it, and none of them should come after it.
-pub record EntryFits (partitions : ℕ) (ps : List Played) (pools : List PoolEntry) (roots : Journals) (p j : ℕ) (e : RootEntry) :
-    Type 0 where
+pub record EntryFits (partitions : ℕ) (ps : List Played) (pools : List PoolEntry) (roots : Journals) (p j : ℕ)
+    (e : RootEntry) : Type 0 where
   pub partition : p < partitions
   pub fits : RootActFits pools e.act (root_replayed pools (take j (roots p)) new_root)
   pub rises : (i a b : ℕ) (f : RootEntry) → IsEntry roots p i f → i < j → asked_by f.act ≡ Some a → asked_by e.act ≡ Some b → a < b

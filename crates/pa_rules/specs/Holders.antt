@@ -36,8 +36,8 @@ pub record Move : Type 0 where
 abbrev pub move_of : ℕ → Way → Numbered → Move
 move_of line way n = record { line = line; slot = n.slot; number = n.number; way = way }
 
--- The moves that an entry makes. The slots of a fill and a direct map leave the root, a map at the number 0, and those that are
--- given back come back.
+-- The moves that an entry makes. The slots of a fill and a direct map leave the root, a map at the number 0,
+-- and those that are given back come back.
 abbrev pub moves_by : ℕ → RootAct → List Move
 moves_by line (Fill class asked slots) = map (move_of line Out) slots
 moves_by line (Map asked slot len) = record { line = line; slot = slot; number = 0; way = Out } ∷ []

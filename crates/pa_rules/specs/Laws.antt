@@ -52,8 +52,8 @@ ReportAddsUp =
     × (l.live.slots + l.quarantined.slots + l.cached.slots + l.root.slots
     ≡ slots_made (root_replayed r.pools before new_root) + length (root_replayed r.pools before new_root).maps)
 
--- The records that are due are all of the trace's op lines and all of the run's, and lists of which this holds are the
--- records with their ops.
+-- The records that are due are all of the trace's op lines and all of the run's,
+-- and lists of which this holds are the records with their ops.
 pub record RecordsAreLines : Type 0 where
   pub lines : (rules : Rules) (ls : List Line) (es : List Entry) → AreDue rules ls es → AreLines rules ls (played rules ls es)
   pub told : (rules : Rules) (ls : List Line) (es : List Entry) → AreDue rules ls es → map entry_of (played rules ls es) ≡ es

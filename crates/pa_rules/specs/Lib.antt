@@ -1,4 +1,3 @@
-pub mod Limits
 pub mod Played
 pub mod Registers
 pub mod Changes
@@ -14,6 +13,7 @@ pub mod Roots
 pub mod Holders
 pub mod Caches
 pub mod Report
+pub mod Lists
 pub mod FileOrder
 pub mod Told
 pub mod Legal

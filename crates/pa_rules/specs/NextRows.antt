@@ -28,8 +28,8 @@ abbrev pub CopyBy : Result SlotName Answer → Regs → ℕ → Answer → Regs 
 CopyBy (Ok s) regs to answer after = CopyToRow (regs to) s regs to answer after
 CopyBy (Err refusal) regs to answer after = IsRefusedSo refusal regs answer after
 
--- a copy is as its row requires exactly if its first register alone refuses it so, or names the slot and the second one's
--- row is met
+-- a copy is as its row requires exactly if its first register alone refuses it so,
+-- or names the slot and the second one's row is met
 abbrev pub CopiesAreNext : Type 0
 CopiesAreNext = (r : Reg) (regs : Regs) (to : ℕ) (answer : Answer) (after : Regs) →
     CopyRow r regs to answer after ↔ CopyBy (copy_next r) regs to answer after

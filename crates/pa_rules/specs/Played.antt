@@ -12,7 +12,7 @@ use Rattle.pa_trace.specs.declared.script.Op.TheVariants as ops
 use Rattle.pa_record.specs.declared.entry.Entry.{Entry}
 use Rattle.pa_record.specs.declared.entry.Seen.{Seen}
 use Rattle.pa_record.specs.declared.entry.Answer.{Answer}
-use Rattle.pa_record.specs.declared.entry.Answer.TheVariants.{Made, Done, Value, Dangling, SecondFree, NotOwner, StaleReset, StaleUse, Nothing, Filled, NotRef, Shared, OutOfRange, TooLarge, Full, Swapped, Purged}
+use Rattle.pa_record.specs.declared.entry.Answer.TheVariants.{Made, Done, Value, Dangling, SecondFree, NotOwner, StaleReset, StaleUse, Nothing, Filled, NotRef, Shared, OutOfRange, TooLarge, Full, Swapped, Purged, Uncounted}
 use Rattle.pa_rules.specs.declared.played.Played.{Played}
 
 -- an op line: its number in the trace, its thread, its phase, the rules by which it is played and its op
@@ -102,6 +102,7 @@ mark_of_answer line op TooLarge = None
 mark_of_answer line op (Full entry) = None
 mark_of_answer line op (Swapped entry) = None
 mark_of_answer line op (Purged slots) = None
+mark_of_answer line op Uncounted = None
 
 -- what a record reports of a slot: a step, a look, or nothing
 abbrev pub mark_of : Played → Option Mark

@@ -8,7 +8,7 @@ use Rattle.pa_trace.specs.declared.script.Op.TheVariants as ops
 use Rattle.pa_direct.specs.Shapes.{greatest_size}
 use Rattle.pa_record.specs.declared.entry.Seen.{Seen}
 use Rattle.pa_record.specs.declared.entry.Answer.{Answer}
-use Rattle.pa_record.specs.declared.entry.Answer.TheVariants.{Made, Done, Value, Dangling, SecondFree, NotOwner, StaleReset, StaleUse, Nothing, Filled, NotRef, Shared, OutOfRange, TooLarge, Full, Swapped, Purged}
+use Rattle.pa_record.specs.declared.entry.Answer.TheVariants.{Made, Done, Value, Dangling, SecondFree, NotOwner, StaleReset, StaleUse, Nothing, Filled, NotRef, Shared, OutOfRange, TooLarge, Full, Swapped, Purged, Uncounted}
 use Rattle.pa_record.specs.declared.history.CellEntry.{CellEntry}
 use Rattle.pa_record.specs.declared.history.Held.{Held}
 use Rattle.pa_record.specs.declared.history.Held.TheVariants as held
@@ -32,15 +32,15 @@ with regs i r k = if k == i then r else regs k
 abbrev pub Becomes : Regs → Regs → Type 0
 Becomes after regs = (k : ℕ) → after k ≡ regs k
 
--- What the rows need besides the registers: how many bytes of a size's slot and of a slot are usable, and what was done
--- with each cell.
+-- What the rows need besides the registers: how many bytes of a size's slot and of a slot are usable,
+-- and what was done with each cell.
 pub record Facts : Type 0 where
   pub usable_of : ℕ → ℕ
   pub usable_at : SlotName → ℕ
   pub cells : ℕ → List CellEntry
 
--- A request that finds its register without a handle. One above 33,521,656 bytes is too large; else it made a slot,
--- or the placement was full.
+-- A request that finds its register without a handle. One above 33,521,656 bytes is too large;
+-- else it made a slot, or the placement was full.
 abbrev pub RequestRow : Facts → Regs → ℕ → ℕ → Answer → Regs → Type 0
 RequestRow facts regs reg size answer after =
     ((greatest_size < size) × (answer ≡ TooLarge) × Becomes after regs)
@@ -132,8 +132,8 @@ reg_of held.Nothing = Empty
 reg_of (held.Own s) = Own s
 reg_of (held.Ref s) = Ref s
 
--- An exchange with a cell: it gave what the register held, and the register holds what it found. The answer names it in
--- the cell's history.
+-- An exchange with a cell: it gave what the register held, and the register holds what it found.
+-- The answer names it in the cell's history.
 abbrev pub SwapRow : List CellEntry → Regs → ℕ → Answer → Regs → Type 0
 SwapRow history regs reg answer after =
     (entry : ℕ) × (e : CellEntry) × (answer ≡ Swapped entry) × (slice_get history entry ≡ Some e)
@@ -187,6 +187,7 @@ made_of TooLarge = None
 made_of (Full entry) = None
 made_of (Swapped entry) = None
 made_of (Purged slots) = None
+made_of Uncounted = None
 
 -- the usable number of slot s if this made it, else another number
 abbrev pub usable_or : Option (SlotName × ℕ) → SlotName → ℕ → ℕ

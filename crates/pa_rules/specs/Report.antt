@@ -105,8 +105,8 @@ census_of l =
     }
 
 -- a line of the report: live and quarantined slots by their words, cached ones by the threads' lists, and the census
-pub record IsReportLine (partitions threads : ℕ) (ps : List Played) (pools : List PoolEntry) (roots : Journals) (l : ReportLine) :
-    Type 0 where
+pub record IsReportLine (partitions threads : ℕ) (ps : List Played) (pools : List PoolEntry) (roots : Journals)
+    (l : ReportLine) : Type 0 where
   pub live : IsTally IsLive roots (until l.phase ps) l.partition l.live
   pub quarantined : IsTally IsQuarantined roots (until l.phase ps) l.partition l.quarantined
   pub cached : IsCached partitions threads roots (until l.phase ps) l.partition l.cached

@@ -15,8 +15,8 @@ HandsTo cells x y =
     (k j : ℕ) × (e f : CellEntry) × IsExchange cells k j e × IsExchange cells k (j + 1) f × (e.line ≡ x.line) × (f.line ≡ y.line)
     × (e.gave ≢ Nothing)
 
--- The record x is before y: by their thread or their phases, by a handle that went from x to y, or with some record
--- between them.
+-- The record x is before y: by their thread or their phases, by a handle that went from x to y,
+-- or with some record between them.
 pub data IsBefore (cells : ℕ → List CellEntry) (ps : List Played) : Played → Played → Type 0 where
   Standing : {x y : Played} → StandsBefore x y → IsBefore cells ps x y
   Handing : {x y : Played} → HandsTo cells x y → IsBefore cells ps x y

@@ -26,8 +26,8 @@ most_with_class version = greatest_raw version - 8
 abbrev pub IsMapSize : ℕ → ℕ → Type 0
 IsMapSize version size = (most_with_class version < size) × (size ≤ greatest_size)
 
--- the size of a request's slot in the version: that of its first class whose slots are large enough, or of a direct map if
--- there is none
+-- the size of a request's slot in the version: that of its first class whose slots are large enough,
+-- or of a direct map if there is none
 unfoldable pub slot_size_for : ℕ → ℕ → ℕ
 slot_size_for version size =
     option_map_or (λ r. r.slot) (find (λ r. nat_le (max size 1 + 8) r.slot) (rows_of version)) (shape_of size).slot

@@ -12,8 +12,8 @@ use Rattle.pa_rules.specs.declared.played.Played.{Played}
 use Rattle.pa_rules.specs.Played.{played}
 use Rattle.pa_rules.specs.Roots.{Journals}
 
--- The records, the journals by their partitions, the entries of the pool, the histories by their cells, and the lines of
--- the report.
+-- The records, the journals by their partitions, the entries of the pool,
+-- the histories by their cells, and the lines of the report.
 pub record Told : Type 0 where
   pub entries : List Entry
   pub roots : Journals

@@ -34,8 +34,8 @@ Demand clauses.Report t r place = ReportDemand (phases_in t.lines) t.partitions 
 abbrev pub Holds : Clause → Trace → Run → Type 0
 Holds c t r = (place : Place) → Demand c t (told_by r) place
 
--- line n is the first at which the clause fails: a place of the line doesn't meet its demand, and each place of a line before
--- does
+-- line n is the first at which the clause fails: a place of the line doesn't meet its demand,
+-- and each place of a line before does
 pub record FailsAt (c : Clause) (t : Trace) (r : Run) (n : ℕ) : Type 0 where
   pub place : Place
   pub line : n ≡ line_at r place

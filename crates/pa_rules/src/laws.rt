@@ -15,8 +15,8 @@ pub fn worked_caches_fit()
     ensures { PurgeIsCached }
 {}
 
-/// The law that a slot is in the caches, was issued or came back to the root as often as it left the root and was
-/// returned.
+/// The law that a slot is in the caches, was issued or came back to the root
+/// as often as it left the root and was returned.
 pub fn caches_keep()
     ensures { CachesKeep }
 {}

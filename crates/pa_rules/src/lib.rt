@@ -1,9 +1,10 @@
 //! What a legal run is: the definitions that need the ops of a trace and the answers of a run at once. The players,
-//! the checker and the top call cite them. The only code here is what an op does by its register alone, for players, workers and checker.
+//! the checker and the top call cite them. The only code here is what an op does by its register alone, for players, workers and checker,
+//! and where each of a thread's lists is.
 #![tactic(auto)]
 
 mod laws;
-mod limits;
+mod lists;
 mod looked;
 mod played;
 mod register;
@@ -14,7 +15,7 @@ pub use laws::{
     places_add_up, reads_are_next, records_are_lines, report_adds_up, resets_are_next, runs_until,
     sizes_fit, titles_follow, worked_caches_fit, worked_counts_fit, writes_are_next,
 };
-pub use limits::LISTS;
+pub use lists::{cache_place, changed_by, class_total, has_class, no_sums};
 pub use looked::{looked_free, looked_read, looked_write};
 pub use played::Played;
 pub use register::{Next, Register};

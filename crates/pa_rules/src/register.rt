@@ -51,8 +51,8 @@ impl<H: Copy> Register<H> {
         }
     }
 
-    /// The handle on which a copy makes its step, or the answer with which it is refused. If the second register has a handle,
-    /// it is refused too.
+    /// The handle on which a copy makes its step, or the answer with which it is refused.
+    /// If the second register has a handle, it is refused too.
     pub fn for_copy(self) -> Result<H, Answer>
         ensures { result ≡ copy_next self }
     {
@@ -100,8 +100,8 @@ impl<H: Copy> Register<H> {
         }
     }
 
-    /// The handle whose slot a read looks at, or the answer with which it is refused. A word that isn't the slot's is out
-    /// of range as well.
+    /// The handle whose slot a read looks at, or the answer with which it is refused.
+    /// A word that isn't the slot's is out of range as well.
     pub fn for_read(self) -> Result<H, Answer>
         ensures { result ≡ read_next self }
     {

@@ -35,7 +35,8 @@ take_again n f rest fits =
       number_or_again 110 (codes "one") 4294967296 f (10 ∷ rest) (λ a b. omega (arith, a, b)) fits.1 (omega arith) refl,
     ) refl
 
-back_again : (n f : ℕ) (rest : List ℕ) → PoolActInBits (turns.Give n f) → given_back_in (decimal n ++ (codes " " ++ (decimal f ++ 10 ∷ rest))) ≡ Some (turns.Give n f, 10 ∷ rest)
+back_again : (n f : ℕ) (rest : List ℕ) → PoolActInBits (turns.Give n f) →
+    given_back_in (decimal n ++ (codes " " ++ (decimal f ++ 10 ∷ rest))) ≡ Some (turns.Give n f, 10 ∷ rest)
 unfolding given_back_in
 back_again n f rest fits =
     rw (
@@ -45,16 +46,22 @@ back_again n f rest fits =
 
 pool_act_again : (a : PoolAct) (rest : List ℕ) → PoolActInBits a → pool_act_in (pool_act_text a ++ 10 ∷ rest) ≡ Some (a, 10 ∷ rest)
 unfolding pool_act_in after_word
-pool_act_again (turns.Take n f) rest fits = ap pool_act_in (cut4 (codes "take ") (decimal n) (codes " ") (number_or (codes "none") f) (10 ∷ rest)) ∙ rw (take_again n f rest fits) refl
-pool_act_again (turns.Give n f) rest fits = ap pool_act_in (cut4 (codes "give ") (decimal n) (codes " ") (decimal f) (10 ∷ rest)) ∙ rw (back_again n f rest fits) refl
+pool_act_again (turns.Take n f) rest fits =
+    ap pool_act_in (cut4 (codes "take ") (decimal n) (codes " ") (number_or (codes "none") f) (10 ∷ rest)) ∙
+    rw (take_again n f rest fits) refl
+pool_act_again (turns.Give n f) rest fits = ap pool_act_in (cut4 (codes "give ") (decimal n) (codes " ") (decimal f) (10 ∷ rest)) ∙
+    rw (back_again n f rest fits) refl
 
 pool_again : (j : ℕ) (e : PoolEntry) (rest : List ℕ) → Is32 j → PoolInBits e
-    → pool_in (decimal j ++ (codes " " ++ (decimal e.line ++ (codes " " ++ (decimal e.partition ++ (codes " " ++ (pool_act_text e.act ++ 10 ∷ rest))))))) ≡ Some (items.Pool j e, rest)
+    → pool_in (decimal j ++ (codes " " ++
+    (decimal e.line ++ (codes " " ++ (decimal e.partition ++ (codes " " ++ (pool_act_text e.act ++ 10 ∷ rest))))))) ≡ Some
+    (items.Pool j e, rest)
 unfolding pool_in
 pool_again j e rest small fits =
     let act : List ℕ = pool_act_text e.act ++ 10 ∷ rest in
     rw (
-      below_again 4294967296 j (codes " " ++ (decimal e.line ++ (codes " " ++ (decimal e.partition ++ (codes " " ++ act))))) small (omega arith) refl,
+      below_again 4294967296 j (codes " " ++ (decimal e.line ++ (codes " " ++ (decimal e.partition ++ (codes " " ++ act))))) small
+          (omega arith) refl,
       field_again (codes " ") 4294967296 e.line (codes " " ++ (decimal e.partition ++ (codes " " ++ act))) fits.0 (omega arith) refl,
       field_again (codes " ") 4294967296 e.partition (codes " " ++ act) fits.1 (omega arith) refl,
       behind_again (codes " ") act,
@@ -92,18 +99,23 @@ cell_again k j e rest cells small fits =
 -- ---- each line
 
 -- what was read of a cell's line
-pub cell_spelled : (k j : ℕ) (e : CellEntry) (bytes a b c d f g h rest : List ℕ) → bytes ≡ decimal k ++ a → a ≡ codes " " ++ (decimal j ++ b) → b ≡ codes " " ++ (decimal e.line ++ c)
-    → c ≡ codes " " ++ d → d ≡ held_text e.gave ++ f → f ≡ codes " " ++ g → g ≡ held_text e.found ++ h → h ≡ codes "\n" ++ rest → codes "c " ++ bytes ≡ cell_text k j e ++ rest
+pub cell_spelled : (k j : ℕ) (e : CellEntry) (bytes a b c d f g h rest : List ℕ) → bytes ≡ decimal k ++ a → a ≡ codes " " ++
+    (decimal j ++ b) → b ≡ codes " " ++ (decimal e.line ++ c)
+    → c ≡ codes " " ++ d → d ≡ held_text e.gave ++ f → f ≡ codes " " ++ g → g ≡ held_text e.found ++ h → h ≡ codes "\n" ++ rest →
+    codes "c " ++ bytes ≡ cell_text k j e ++ rest
 cell_spelled k j e bytes a b c d f g h rest e1 e2 e3 e4 e5 e6 e7 e8 =
-    ap (λ (w : List ℕ). codes "c " ++ w) (e1 ∙ ap (λ (w : List ℕ). decimal k ++ w) (e2 ∙ ap (λ (w : List ℕ). codes " " ++ (decimal j ++ w)) (e3
-    ∙ ap (λ (w : List ℕ). codes " " ++ (decimal e.line ++ w)) (e4 ∙ ap (λ (w : List ℕ). codes " " ++ w) (e5 ∙ ap (λ (w : List ℕ). held_text e.gave ++ w) (e6
+    ap (λ (w : List ℕ). codes "c " ++ w)
+    (e1 ∙ ap (λ (w : List ℕ). decimal k ++ w) (e2 ∙ ap (λ (w : List ℕ). codes " " ++ (decimal j ++ w)) (e3
+    ∙ ap (λ (w : List ℕ). codes " " ++ (decimal e.line ++ w))
+    (e4 ∙ ap (λ (w : List ℕ). codes " " ++ w) (e5 ∙ ap (λ (w : List ℕ). held_text e.gave ++ w) (e6
     ∙ ap (λ (w : List ℕ). codes " " ++ w) (e7 ∙ ap (λ (w : List ℕ). held_text e.found ++ w) e8))))))) ∙ sym (cell_cut k j e rest)
 
 pub item_again : (i : Item) (rest : List ℕ) → ItemInBits i → item_in (item_text i ++ rest) ≡ Some (i, rest)
 unfolding item_in after_word record_item_in report_item_in
 item_again items.Head rest bits = refl
 item_again (items.Record e) rest bits = ap item_in (entry_cut e rest) ∙ rw (record_again e rest bits.0) refl
-item_again (items.Root p j e) rest bits = ap item_in (root_cut p j e rest) ∙ rw (root_again p j e rest bits.0.0 bits.1 bits.0.1 bits.0.2) refl
+item_again (items.Root p j e) rest bits = ap item_in (root_cut p j e rest) ∙
+    rw (root_again p j e rest bits.0.0 bits.1 bits.0.1 bits.0.2) refl
 item_again (items.Pool j e) rest bits = ap item_in (pool_cut j e rest) ∙ rw (pool_again j e rest bits.1 bits.0) refl
 item_again (items.Cell k j e) rest bits = ap item_in (cell_cut k j e rest) ∙ rw (cell_again k j e rest bits.0.0 bits.1 bits.0.1) refl
 item_again (items.Report s) rest bits = ap item_in (report_cut s rest) ∙ rw (report_again s rest bits.0) refl

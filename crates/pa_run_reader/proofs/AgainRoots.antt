@@ -30,7 +30,8 @@ unfolding after_word
 no_word c w n [] rest other h = absurd (h.written refl)
 no_word c w n (d ∷ ds) rest other h = rw (ne_eqb d c (λ e. other (omega (arith, e, h.digits.0.0)) (omega (arith, e, h.digits.0.1)))) refl
 
-pub number_or_again : (c : ℕ) (w : List ℕ) (limit : ℕ) (o : Option ℕ) (rest : List ℕ) → (48 ≤ c → c ≤ 57 → ⊥) → IfSome o (λ n. n < limit) → limit ≤ 4294967296 → IsStop rest
+pub number_or_again : (c : ℕ) (w : List ℕ) (limit : ℕ) (o : Option ℕ) (rest : List ℕ) → (48 ≤ c → c ≤ 57 → ⊥) → IfSome o (λ n. n < limit) →
+    limit ≤ 4294967296 → IsStop rest
     → number_or_in (c ∷ w) limit (number_or (c ∷ w) o ++ rest) ≡ Some (o, rest)
 unfolding number_or_in
 number_or_again c w limit None rest other small le stop = rw (behind_again (c ∷ w) rest) refl
@@ -43,9 +44,13 @@ numbered_again : (n : Numbered) (rest : List ℕ) → NumberedInBits n → IsSto
 unfolding numbered_in
 numbered_again n rest fits stop =
     ap numbered_in (cut3 (slot_text n.slot) (codes "@") (decimal n.number) rest)
-    ∙ rw (slot_again n.slot (codes "@" ++ (decimal n.number ++ rest)) fits.0 refl, wide_field_again (codes "@") n.number rest fits.1 stop) refl
+    ∙ rw (
+      slot_again n.slot (codes "@" ++ (decimal n.number ++ rest)) fits.0 refl,
+      wide_field_again (codes "@") n.number rest fits.1 stop,
+    ) refl
 
-slots_again : (k : ℕ) (slots : List Numbered) (rest : List ℕ) → length slots ≤ k → AllByRecursion NumberedInBits slots → slots_in k (slots_text slots ++ 10 ∷ rest) ≡ Some (slots, 10 ∷ rest)
+slots_again : (k : ℕ) (slots : List Numbered) (rest : List ℕ) → length slots ≤ k → AllByRecursion NumberedInBits slots →
+    slots_in k (slots_text slots ++ 10 ∷ rest) ≡ Some (slots, 10 ∷ rest)
 unfolding slots_in after_word
 slots_again zero [] rest few fits = refl
 slots_again zero (n ∷ ns) rest few fits = absurd (omega arith)
@@ -55,10 +60,12 @@ slots_again (suc k) (n ∷ ns) rest few fits =
     ap (slots_in (suc k)) (slots_cut n ns (10 ∷ rest))
     ∙ rw (numbered_again n (slots_text ns ++ 10 ∷ rest) fits.0 (slots_stop ns rest), more) refl
 
-batch_again : (slots : List Numbered) (rest : List ℕ) → 0 < length slots → length slots ≤ 16 → AllByRecursion NumberedInBits slots → batch_in (slots_text slots ++ 10 ∷ rest) ≡ Some (slots, 10 ∷ rest)
+batch_again : (slots : List Numbered) (rest : List ℕ) → 0 < length slots → length slots ≤ 16 → AllByRecursion NumberedInBits slots →
+    batch_in (slots_text slots ++ 10 ∷ rest) ≡ Some (slots, 10 ∷ rest)
 unfolding batch_in
 batch_again [] rest some' few fits = absurd (omega arith)
-batch_again (n ∷ ns) rest some' few fits = rw (slots_again 16 (n ∷ ns) rest few fits, ne_eqb (length (n ∷ ns)) 0 (λ e. omega (arith, e))) refl
+batch_again (n ∷ ns) rest some' few fits =
+    rw (slots_again 16 (n ∷ ns) rest few fits, ne_eqb (length (n ∷ ns)) 0 (λ e. omega (arith, e))) refl
 
 -- ---- what a root did
 
@@ -91,11 +98,13 @@ full_again : (c : Option ℕ) (p : ℕ) (rest : List ℕ) → RootActInBits (act
 unfolding full_in
 full_again c p rest fits =
     rw (
-      number_or_again 100 (codes "irect") 170 c (codes " " ++ (decimal p ++ 10 ∷ rest)) (λ a b. omega (arith, a, b)) fits.0 (omega arith) refl,
+      number_or_again 100 (codes "irect") 170 c (codes " " ++ (decimal p ++ 10 ∷ rest)) (λ a b. omega (arith, a, b)) fits.0
+          (omega arith) refl,
       field_again (codes " ") 4294967296 p (10 ∷ rest) fits.1 (omega arith) refl,
     ) refl
 
-unmap_again : (p : ℕ) (n : Numbered) (rest : List ℕ) → RootActInBits (acts.Unmap p n) → unmap_in (decimal p ++ (codes " " ++ (numbered_text n ++ 10 ∷ rest))) ≡ Some (acts.Unmap p n, 10 ∷ rest)
+unmap_again : (p : ℕ) (n : Numbered) (rest : List ℕ) → RootActInBits (acts.Unmap p n) →
+    unmap_in (decimal p ++ (codes " " ++ (numbered_text n ++ 10 ∷ rest))) ≡ Some (acts.Unmap p n, 10 ∷ rest)
 unfolding unmap_in
 unmap_again p n rest fits =
     rw (
@@ -104,21 +113,27 @@ unmap_again p n rest fits =
       numbered_again n (10 ∷ rest) fits.1 refl,
     ) refl
 
-root_act_again : (a : RootAct) (rest : List ℕ) → RootActInBits a → NamesSlots a → root_act_in (root_act_text a ++ 10 ∷ rest) ≡ Some (a, 10 ∷ rest)
+root_act_again : (a : RootAct) (rest : List ℕ) → RootActInBits a → NamesSlots a →
+    root_act_in (root_act_text a ++ 10 ∷ rest) ≡ Some (a, 10 ∷ rest)
 unfolding root_act_in after_word give_in
 root_act_again (acts.Fill c p s) rest fits some' =
-    ap root_act_in (cut5 (codes "fill ") (decimal c) (codes " ") (number_or (codes "-") p) (slots_text s) (10 ∷ rest)) ∙ rw (fill_again c p s rest fits some') refl
+    ap root_act_in (cut5 (codes "fill ") (decimal c) (codes " ") (number_or (codes "-") p) (slots_text s) (10 ∷ rest)) ∙
+    rw (fill_again c p s rest fits some') refl
 root_act_again (acts.Map p s l) rest fits some' =
-    ap root_act_in (cut6 (codes "map ") (decimal p) (codes " ") (slot_text s) (codes "@0 ") (decimal l) (10 ∷ rest)) ∙ rw (map_again p s l rest fits) refl
+    ap root_act_in (cut6 (codes "map ") (decimal p) (codes " ") (slot_text s) (codes "@0 ") (decimal l) (10 ∷ rest)) ∙
+    rw (map_again p s l rest fits) refl
 root_act_again (acts.Full c p) rest fits some' =
-    ap root_act_in (cut4 (codes "full ") (number_or (codes "direct") c) (codes " ") (decimal p) (10 ∷ rest)) ∙ rw (full_again c p rest fits) refl
+    ap root_act_in (cut4 (codes "full ") (number_or (codes "direct") c) (codes " ") (decimal p) (10 ∷ rest)) ∙
+    rw (full_again c p rest fits) refl
 root_act_again (acts.Give s) rest fits some' = rw (batch_again s rest some' fits.0 fits.1) refl
 root_act_again (acts.Unmap p n) rest fits some' =
     ap root_act_in (cut4 (codes "unmap ") (decimal p) (codes " ") (numbered_text n) (10 ∷ rest)) ∙ rw (unmap_again p n rest fits) refl
 root_act_again acts.Purge rest fits some' = refl
 
 pub root_again : (p j : ℕ) (e : RootEntry) (rest : List ℕ) → p < 4 → Is32 j → RootInBits e → NamesSlots e.act
-    → root_in (decimal p ++ (codes " " ++ (decimal j ++ (codes " " ++ (decimal e.line ++ (codes " " ++ (root_act_text e.act ++ 10 ∷ rest))))))) ≡ Some (items.Root p j e, rest)
+    → root_in (decimal p ++ (codes " " ++
+    (decimal j ++ (codes " " ++ (decimal e.line ++ (codes " " ++ (root_act_text e.act ++ 10 ∷ rest))))))) ≡ Some
+    (items.Root p j e, rest)
 unfolding root_in
 root_again p j e rest four small fits some' =
     let act : List ℕ = root_act_text e.act ++ 10 ∷ rest in

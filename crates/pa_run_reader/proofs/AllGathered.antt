@@ -52,14 +52,16 @@ record AreGathered (text : List ℕ) : Type 0 where
 some_same : (i j : Item) → ◌≡◌ {A = Option Item} (Some i) (Some j) → i ≡ j
 some_same i j e = cc
 
-gather : (last : Item) (g : Gathered) (is : List Item) → AreInOrder (Some last) is → Stands (item_place last) g → Kept g → AreGathered (told_to (item_place last) g ++ flat_map item_text is)
+gather : (last : Item) (g : Gathered) (is : List Item) → AreInOrder (Some last) is → Stands (item_place last) g → Kept g →
+    AreGathered (told_to (item_place last) g ++ flat_map item_text is)
 gather last g [] order s k = record {
   lists = g;
   kept = k;
   whole = sym (append-nil (told_to (item_place last) g) ∙ ap (λ (i : Item). told_to (item_place i) g) (some_same last items.End order));
 }
 gather last g (i ∷ is) order s k =
-    let rest = gather i (gathered_with i g) is order.2 (stands_next (item_place last) g i order.1 s k.room order.0) (kept_next g i k order.0) in
+    let rest = gather i (gathered_with i g) is order.2 (stands_next (item_place last) g i order.1 s k.room order.0)
+    (kept_next g i k order.0) in
     let texts : List ℕ = flat_map item_text is in record {
       lists = rest.lists;
       kept = rest.kept;
@@ -74,7 +76,8 @@ all_gathered (i ∷ is) order =
     let rest = gather items.Head nothing is behind (stands_first nothing nothing_gathered) (kept_first nothing nothing_gathered) in record {
       lists = rest.lists;
       kept = rest.kept;
-      whole = rest.whole ∙ ap (λ (w : List ℕ). w ++ flat_map item_text is) (told_first nothing nothing_gathered ∙ sym (ap item_text order.1));
+      whole = rest.whole ∙ ap (λ (w : List ℕ). w ++ flat_map item_text is)
+          (told_first nothing nothing_gathered ∙ sym (ap item_text order.1));
     }
 
 -- ---- texts in order are of one list of items
@@ -82,7 +85,8 @@ all_gathered (i ∷ is) order =
 cons_parts : {A : Type 0} (x y : A) (xs ys : List A) → x ∷ xs ≡ y ∷ ys → (x ≡ y) × (xs ≡ ys)
 cons_parts x y xs ys e = (cc, cc)
 
-same_items : (last : Option Item) (is js : List Item) → AreInOrder last is → AreInOrder last js → map item_text is ≡ map item_text js → is ≡ js
+same_items : (last : Option Item) (is js : List Item) → AreInOrder last is → AreInOrder last js → map item_text is ≡ map item_text js →
+    is ≡ js
 same_items last [] [] ha hb e = refl
 same_items last [] (b ∷ js) ha hb e = absurd (cc)
 same_items last (a ∷ is) [] ha hb e = absurd (cc)
@@ -92,12 +96,14 @@ same_items last (a ∷ is) (b ∷ js) ha hb e =
     same_cons a b is js first (same_items (Some b) is js (subst (λ (i : Item). AreInOrder (Some i) is) first ha.2) hb.2 p.1)
 
 -- items in order are those of a run
-pub items_are_run : (is : List Item) → AreInOrder None is → (g : Gathered) × ((r : Run) → TellsGathered g r → IsRunText r (flat_map item_text is) × (items_of r ≡ is))
+pub items_are_run : (is : List Item) → AreInOrder None is → (g : Gathered) ×
+    ((r : Run) → TellsGathered g r → IsRunText r (flat_map item_text is) × (items_of r ≡ is))
 items_are_run is order =
     let all = all_gathered is order in (
       all.lists,
       λ r h.
-          let text : IsRunText r (flat_map item_text is) = subst (λ (w : List ℕ). IsRunText r w) all.whole (run_told all.lists r all.kept h) in
+          let text : IsRunText r (flat_map item_text is) =
+          subst (λ (w : List ℕ). IsRunText r w) all.whole (run_told all.lists r all.kept h) in
           let texts : flat_map item_text (items_of r) ≡ flat_map item_text is = sym (items_text r) ∙ sym text.text in (
             text,
             same_items None (items_of r) is (items_ordered r (flat_map item_text is) text) order

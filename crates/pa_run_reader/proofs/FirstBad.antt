@@ -66,13 +66,19 @@ some_same i j e = cc
 -- ---- after an item
 
 bad_lines : (n : ℕ) (last : Item) (rest : List ℕ) (lines : List (List ℕ)) → lines_of rest ≡ lines → index_of last + 1 < 2 ^ 32
-    → ((i : Item) (x : List ℕ) → ItemInBits i → rest ≡ item_text i ++ x → ⊥) → (rest ≡ [] → last ≡ items.End → ⊥) → IsFirstBad n (Some last) lines n
+    → ((i : Item) (x : List ℕ) → ItemInBits i → rest ≡ item_text i ++ x → ⊥) → (rest ≡ [] → last ≡ items.End → ⊥) →
+    IsFirstBad n (Some last) lines n
 bad_lines n last rest [] e few none end = (refl, λ same. end (sym (lines_joined rest) ∙ ap joined e) (some_same last items.End same))
 bad_lines n last rest (line ∷ lines) e few none end =
-    inl (refl, λ i fits follows same. none i (joined lines) (fits, omega (arith, next_index last i follows, few)) (first_line rest line lines e ∙ ap (λ (w : List ℕ). w ++ joined lines) same))
+    inl (
+      refl,
+      λ i fits follows same. none i (joined lines) (fits, omega (arith, next_index last i follows, few))
+          (first_line rest line lines e ∙ ap (λ (w : List ℕ). w ++ joined lines) same),
+    )
 
 -- no item's line comes first, and it isn't the end of the text
-pub not_read : (n : ℕ) (last : Item) (rest : List ℕ) → index_of last + 1 < 2 ^ 32 → ((i : Item) (x : List ℕ) → ItemInBits i → rest ≡ item_text i ++ x → ⊥)
+pub not_read : (n : ℕ) (last : Item) (rest : List ℕ) → index_of last + 1 < 2 ^ 32 →
+    ((i : Item) (x : List ℕ) → ItemInBits i → rest ≡ item_text i ++ x → ⊥)
     → (rest ≡ [] → last ≡ items.End → ⊥) → IsFirstBad n (Some last) (lines_of rest) n
 not_read n last rest few none end = bad_lines n last rest (lines_of rest) refl few none end
 
@@ -80,7 +86,8 @@ lines_here : (i : Item) (rest after : List ℕ) → rest ≡ item_text i ++ afte
 lines_here i rest after e = sym (ap lines_of e ∙ item_lines i after)
 
 -- an item comes first that may not follow
-pub misplaced : (n : ℕ) (last i : Item) (rest after : List ℕ) → index_of last + 1 < 2 ^ 32 → ItemInBits i → rest ≡ item_text i ++ after → (Follows (Some last) i → ⊥)
+pub misplaced : (n : ℕ) (last i : Item) (rest after : List ℕ) → index_of last + 1 < 2 ^ 32 → ItemInBits i → rest ≡ item_text i ++ after →
+    (Follows (Some last) i → ⊥)
     → IsFirstBad n (Some last) (lines_of rest) n
 misplaced n last i rest after few bits e other =
     subst (λ (lines : List (List ℕ)). IsFirstBad n (Some last) lines n) (lines_here i rest after e)
@@ -99,20 +106,24 @@ followed n m last i rest after fits follows e h =
 
 -- ---- the head
 
-head_lines : (bytes : List ℕ) (lines : List (List ℕ)) → lines_of bytes ≡ lines → after_word (codes "run 1\n") bytes ≡ None → IsFirstBad 1 None lines 1
+head_lines : (bytes : List ℕ) (lines : List (List ℕ)) → lines_of bytes ≡ lines → after_word (codes "run 1\n") bytes ≡ None →
+    IsFirstBad 1 None lines 1
 head_lines bytes [] e none = (refl, λ same. absurd (cc))
 head_lines bytes (line ∷ lines) e none =
     inl (
       refl,
       λ i fits follows same.
-          let parts : bytes ≡ codes "run 1\n" ++ joined lines = first_line bytes line lines e ∙ ap (λ (w : List ℕ). w ++ joined lines) (same ∙ ap item_text follows) in
-          let read : after_word (codes "run 1\n") bytes ≡ Some (joined lines) = ap (after_word (codes "run 1\n")) parts ∙ behind_again (codes "run 1\n") (joined lines) in
+          let parts : bytes ≡ codes "run 1\n" ++ joined lines = first_line bytes line lines e ∙
+          ap (λ (w : List ℕ). w ++ joined lines) (same ∙ ap item_text follows) in
+          let read : after_word (codes "run 1\n") bytes ≡ Some (joined lines) = ap (after_word (codes "run 1\n")) parts ∙
+          behind_again (codes "run 1\n") (joined lines) in
           absurd (cc),
     )
 
 pub no_head : (bytes : List ℕ) → after_word (codes "run 1\n") bytes ≡ None → IsFirstBad 1 None (lines_of bytes) 1
 no_head bytes none = head_lines bytes (lines_of bytes) refl none
 
-pub head_followed : (m : ℕ) (bytes rest : List ℕ) → bytes ≡ codes "run 1\n" ++ rest → IsFirstBad 2 (Some items.Head) (lines_of rest) m → IsFirstBad 1 None (lines_of bytes) m
+pub head_followed : (m : ℕ) (bytes rest : List ℕ) → bytes ≡ codes "run 1\n" ++ rest → IsFirstBad 2 (Some items.Head) (lines_of rest) m →
+    IsFirstBad 1 None (lines_of bytes) m
 head_followed m bytes rest e h =
     subst (λ (lines : List (List ℕ)). IsFirstBad 1 None lines m) (lines_here items.Head bytes rest e) (inr (items.Head, tt, refl, refl, h))

@@ -83,7 +83,8 @@ none_yet : {A : Type 0} (xs : List A) (j : ℕ) → xs ≡ [] → j ≡ 0 → le
 none_yet xs j e z = ap length e ∙ sym z
 
 empty_roots : (l : Place) (g : Gathered) → IsBeforePool l → ((q : ℕ) → IsBeforeCell l q) → IsBeforeReport l → Stands l g → InFrontOfRoots g
-empty_roots l g pool cells report s = record { pool = s.pool pool; behind = record { cells = λ q. s.cells q (cells q); report = s.report report } }
+empty_roots l g pool cells report s =
+    record { pool = s.pool pool; behind = record { cells = λ q. s.cells q (cells q); report = s.report report } }
 
 pub front_record : (l : Place) (g : Gathered) → StandsBehind l Record → Stands l g → ((q : ℕ) → get_or g.roots q [] ≡ []) × InFrontOfRoots g
 front_record Head g h s = ((λ q. s.roots q tt), empty_roots Head g tt (λ q. tt) tt s)
@@ -92,8 +93,20 @@ front_record l g (inl h) s = absurd (omega (arith, h.0))
 front_record l g (inr h) s = absurd h
 
 pub front_root : (l : Place) (p j : ℕ) (g : Gathered) → StandsBehind l (Root p j) → Stands l g → InFrontOfRoot p j g
-front_root Head p j g (inl h) s = record { count = none_yet (get_or g.roots p []) j (s.roots p tt) h.1; later = λ q order. s.roots q tt; behind = empty_roots Head g tt (λ q. tt) tt s }
-front_root Record p j g (inl h) s = record { count = none_yet (get_or g.roots p []) j (s.roots p tt) h.1; later = λ q order. s.roots q tt; behind = empty_roots Record g tt (λ q. tt) tt s }
+front_root Head p j g (inl h) s =
+    record {
+      count = none_yet (get_or g.roots p []) j (s.roots p tt) h.1;
+      later = λ q order. s.roots q tt;
+      behind =
+          empty_roots Head g tt (λ q. tt) tt s;
+    }
+front_root Record p j g (inl h) s =
+    record {
+      count = none_yet (get_or g.roots p []) j (s.roots p tt) h.1;
+      later = λ q order. s.roots q tt;
+      behind =
+          empty_roots Record g tt (λ q. tt) tt s;
+    }
 front_root (Root r i) p j g (inr (inl h)) s = record {
   count = ap (λ (x : ℕ). length (get_or g.roots x [])) h.0 ∙ s.count ∙ sym h.1;
   later = λ q order. s.roots q (omega (arith, h.0, order));
@@ -118,7 +131,8 @@ front_pool (Pool i) j g (inr h) s = (s.count ∙ sym h, empty_pool (Pool i) g (�
 front_pool l j g (inl h) s = absurd (omega (arith, h.0))
 front_pool l j g (inr h) s = absurd h
 
-cell_after : (l : Place) (k j : ℕ) (g : Gathered) → ((q : ℕ) → IsBeforeCell l q) → IsBeforeReport l → j ≡ 0 → Stands l g → InFrontOfCell k j g
+cell_after : (l : Place) (k j : ℕ) (g : Gathered) → ((q : ℕ) → IsBeforeCell l q) → IsBeforeReport l → j ≡ 0 → Stands l g →
+    InFrontOfCell k j g
 cell_after l k j g cells report z s = record {
   count = none_yet (get_or g.cells k []) j (s.cells k (cells k)) z;
   later = λ q order. s.cells q (cells q);
@@ -146,7 +160,8 @@ front_cell l k j g (inr h) s = absurd h
 -- ---- the text of what is gathered
 
 abbrev pub told : Gathered → List ℕ
-told g = codes "run 1\n" ++ flat_map entry_text g.entries ++ roots_text g.roots ++ pools_text g.pool ++ cells_text g.cells ++ flat_map report_text g.report
+told g = codes "run 1\n" ++ flat_map entry_text g.entries ++ roots_text g.roots ++ pools_text g.pool ++ cells_text g.cells ++
+    flat_map report_text g.report
 
 -- the text up to this place
 abbrev pub told_to : Place → Gathered → List ℕ
@@ -206,7 +221,8 @@ pub record IsRoomy (g : Gathered) : Type 0 where
   pub journals : length g.roots ≡ 4
   pub histories : length g.cells ≡ 64
 
-told_next : (l : Place) (g : Gathered) (i : Item) → StandsBehind l (item_place i) → Stands l g → IsRoomy g → FitsItem i → told_to (item_place i) (gathered_with i g) ≡ told g ++ item_text i
+told_next : (l : Place) (g : Gathered) (i : Item) → StandsBehind l (item_place i) → Stands l g → IsRoomy g → FitsItem i →
+    told_to (item_place i) (gathered_with i g) ≡ told g ++ item_text i
 told_next l g items.Head h s room fits = absurd (no_head l h)
 told_next l g (items.Record e) h s room fits =
     let f = front_record l g h s in
@@ -218,7 +234,8 @@ told_next l g (items.Record e) h s room fits =
     (pool_none g f.1.pool) (cells_none g f.1.behind.cells) (report_none g f.1.behind.report) in
     let before = tail4 (codes "run 1\n" ++ flat_map entry_text g.entries) r p c t (nested_none root_text 0 g.roots f.0)
     (pool_none g f.1.pool) (cells_none g f.1.behind.cells) (report_none g f.1.behind.report) in
-    none ∙ more (codes "run 1\n") (flat_map entry_text g.entries) (flat_map entry_text (g.entries ++ e ∷ [])) (entry_text e) (flat_push entry_text g.entries e)
+    none ∙ more (codes "run 1\n") (flat_map entry_text g.entries) (flat_map entry_text (g.entries ++ e ∷ [])) (entry_text e)
+    (flat_push entry_text g.entries e)
     ∙ ap (λ (w : List ℕ). w ++ entry_text e) (sym before)
 told_next l g (items.Root p j e) h s room fits =
     let f = front_root l p j g h s in
@@ -227,9 +244,12 @@ told_next l g (items.Root p j e) h s room fits =
     let m : List ℕ = pools_text g.pool in
     let c : List ℕ = cells_text g.cells in
     let t : List ℕ = flat_map report_text g.report in
-    let none = tail3 (front ++ roots_text roots) m c t (pool_none g f.behind.pool) (cells_none g f.behind.behind.cells) (report_none g f.behind.behind.report) in
-    let before = tail3 (front ++ roots_text g.roots) m c t (pool_none g f.behind.pool) (cells_none g f.behind.behind.cells) (report_none g f.behind.behind.report) in
-    none ∙ more front (roots_text g.roots) (roots_text roots) (root_text p j e) (nested_push root_text p j g.roots e (omega (arith, fits.0, room.journals)) f.count f.later)
+    let none = tail3 (front ++ roots_text roots) m c t (pool_none g f.behind.pool) (cells_none g f.behind.behind.cells)
+    (report_none g f.behind.behind.report) in
+    let before = tail3 (front ++ roots_text g.roots) m c t (pool_none g f.behind.pool) (cells_none g f.behind.behind.cells)
+    (report_none g f.behind.behind.report) in
+    none ∙ more front (roots_text g.roots) (roots_text roots) (root_text p j e)
+    (nested_push root_text p j g.roots e (omega (arith, fits.0, room.journals)) f.count f.later)
     ∙ ap (λ (w : List ℕ). w ++ root_text p j e) (sym before)
 told_next l g (items.Pool j e) h s room fits =
     let f = front_pool l j g h s in
@@ -238,7 +258,8 @@ told_next l g (items.Pool j e) h s room fits =
     let t : List ℕ = flat_map report_text g.report in
     let none = tail2 (front ++ pools_text (g.pool ++ e ∷ [])) c t (cells_none g f.1.cells) (report_none g f.1.report) in
     let before = tail2 (front ++ pools_text g.pool) c t (cells_none g f.1.cells) (report_none g f.1.report) in
-    none ∙ more front (pools_text g.pool) (pools_text (g.pool ++ e ∷ [])) (pool_text j e) (lines_push pool_text 0 j g.pool e (omega (arith, f.0)))
+    none ∙ more front (pools_text g.pool) (pools_text (g.pool ++ e ∷ [])) (pool_text j e)
+    (lines_push pool_text 0 j g.pool e (omega (arith, f.0)))
     ∙ ap (λ (w : List ℕ). w ++ pool_text j e) (sym before)
 told_next l g (items.Cell k j e) h s room fits =
     let f = front_cell l k j g h s in
@@ -246,13 +267,16 @@ told_next l g (items.Cell k j e) h s room fits =
     let cells : List (List CellEntry) = set g.cells k (get_or g.cells k [] ++ e ∷ []) in
     let t : List ℕ = flat_map report_text g.report in
     tail1 (front ++ cells_text cells) t (report_none g f.report)
-    ∙ more front (cells_text g.cells) (cells_text cells) (cell_text k j e) (nested_push cell_text k j g.cells e (omega (arith, fits.0, room.histories)) f.count f.later)
+    ∙ more front (cells_text g.cells) (cells_text cells) (cell_text k j e)
+    (nested_push cell_text k j g.cells e (omega (arith, fits.0, room.histories)) f.count f.later)
     ∙ ap (λ (w : List ℕ). w ++ cell_text k j e) (sym (tail1 (front ++ cells_text g.cells) t (report_none g f.report)))
 told_next l g (items.Report x) h s room fits =
-    more (codes "run 1\n" ++ flat_map entry_text g.entries ++ roots_text g.roots ++ pools_text g.pool ++ cells_text g.cells) (flat_map report_text g.report) (flat_map report_text (g.report ++ x ∷ []))
+    more (codes "run 1\n" ++ flat_map entry_text g.entries ++ roots_text g.roots ++ pools_text g.pool ++ cells_text g.cells)
+    (flat_map report_text g.report) (flat_map report_text (g.report ++ x ∷ []))
     (report_text x) (flat_push report_text g.report x)
 told_next l g items.End h s room fits = refl
 
 -- the text grows by the item's line
-pub told_more : (l : Place) (g : Gathered) (i : Item) → StandsBehind l (item_place i) → Stands l g → IsRoomy g → FitsItem i → told_to (item_place i) (gathered_with i g) ≡ told_to l g ++ item_text i
+pub told_more : (l : Place) (g : Gathered) (i : Item) → StandsBehind l (item_place i) → Stands l g → IsRoomy g → FitsItem i →
+    told_to (item_place i) (gathered_with i g) ≡ told_to l g ++ item_text i
 told_more l g i h s room fits = told_next l g i h s room fits ∙ ap (λ (w : List ℕ). w ++ item_text i) (sym (not_end l (item_place i) g h))

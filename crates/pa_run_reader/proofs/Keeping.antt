@@ -22,16 +22,19 @@ use Rattle.pa_lists.proofs.Elements.{all_more}
 
 -- ---- a list of lists with one more entry in list p
 
-set_later : {A : Type 0} (lists : List (List A)) (p : ℕ) (xs : List A) → ((q : ℕ) → p < q → get_or lists q [] ≡ []) → (q : ℕ) → p < q → get_or (set lists p xs) q [] ≡ []
+set_later : {A : Type 0} (lists : List (List A)) (p : ℕ) (xs : List A) → ((q : ℕ) → p < q → get_or lists q [] ≡ []) → (q : ℕ) → p < q →
+    get_or (set lists p xs) q [] ≡ []
 set_later lists p xs none q order = get_or-set_other lists p q xs [] (λ e. omega (arith, e, order)) ∙ none q order
 
-set_count : {A : Type 0} (lists : List (List A)) (p j : ℕ) (x : A) → p < length lists → length (get_or lists p []) ≡ j → length (get_or (set lists p (get_or lists p [] ++ x ∷ [])) p []) ≡ j + 1
+set_count : {A : Type 0} (lists : List (List A)) (p j : ℕ) (x : A) → p < length lists → length (get_or lists p []) ≡ j →
+    length (get_or (set lists p (get_or lists p [] ++ x ∷ [])) p []) ≡ j + 1
 set_count lists p j x lt e =
     ap length (get_or-set_same lists p (get_or lists p [] ++ x ∷ []) [] lt) ∙ omega (arith, e, length_push (get_or lists p []) x)
 
 -- ---- places
 
-pub stands_next : (l : Place) (g : Gathered) (i : Item) → StandsBehind l (item_place i) → Stands l g → IsRoomy g → FitsItem i → Stands (item_place i) (gathered_with i g)
+pub stands_next : (l : Place) (g : Gathered) (i : Item) → StandsBehind l (item_place i) → Stands l g → IsRoomy g → FitsItem i →
+    Stands (item_place i) (gathered_with i g)
 stands_next l g items.Head h s room fits = absurd (no_head l h)
 stands_next l g (items.Record e) h s room fits =
     let f = front_record l g h s in record {
@@ -66,9 +69,23 @@ stands_next l g (items.Cell k j e) h s room fits =
       count = set_count g.cells k j e (omega (arith, fits.0, room.histories)) f.count;
     }
 stands_next l g (items.Report x) h s room fits =
-    record { roots = λ q before. absurd before; pool = λ before. absurd before; cells = λ q before. absurd before; report = λ before. absurd before; count = tt }
+    record {
+      roots = λ q before. absurd before;
+      pool = λ before. absurd before;
+      cells = λ q before. absurd before;
+      report =
+          λ before. absurd before;
+      count = tt;
+    }
 stands_next l g items.End h s room fits =
-    record { roots = λ q before. absurd before; pool = λ before. absurd before; cells = λ q before. absurd before; report = λ before. absurd before; count = tt }
+    record {
+      roots = λ q before. absurd before;
+      pool = λ before. absurd before;
+      cells = λ q before. absurd before;
+      report =
+          λ before. absurd before;
+      count = tt;
+    }
 
 -- ---- numbers
 
@@ -88,7 +105,8 @@ pub record Kept (g : Gathered) : Type 0 where
 all_nested : {A : Type 0} (P : A → Type 0) (lists : List (List A)) (p : ℕ) (x : A) → AllByRecursion (AllByRecursion P) lists → P x
     → AllByRecursion (AllByRecursion P) (set lists p (get_or lists p [] ++ x ∷ []))
 all_nested P lists p x all one =
-    all_set (AllByRecursion P) lists p (get_or lists p [] ++ x ∷ []) all (all_more P (get_or lists p []) x (all_at (AllByRecursion P) lists p [] all tt) one)
+    all_set (AllByRecursion P) lists p (get_or lists p [] ++ x ∷ []) all
+    (all_more P (get_or lists p []) x (all_at (AllByRecursion P) lists p [] all tt) one)
 
 pub kept_next : (g : Gathered) (i : Item) → Kept g → FitsItem i → Kept (gathered_with i g)
 kept_next g items.Head k fits = k
@@ -158,7 +176,8 @@ all_empty : {A : Type 0} (lists : List (List A)) → All (λ xs. xs ≡ []) list
 all_empty lists h q =
     elim (cases_lt q (length lists)) [ inl lt ↦ h q [] lt | inr past ↦ get_or_past lists q [] past ]
 
-none_nested : {A : Type 0} (P : A → Type 0) (lists : List (List A)) → ((q : ℕ) → get_or lists q [] ≡ []) → AllByRecursion (AllByRecursion P) lists
+none_nested : {A : Type 0} (P : A → Type 0) (lists : List (List A)) → ((q : ℕ) → get_or lists q [] ≡ []) →
+    AllByRecursion (AllByRecursion P) lists
 none_nested P [] h = tt
 none_nested P (xs ∷ lists) h = (subst (λ z. AllByRecursion P z) (sym (h 0)) tt, none_nested P lists (λ q. h (suc q)))
 
@@ -187,8 +206,10 @@ kept_first g u = record {
 
 pub told_first : (g : Gathered) → IsUngathered g → told g ≡ codes "run 1\n"
 told_first g u =
-    tail4 (codes "run 1\n" ++ flat_map entry_text g.entries) (roots_text g.roots) (pools_text g.pool) (cells_text g.cells) (flat_map report_text g.report)
-    (nested_none root_text 0 g.roots (all_empty g.roots u.roots)) (pool_none g u.pool) (cells_none g (all_empty g.cells u.cells)) (report_none g u.report)
+    tail4 (codes "run 1\n" ++ flat_map entry_text g.entries) (roots_text g.roots) (pools_text g.pool) (cells_text g.cells)
+    (flat_map report_text g.report)
+    (nested_none root_text 0 g.roots (all_empty g.roots u.roots)) (pool_none g u.pool) (cells_none g (all_empty g.cells u.cells))
+    (report_none g u.report)
     ∙ ap (λ (es : List Entry). codes "run 1\n" ++ flat_map entry_text es) u.entries
 
 -- ---- at the end

@@ -8,7 +8,7 @@ use Rattle.pa_trace.specs.Cut.{IsOneLine}
 use Rattle.pa_trace.proofs.Cuts.{has_no_lf, word_line, one_line_append, hex_line}
 use Rattle.pa_record.specs.declared.entry.Seen.{Seen}
 use Rattle.pa_record.specs.declared.entry.Answer.{Answer}
-use Rattle.pa_record.specs.declared.entry.Answer.TheVariants.{Made, Done, Value, Dangling, SecondFree, NotOwner, StaleReset, StaleUse, Nothing, Filled, NotRef, Shared, OutOfRange, TooLarge, Full, Swapped, Purged}
+use Rattle.pa_record.specs.declared.entry.Answer.TheVariants.{Made, Done, Value, Dangling, SecondFree, NotOwner, StaleReset, StaleUse, Nothing, Filled, NotRef, Shared, OutOfRange, TooLarge, Full, Swapped, Purged, Uncounted}
 use Rattle.pa_record.specs.declared.numbered.Numbered.{Numbered}
 use Rattle.pa_record.specs.declared.root.RootAct.{RootAct}
 use Rattle.pa_record.specs.declared.root.RootAct.TheVariants as acts
@@ -118,6 +118,7 @@ answer TooLarge = said (codes "too-large") refl
 answer (Full n) = said (codes "full ") refl & number n
 answer (Swapped n) = said (codes "swapped ") refl & number n
 answer (Purged n) = said (codes "purged ") refl & number n
+answer Uncounted = said (codes "uncounted") refl
 
 root_act : (a : RootAct) → Plain (root_act_text a)
 root_act (acts.Fill c p s) = said (codes "fill ") refl & number c & space & or_number (codes "-") p refl & slots s
@@ -142,7 +143,8 @@ tally w t e = field w t.slots e & field (codes " ") t.bytes refl
 places : (s : ReportLine) → Plain (places_text s)
 unfolding places_text
 places s =
-    field (codes "s ") s.phase refl & field (codes " ") s.partition refl & tally (codes " live ") s.live refl & tally (codes " quarantined ") s.quarantined refl
+    field (codes "s ") s.phase refl & field (codes " ") s.partition refl & tally (codes " live ") s.live refl & tally
+    (codes " quarantined ") s.quarantined refl
     & tally (codes " cached ") s.cached refl & tally (codes " root ") s.root refl
 
 sizes : (s : ReportLine) → Plain (bytes_text s)
@@ -151,7 +153,8 @@ sizes s = field (codes " committed ") s.committed refl & field (codes " reserved
 spans : (s : ReportLine) → Plain (spans_text s)
 unfolding spans_text
 spans s =
-    field (codes " full ") s.full refl & field (codes " active ") s.active refl & field (codes " empty ") s.empty refl & field (codes " decommitted ") s.decommitted refl
+    field (codes " full ") s.full refl & field (codes " active ") s.active refl & field (codes " empty ") s.empty refl & field
+    (codes " decommitted ") s.decommitted refl
 
 -- ---- lines
 
@@ -165,8 +168,11 @@ ends {line} p = (line, p.line, refl)
 pub item_line : (i : Item) → EndsOnce (item_text i)
 item_line items.Head = ends (said (codes "run 1") refl)
 item_line (items.Record e) = ends (said (codes "e ") refl & number e.line & space & number e.thread & space & answer e.answer)
-item_line (items.Root p j e) = ends (field (codes "r ") p refl & field (codes " ") j refl & field (codes " ") e.line refl & space & root_act e.act)
-item_line (items.Pool j e) = ends (field (codes "p ") j refl & field (codes " ") e.line refl & field (codes " ") e.partition refl & space & pool_act e.act)
-item_line (items.Cell k j e) = ends (field (codes "c ") k refl & field (codes " ") j refl & field (codes " ") e.line refl & space & held e.gave & space & held e.found)
+item_line (items.Root p j e) =
+    ends (field (codes "r ") p refl & field (codes " ") j refl & field (codes " ") e.line refl & space & root_act e.act)
+item_line (items.Pool j e) =
+    ends (field (codes "p ") j refl & field (codes " ") e.line refl & field (codes " ") e.partition refl & space & pool_act e.act)
+item_line (items.Cell k j e) =
+    ends (field (codes "c ") k refl & field (codes " ") j refl & field (codes " ") e.line refl & space & held e.gave & space & held e.found)
 item_line (items.Report s) = ends (places s & sizes s & spans s)
 item_line items.End = ends (said (codes "end") refl)

@@ -57,16 +57,20 @@ cell_index l p j i (inr h) k = absurd h
 ended : (a b : List ℕ) → a ≡ b → a ++ [] ≡ b ++ []
 ended a b e = ap (λ (w : List ℕ). w ++ []) e
 
-same_root : (l : Place) (p j q i : ℕ) (a b : RootEntry) → FitsItem (items.Root p j a) → FitsItem (items.Root q i b) → StandsBehind l (Root p j) → StandsBehind l (Root q i)
+same_root : (l : Place) (p j q i : ℕ) (a b : RootEntry) → FitsItem (items.Root p j a) → FitsItem (items.Root q i b) →
+    StandsBehind l (Root p j) → StandsBehind l (Root q i)
     → root_text p j a ≡ root_text q i b → items.Root p j a ≡ items.Root q i b
 same_root l p j q i a b ha hb h k e =
-    let place : p ≡ q = root_place p q j i a b [] [] (omega (arith, ha.0)) (omega (arith, hb.0)) (ended (root_text p j a) (root_text q i b) e) in
+    let place : p ≡ q = root_place p q j i a b [] [] (omega (arith, ha.0)) (omega (arith, hb.0))
+    (ended (root_text p j a) (root_text q i b) e) in
     let index : j ≡ i = root_index l p j i h (subst (λ (x : ℕ). StandsBehind l (Root x i)) (sym place) k) in
-    let text : root_text p j a ≡ root_text p j b = e ∙ sym (ap (λ (x : ℕ). root_text x i b) place) ∙ sym (ap (λ (x : ℕ). root_text p x b) index) in
+    let text : root_text p j a ≡ root_text p j b = e ∙ sym (ap (λ (x : ℕ). root_text x i b) place) ∙
+    sym (ap (λ (x : ℕ). root_text p x b) index) in
     let entry : a ≡ b = (split_root p j a b [] [] ha.1 hb.1 (ended (root_text p j a) (root_text p j b) text)).0 in
     cc
 
-same_pool : (l : Place) (j i : ℕ) (a b : PoolEntry) → FitsItem (items.Pool j a) → FitsItem (items.Pool i b) → StandsBehind l (Pool j) → StandsBehind l (Pool i)
+same_pool : (l : Place) (j i : ℕ) (a b : PoolEntry) → FitsItem (items.Pool j a) → FitsItem (items.Pool i b) → StandsBehind l (Pool j) →
+    StandsBehind l (Pool i)
     → pool_text j a ≡ pool_text i b → items.Pool j a ≡ items.Pool i b
 same_pool l j i a b ha hb h k e =
     let index : j ≡ i = pool_index l j i h k in
@@ -74,12 +78,15 @@ same_pool l j i a b ha hb h k e =
     let entry : a ≡ b = (split_pool j a b [] [] ha hb (ended (pool_text j a) (pool_text j b) text)).0 in
     cc
 
-same_cell : (l : Place) (p j q i : ℕ) (a b : CellEntry) → FitsItem (items.Cell p j a) → FitsItem (items.Cell q i b) → StandsBehind l (Cell p j) → StandsBehind l (Cell q i)
+same_cell : (l : Place) (p j q i : ℕ) (a b : CellEntry) → FitsItem (items.Cell p j a) → FitsItem (items.Cell q i b) →
+    StandsBehind l (Cell p j) → StandsBehind l (Cell q i)
     → cell_text p j a ≡ cell_text q i b → items.Cell p j a ≡ items.Cell q i b
 same_cell l p j q i a b ha hb h k e =
-    let place : p ≡ q = cell_place p q j i a b [] [] (omega (arith, ha.0)) (omega (arith, hb.0)) (ended (cell_text p j a) (cell_text q i b) e) in
+    let place : p ≡ q = cell_place p q j i a b [] [] (omega (arith, ha.0)) (omega (arith, hb.0))
+    (ended (cell_text p j a) (cell_text q i b) e) in
     let index : j ≡ i = cell_index l p j i h (subst (λ (x : ℕ). StandsBehind l (Cell x i)) (sym place) k) in
-    let text : cell_text p j a ≡ cell_text p j b = e ∙ sym (ap (λ (x : ℕ). cell_text x i b) place) ∙ sym (ap (λ (x : ℕ). cell_text p x b) index) in
+    let text : cell_text p j a ≡ cell_text p j b = e ∙ sym (ap (λ (x : ℕ). cell_text x i b) place) ∙
+    sym (ap (λ (x : ℕ). cell_text p x b) index) in
     let entry : a ≡ b = (split_cell p j a b [] [] ha.1 hb.1 (ended (cell_text p j a) (cell_text p j b) text)).0 in
     cc
 
@@ -106,18 +113,22 @@ letters_text items.End = refl
 same_letters : (i k : Item) → item_text i ≡ item_text k → letters i ≡ letters k
 same_letters i k e = sym (letters_text i) ∙ ap (λ (w : List ℕ). 1000 * get_or w 0 0 + get_or w 1 0) e ∙ letters_text k
 
-same_behind : (l : Place) (i k : Item) → FitsItem i → FitsItem k → StandsBehind l (item_place i) → StandsBehind l (item_place k) → item_text i ≡ item_text k → i ≡ k
+same_behind : (l : Place) (i k : Item) → FitsItem i → FitsItem k → StandsBehind l (item_place i) → StandsBehind l (item_place k) →
+    item_text i ≡ item_text k → i ≡ k
 unfolding letters
 same_behind l items.Head items.Head hi hk h g e = refl
-same_behind l (items.Record a) (items.Record b) hi hk h g e = ap (λ x. items.Record x) (split_entry a b [] [] hi hk (ap (λ (w : List ℕ). w ++ []) e)).0
+same_behind l (items.Record a) (items.Record b) hi hk h g e =
+    ap (λ x. items.Record x) (split_entry a b [] [] hi hk (ap (λ (w : List ℕ). w ++ []) e)).0
 same_behind l (items.Root p j a) (items.Root q i b) hi hk h g e = same_root l p j q i a b hi hk h g e
 same_behind l (items.Pool j a) (items.Pool i b) hi hk h g e = same_pool l j i a b hi hk h g e
 same_behind l (items.Cell p j a) (items.Cell q i b) hi hk h g e = same_cell l p j q i a b hi hk h g e
-same_behind l (items.Report a) (items.Report b) hi hk h g e = ap (λ x. items.Report x) (split_line a b [] [] hi hk (ap (λ (w : List ℕ). w ++ []) e)).0
+same_behind l (items.Report a) (items.Report b) hi hk h g e =
+    ap (λ x. items.Report x) (split_line a b [] [] hi hk (ap (λ (w : List ℕ). w ++ []) e)).0
 same_behind l items.End items.End hi hk h g e = refl
 same_behind l i k hi hk h g e = absurd (omega (arith, same_letters i k e))
 
-pub same_item : (last : Option Item) (i k : Item) → FitsItem i → FitsItem k → Follows last i → Follows last k → item_text i ≡ item_text k → i ≡ k
+pub same_item : (last : Option Item) (i k : Item) → FitsItem i → FitsItem k → Follows last i → Follows last k → item_text i ≡ item_text k →
+    i ≡ k
 same_item None i k hi hk h g e = h ∙ sym g
 same_item (Some l) i k hi hk h g e = same_behind (item_place l) i k hi hk h g e
 

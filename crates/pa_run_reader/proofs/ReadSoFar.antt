@@ -50,7 +50,8 @@ item_length i rest after e =
     let t = item_line i in
     omega (arith, ap length e, length-append (item_text i) after, ap length t.2, length_push t.0 10)
 
-pub reads_next : (l : Place) (n : ℕ) (g : Gathered) (i : Item) (rest after bytes : List ℕ) → IsReadTo l n g rest bytes → ItemInBits i → StandsBehind l (item_place i) → rest ≡ item_text i ++ after
+pub reads_next : (l : Place) (n : ℕ) (g : Gathered) (i : Item) (rest after bytes : List ℕ) → IsReadTo l n g rest bytes → ItemInBits i →
+    StandsBehind l (item_place i) → rest ≡ item_text i ++ after
     → IsReadTo (item_place i) (n + 1) (gathered_with i g) after bytes
 reads_next l n g i rest after bytes r bits h e =
     let follows = behind_item r.item l (item_place i) r.place h in record {
@@ -66,7 +67,8 @@ reads_next l n g i rest after bytes r bits h e =
     }
 
 -- the first item may not come there
-pub reads_misplaced : (l : Place) (n : ℕ) (g : Gathered) (i : Item) (rest after bytes : List ℕ) → length bytes < 2 ^ 32 - 2 → IsReadTo l n g rest bytes → ItemInBits i → rest ≡ item_text i ++ after
+pub reads_misplaced : (l : Place) (n : ℕ) (g : Gathered) (i : Item) (rest after bytes : List ℕ) → length bytes < 2 ^ 32 - 2 →
+    IsReadTo l n g rest bytes → ItemInBits i → rest ≡ item_text i ++ after
     → (StandsBehind l (item_place i) → ⊥) → IsFirstBad 2 (Some items.Head) (lines_of bytes) n
 reads_misplaced l n g i rest after bytes short r bits e other =
     r.fault n (misplaced n r.item i rest after (omega (arith, short, r.index, r.lines)) bits e
@@ -74,17 +76,20 @@ reads_misplaced l n g i rest after bytes short r bits e other =
 
 -- no item comes first
 pub reads_bad : (l : Place) (n : ℕ) (g : Gathered) (rest bytes : List ℕ) → length bytes < 2 ^ 32 - 2 → IsReadTo l n g rest bytes
-    → ((i : Item) (x : List ℕ) → ItemInBits i → rest ≡ item_text i ++ x → ⊥) → (rest ≡ [] → l ≡ End → ⊥) → IsFirstBad 2 (Some items.Head) (lines_of bytes) n
+    → ((i : Item) (x : List ℕ) → ItemInBits i → rest ≡ item_text i ++ x → ⊥) → (rest ≡ [] → l ≡ End → ⊥) →
+    IsFirstBad 2 (Some items.Head) (lines_of bytes) n
 reads_bad l n g rest bytes short r none other =
     r.fault n (not_read n r.item rest (omega (arith, short, r.index, r.lines)) none (λ e last. other e (sym r.place ∙ ap item_place last)))
 
 -- the end of the text
-pub reads_run : (l : Place) (n : ℕ) (g : Gathered) (rest bytes : List ℕ) (run : Run) → IsReadTo l n g rest bytes → rest ≡ [] → l ≡ End → TellsGathered g run → IsRunText run (codes "run 1\n" ++ bytes)
+pub reads_run : (l : Place) (n : ℕ) (g : Gathered) (rest bytes : List ℕ) (run : Run) → IsReadTo l n g rest bytes → rest ≡ [] → l ≡ End →
+    TellsGathered g run → IsRunText run (codes "run 1\n" ++ bytes)
 reads_run l n g rest bytes run r none last h =
     let whole : codes "run 1\n" ++ bytes ≡ told g ++ codes "end\n" =
     r.text ∙ ap (λ (w : List ℕ). told_to l g ++ w) none ∙ append-nil (told_to l g) ∙ ap (λ (x : Place). told_to x g) last in
     subst (λ (w : List ℕ). IsRunText run w) (sym whole) (run_told g run r.kept h)
 
 -- there is a journal for each partition and a history for each cell
-pub reads_lists : (l : Place) (n : ℕ) (g : Gathered) (rest bytes : List ℕ) (run : Run) → IsReadTo l n g rest bytes → TellsGathered g run → (length run.roots.items ≡ 4) × (length run.cells.items ≡ 64)
+pub reads_lists : (l : Place) (n : ℕ) (g : Gathered) (rest bytes : List ℕ) (run : Run) → IsReadTo l n g rest bytes → TellsGathered g run →
+    (length run.roots.items ≡ 4) × (length run.cells.items ≡ 64)
 reads_lists l n g rest bytes run r h = (ap length h.roots ∙ r.kept.room.journals, ap length h.cells ∙ r.kept.room.histories)

@@ -16,7 +16,10 @@ tally_again : (w : List ℕ) (t : Tally) (rest : List ℕ) → TallyInBits t →
 unfolding tally_in
 tally_again w t rest fits stop =
     ap (tally_in w) (cut3 w (decimal t.slots) (field_text (codes " ") t.bytes) rest)
-    ∙ rw (wide_field_again w t.slots (codes " " ++ (decimal t.bytes ++ rest)) fits.0 refl, wide_field_again (codes " ") t.bytes rest fits.1 stop) refl
+    ∙ rw (
+      wide_field_again w t.slots (codes " " ++ (decimal t.bytes ++ rest)) fits.0 refl,
+      wide_field_again (codes " ") t.bytes rest fits.1 stop,
+    ) refl
 
 places_again : (p : Places) (x : List ℕ) → PlacesFit p → IsStop x → places_in (places_before p x) ≡ Some (p, x)
 unfolding places_in
@@ -49,16 +52,26 @@ states_again s x fits stop =
 
 -- the parts of a line
 pub places_of : ReportLine → Places
-places_of s = record { phase = s.phase; partition = s.partition; live = s.live; quarantined = s.quarantined; cached = s.cached; root = s.root }
+places_of s = record {
+  phase = s.phase;
+  partition = s.partition;
+  live = s.live;
+  quarantined = s.quarantined;
+  cached = s.cached;
+  root =
+      s.root;
+}
 
 pub states_of : ReportLine → States
 states_of s = record { full = s.full; active = s.active; empty = s.empty; decommitted = s.decommitted }
 
 -- the line after its `s `
 abbrev pub line_before : Places → ℕ → ℕ → States → List ℕ → List ℕ
-line_before p committed reserved s x = places_before p (codes " committed " ++ (decimal committed ++ (codes " reserved " ++ (decimal reserved ++ states_before s x))))
+line_before p committed reserved s x =
+    places_before p (codes " committed " ++ (decimal committed ++ (codes " reserved " ++ (decimal reserved ++ states_before s x))))
 
-line_again : (p : Places) (committed reserved : ℕ) (s : States) (rest : List ℕ) → PlacesFit p → StatesFit s → committed < 18446744073709551616 → reserved < 18446744073709551616
+line_again : (p : Places) (committed reserved : ℕ) (s : States) (rest : List ℕ) → PlacesFit p → StatesFit s →
+    committed < 18446744073709551616 → reserved < 18446744073709551616
     → report_in (line_before p committed reserved s (10 ∷ rest)) ≡ Some (report_of p committed reserved s, rest)
 unfolding report_in
 line_again p committed reserved s rest hp hs hc hr =
@@ -71,39 +84,54 @@ line_again p committed reserved s rest hp hs hc hr =
       behind_again (codes "\n") rest,
     ) refl
 
-places_cut : (p : Places) (committed reserved : ℕ) (s : States) (x : List ℕ) → places_text (report_of p committed reserved s) ++ x ≡ codes "s " ++ places_before p x
+places_cut : (p : Places) (committed reserved : ℕ) (s : States) (x : List ℕ) → places_text (report_of p committed reserved s) ++
+    x ≡ codes "s " ++ places_before p x
 unfolding places_text
 places_cut p committed reserved s x =
-    cut6 (field_text (codes "s ") p.phase) (field_text (codes " ") p.partition) (tally_text (codes " live ") p.live) (tally_text (codes " quarantined ") p.quarantined)
+    cut6 (field_text (codes "s ") p.phase) (field_text (codes " ") p.partition) (tally_text (codes " live ") p.live)
+    (tally_text (codes " quarantined ") p.quarantined)
     (tally_text (codes " cached ") p.cached) (tally_text (codes " root ") p.root) x
 
-tail_cut : (p : Places) (committed reserved : ℕ) (s : States) (x : List ℕ) → bytes_text (report_of p committed reserved s) ++ (spans_text (report_of p committed reserved s) ++ x)
+tail_cut : (p : Places) (committed reserved : ℕ) (s : States) (x : List ℕ) → bytes_text (report_of p committed reserved s) ++
+    (spans_text (report_of p committed reserved s) ++ x)
     ≡ codes " committed " ++ (decimal committed ++ (codes " reserved " ++ (decimal reserved ++ states_before s x)))
 unfolding spans_text
 tail_cut p committed reserved s x =
-    append_assoc (field_text (codes " committed ") committed) (field_text (codes " reserved ") reserved) (spans_text (report_of p committed reserved s) ++ x)
+    append_assoc (field_text (codes " committed ") committed) (field_text (codes " reserved ") reserved)
+    (spans_text (report_of p committed reserved s) ++ x)
     ∙ ap (λ (w : List ℕ). field_text (codes " committed ") committed ++ (field_text (codes " reserved ") reserved ++ w))
-    (cut4 (field_text (codes " full ") s.full) (field_text (codes " active ") s.active) (field_text (codes " empty ") s.empty) (field_text (codes " decommitted ") s.decommitted) x)
+    (cut4 (field_text (codes " full ") s.full) (field_text (codes " active ") s.active) (field_text (codes " empty ") s.empty)
+    (field_text (codes " decommitted ") s.decommitted) x)
 
-line_cut : (p : Places) (committed reserved : ℕ) (s : States) (rest : List ℕ) → report_text (report_of p committed reserved s) ++ rest ≡ codes "s " ++ line_before p committed reserved s (10 ∷ rest)
+line_cut : (p : Places) (committed reserved : ℕ) (s : States) (rest : List ℕ) → report_text (report_of p committed reserved s) ++
+    rest ≡ codes "s " ++ line_before p committed reserved s (10 ∷ rest)
 line_cut p committed reserved s rest =
     let l : ReportLine = report_of p committed reserved s in
-    cut4 (places_text l) (bytes_text l) (spans_text l) (10 ∷ []) rest ∙ ap (λ (w : List ℕ). places_text l ++ w) (tail_cut p committed reserved s (10 ∷ rest))
-    ∙ places_cut p committed reserved s (codes " committed " ++ (decimal committed ++ (codes " reserved " ++ (decimal reserved ++ states_before s (10 ∷ rest)))))
+    cut4 (places_text l) (bytes_text l) (spans_text l) (10 ∷ []) rest ∙
+    ap (λ (w : List ℕ). places_text l ++ w) (tail_cut p committed reserved s (10 ∷ rest))
+    ∙ places_cut p committed reserved s (codes " committed " ++
+    (decimal committed ++ (codes " reserved " ++ (decimal reserved ++ states_before s (10 ∷ rest)))))
 
 -- what was read of a line's parts
-pub line_spelled : (p : Places) (committed reserved : ℕ) (s : States) (bytes a b c d rest : List ℕ) → bytes ≡ places_before p a → a ≡ codes " committed " ++ (decimal committed ++ b)
-    → b ≡ codes " reserved " ++ (decimal reserved ++ c) → c ≡ states_before s d → d ≡ codes "\n" ++ rest → codes "s " ++ bytes ≡ report_text (report_of p committed reserved s) ++ rest
+pub line_spelled : (p : Places) (committed reserved : ℕ) (s : States) (bytes a b c d rest : List ℕ) → bytes ≡ places_before p a →
+    a ≡ codes " committed " ++ (decimal committed ++ b)
+    → b ≡ codes " reserved " ++ (decimal reserved ++ c) → c ≡ states_before s d → d ≡ codes "\n" ++ rest → codes "s " ++
+    bytes ≡ report_text (report_of p committed reserved s) ++ rest
 line_spelled p committed reserved s bytes a b c d rest e f g h k =
-    ap (λ (w : List ℕ). codes "s " ++ w) (e ∙ ap (places_before p) (f ∙ ap (λ (w : List ℕ). codes " committed " ++ (decimal committed ++ w)) (g
-    ∙ ap (λ (w : List ℕ). codes " reserved " ++ (decimal reserved ++ w)) (h ∙ ap (states_before s) k)))) ∙ sym (line_cut p committed reserved s rest)
+    ap (λ (w : List ℕ). codes "s " ++ w)
+    (e ∙ ap (places_before p) (f ∙ ap (λ (w : List ℕ). codes " committed " ++ (decimal committed ++ w)) (g
+    ∙ ap (λ (w : List ℕ). codes " reserved " ++ (decimal reserved ++ w)) (h ∙ ap (states_before s) k)))) ∙
+    sym (line_cut p committed reserved s rest)
 
-pub report_again : (l : ReportLine) (rest : List ℕ) → ReportInBits l → report_in (line_before (places_of l) l.committed l.reserved (states_of l) (10 ∷ rest)) ≡ Some (l, rest)
+pub report_again : (l : ReportLine) (rest : List ℕ) → ReportInBits l →
+    report_in (line_before (places_of l) l.committed l.reserved (states_of l) (10 ∷ rest)) ≡ Some (l, rest)
 unfolding places_of states_of
 report_again l rest fits =
-    line_again (places_of l) l.committed l.reserved (states_of l) rest (fits.phase, fits.partition, fits.live, fits.quarantined, fits.cached, fits.root)
+    line_again (places_of l) l.committed l.reserved (states_of l) rest
+    (fits.phase, fits.partition, fits.live, fits.quarantined, fits.cached, fits.root)
     (fits.full, fits.active, fits.empty, fits.decommitted) fits.committed fits.reserved
 
-pub report_cut : (l : ReportLine) (rest : List ℕ) → report_text l ++ rest ≡ codes "s " ++ line_before (places_of l) l.committed l.reserved (states_of l) (10 ∷ rest)
+pub report_cut : (l : ReportLine) (rest : List ℕ) → report_text l ++ rest ≡ codes "s " ++
+    line_before (places_of l) l.committed l.reserved (states_of l) (10 ∷ rest)
 unfolding places_of states_of
 report_cut l rest = line_cut (places_of l) l.committed l.reserved (states_of l) rest

@@ -27,21 +27,26 @@ with_none (Some x) = refl
 pub slots_first : (bytes : List ℕ) → ReadSlots [] bytes bytes 0
 slots_first bytes = record { read = with_none (slots_in 16 bytes); few = refl; fits = tt; text = refl }
 
-pushed : (batch : List Numbered) (slot : Numbered) (o : Option (List Numbered × List ℕ)) → with_slots batch (slot_before slot o) ≡ with_slots (batch ++ slot ∷ []) o
+pushed : (batch : List Numbered) (slot : Numbered) (o : Option (List Numbered × List ℕ)) →
+    with_slots batch (slot_before slot o) ≡ with_slots (batch ++ slot ∷ []) o
 pushed batch slot None = refl
 pushed batch slot (Some x) = ap (λ (s : List Numbered). Some (s, x.1)) (sym (append_assoc batch (slot ∷ []) x.0))
 
-all_push : (batch : List Numbered) (slot : Numbered) → AllByRecursion NumberedInBits batch → NumberedInBits slot → AllByRecursion NumberedInBits (batch ++ slot ∷ [])
+all_push : (batch : List Numbered) (slot : Numbered) → AllByRecursion NumberedInBits batch → NumberedInBits slot →
+    AllByRecursion NumberedInBits (batch ++ slot ∷ [])
 all_push [] slot all one = (one, tt)
 all_push (m ∷ batch) slot all one = (all.0, all_push batch slot all.1 one)
 
-pub slots_cut : (n : Numbered) (ns : List Numbered) (x : List ℕ) → slots_text (n ∷ ns) ++ x ≡ codes " " ++ (numbered_text n ++ (slots_text ns ++ x))
+pub slots_cut : (n : Numbered) (ns : List Numbered) (x : List ℕ) → slots_text (n ∷ ns) ++ x ≡ codes " " ++
+    (numbered_text n ++ (slots_text ns ++ x))
 slots_cut n ns x = cut3 (codes " ") (numbered_text n) (slots_text ns) x
 
-text_push : (batch : List Numbered) (slot : Numbered) (x : List ℕ) → slots_text batch ++ (codes " " ++ (numbered_text slot ++ x)) ≡ slots_text (batch ++ slot ∷ []) ++ x
+text_push : (batch : List Numbered) (slot : Numbered) (x : List ℕ) → slots_text batch ++
+    (codes " " ++ (numbered_text slot ++ x)) ≡ slots_text (batch ++ slot ∷ []) ++ x
 text_push [] slot x = sym (slots_cut slot [] x)
 text_push (m ∷ batch) slot x =
-    slots_cut m batch (codes " " ++ (numbered_text slot ++ x)) ∙ ap (λ (w : List ℕ). codes " " ++ (numbered_text m ++ w)) (text_push batch slot x)
+    slots_cut m batch (codes " " ++ (numbered_text slot ++ x)) ∙
+    ap (λ (w : List ℕ). codes " " ++ (numbered_text m ++ w)) (text_push batch slot x)
     ∙ sym (slots_cut m (batch ++ slot ∷ []) x)
 
 one_slot : (k : ℕ) (slot : Numbered) (rest front after : List ℕ) → after_word (codes " ") rest ≡ Some front
@@ -50,15 +55,19 @@ unfolding slots_in
 one_slot k slot rest front after e f = rw (e, f) refl
 
 -- one slot more
-pub slots_more : (i : ℕ) (batch : List Numbered) (slot : Numbered) (rest front after bytes : List ℕ) → i < 16 → after_word (codes " ") rest ≡ Some front → rest ≡ codes " " ++ front
-    → numbered_in front ≡ Some (slot, after) → NumberedInBits slot → front ≡ numbered_text slot ++ after → ReadSlots batch rest bytes i → ReadSlots (batch ++ slot ∷ []) after bytes (i + 1)
+pub slots_more : (i : ℕ) (batch : List Numbered) (slot : Numbered) (rest front after bytes : List ℕ) → i < 16 →
+    after_word (codes " ") rest ≡ Some front → rest ≡ codes " " ++ front
+    → numbered_in front ≡ Some (slot, after) → NumberedInBits slot → front ≡ numbered_text slot ++ after → ReadSlots batch rest bytes i →
+    ReadSlots (batch ++ slot ∷ []) after bytes (i + 1)
 slots_more i batch slot rest front after bytes lt e parts f fits spelled so_far =
     let step : 16 - i ≡ suc (16 - (i + 1)) = omega arith in
     let one = one_slot (16 - (i + 1)) slot rest front after e f in record {
-      read = so_far.read ∙ ap (λ (k : ℕ). with_slots batch (slots_in k rest)) step ∙ ap (with_slots batch) one ∙ pushed batch slot (slots_in (16 - (i + 1)) after);
+      read = so_far.read ∙ ap (λ (k : ℕ). with_slots batch (slots_in k rest)) step ∙ ap (with_slots batch) one ∙
+          pushed batch slot (slots_in (16 - (i + 1)) after);
       few = length-append batch (slot ∷ []) ∙ omega (arith, so_far.few);
       fits = all_push batch slot so_far.fits fits;
-      text = so_far.text ∙ ap (λ (w : List ℕ). slots_text batch ++ w) (parts ∙ ap (λ (w : List ℕ). codes " " ++ w) spelled) ∙ text_push batch slot after;
+      text = so_far.text ∙ ap (λ (w : List ℕ). slots_text batch ++ w) (parts ∙ ap (λ (w : List ℕ). codes " " ++ w) spelled) ∙
+          text_push batch slot after;
     }
 
 -- if no space follows, or that many are read, the batch ends
@@ -71,15 +80,19 @@ pub none_left : (rest : List ℕ) → slots_in 0 rest ≡ Some ([], rest)
 unfolding slots_in
 none_left rest = refl
 
-pub slots_here : (i : ℕ) (batch : List Numbered) (rest bytes : List ℕ) → ReadSlots batch rest bytes i → slots_in (16 - i) rest ≡ Some ([], rest) → slots_in 16 bytes ≡ Some (batch, rest)
-slots_here i batch rest bytes so_far e = so_far.read ∙ ap (with_slots batch) e ∙ ap (λ (s : List Numbered). Some (s, rest)) (append-nil batch)
+pub slots_here : (i : ℕ) (batch : List Numbered) (rest bytes : List ℕ) → ReadSlots batch rest bytes i →
+    slots_in (16 - i) rest ≡ Some ([], rest) → slots_in 16 bytes ≡ Some (batch, rest)
+slots_here i batch rest bytes so_far e = so_far.read ∙ ap (with_slots batch) e ∙
+    ap (λ (s : List Numbered). Some (s, rest)) (append-nil batch)
 
-pub slots_all : (i : ℕ) (batch : List Numbered) (rest bytes : List ℕ) → ReadSlots batch rest bytes i → i ≡ 16 → slots_in 16 bytes ≡ Some (batch, rest)
+pub slots_all : (i : ℕ) (batch : List Numbered) (rest bytes : List ℕ) → ReadSlots batch rest bytes i → i ≡ 16 →
+    slots_in 16 bytes ≡ Some (batch, rest)
 slots_all i batch rest bytes so_far all =
     let none : 16 - i ≡ 0 = omega arith in
     slots_here i batch rest bytes so_far (ap (λ (k : ℕ). slots_in k rest) none ∙ none_left rest)
 
-bad_slot : (k : ℕ) (rest front : List ℕ) → after_word (codes " ") rest ≡ Some front → numbered_in front ≡ None → slots_in (suc k) rest ≡ None
+bad_slot : (k : ℕ) (rest front : List ℕ) → after_word (codes " ") rest ≡ Some front → numbered_in front ≡ None →
+    slots_in (suc k) rest ≡ None
 unfolding slots_in
 bad_slot k rest front e f = rw (e, f) refl
 

@@ -19,13 +19,16 @@ use Rattle.pa_run_reader.specs.Order.{item_place, kind, Follows, numbered_items,
 
 -- ---- texts
 
-numbered_text : {A : Type 0} (at : ℕ → A → Item) (f : ℕ → A → List ℕ) → ((j : ℕ) (x : A) → item_text (at j x) ≡ f j x) → (n : ℕ) (xs : List A)
+numbered_text : {A : Type 0} (at : ℕ → A → Item) (f : ℕ → A → List ℕ) → ((j : ℕ) (x : A) → item_text (at j x) ≡ f j x) →
+    (n : ℕ) (xs : List A)
     → flat_map item_text (numbered_items at n xs) ≡ lines_from f n xs
 numbered_text at f same n [] = refl
 numbered_text at f same n (x ∷ xs) =
-    ap (λ (w : List ℕ). w ++ flat_map item_text (numbered_items at (n + 1) xs)) (same n x) ∙ ap (λ (w : List ℕ). f n x ++ w) (numbered_text at f same (n + 1) xs)
+    ap (λ (w : List ℕ). w ++ flat_map item_text (numbered_items at (n + 1) xs)) (same n x) ∙
+    ap (λ (w : List ℕ). f n x ++ w) (numbered_text at f same (n + 1) xs)
 
-listed_text : {A : Type 0} (at : ℕ → ℕ → A → Item) (f : ℕ → ℕ → A → List ℕ) → ((p j : ℕ) (x : A) → item_text (at p j x) ≡ f p j x) → (p : ℕ) (lists : List (List A))
+listed_text : {A : Type 0} (at : ℕ → ℕ → A → Item) (f : ℕ → ℕ → A → List ℕ) → ((p j : ℕ) (x : A) → item_text (at p j x) ≡ f p j x) →
+    (p : ℕ) (lists : List (List A))
     → flat_map item_text (listed_items at p lists) ≡ nested f p lists
 listed_text at f same p [] = refl
 listed_text at f same p (xs ∷ lists) =
@@ -33,11 +36,13 @@ listed_text at f same p (xs ∷ lists) =
     ∙ ap (λ (w : List ℕ). w ++ flat_map item_text (listed_items at (p + 1) lists)) (numbered_text (at p) (f p) (same p) 0 xs)
     ∙ ap (λ (w : List ℕ). lines_from (f p) 0 xs ++ w) (listed_text at f same (p + 1) lists)
 
-plain_text : {A : Type 0} (at : A → Item) (f : A → List ℕ) → ((x : A) → item_text (at x) ≡ f x) → (xs : List A) → flat_map item_text (map at xs) ≡ flat_map f xs
+plain_text : {A : Type 0} (at : A → Item) (f : A → List ℕ) → ((x : A) → item_text (at x) ≡ f x) → (xs : List A) →
+    flat_map item_text (map at xs) ≡ flat_map f xs
 plain_text at f same [] = refl
-plain_text at f same (x ∷ xs) = ap (λ (w : List ℕ). w ++ flat_map item_text (map at xs)) (same x) ∙ ap (λ (w : List ℕ). f x ++ w) (plain_text at f same xs)
+plain_text at f same (x ∷ xs) = ap (λ (w : List ℕ). w ++ flat_map item_text (map at xs)) (same x) ∙
+    ap (λ (w : List ℕ). f x ++ w) (plain_text at f same xs)
 
--- a part more
+-- a part's text, put behind what was told
 part : (h is t u : List ℕ) → h ≡ t → is ≡ u → h ++ is ≡ t ++ u
 part h is t u e f = cc
 
@@ -52,11 +57,16 @@ items_text r =
     let pool = numbered_items (λ j e. items.Pool j e) 0 r.pool.items in
     let cells = listed_items (λ k j e. items.Cell k j e) 0 r.cells.items in
     let report = map (λ l. items.Report l) r.report.items in
-    let first = joined_items head entries (codes "run 1\n") (flat_map entry_text r.entries.items) refl (plain_text (λ e. items.Record e) entry_text (λ e. refl) r.entries.items) in
-    let second = joined_items (head ++ entries) roots _ _ first (listed_text (λ p j e. items.Root p j e) root_text (λ p j e. refl) 0 r.roots.items) in
-    let third = joined_items (head ++ entries ++ roots) pool _ _ second (numbered_text (λ j e. items.Pool j e) pool_text (λ j e. refl) 0 r.pool.items) in
-    let fourth = joined_items (head ++ entries ++ roots ++ pool) cells _ _ third (listed_text (λ k j e. items.Cell k j e) cell_text (λ k j e. refl) 0 r.cells.items) in
-    let fifth = joined_items (head ++ entries ++ roots ++ pool ++ cells) report _ _ fourth (plain_text (λ l. items.Report l) report_text (λ l. refl) r.report.items) in
+    let first = joined_items head entries (codes "run 1\n") (flat_map entry_text r.entries.items) refl
+    (plain_text (λ e. items.Record e) entry_text (λ e. refl) r.entries.items) in
+    let second = joined_items (head ++ entries) roots _ _ first
+    (listed_text (λ p j e. items.Root p j e) root_text (λ p j e. refl) 0 r.roots.items) in
+    let third = joined_items (head ++ entries ++ roots) pool _ _ second
+    (numbered_text (λ j e. items.Pool j e) pool_text (λ j e. refl) 0 r.pool.items) in
+    let fourth = joined_items (head ++ entries ++ roots ++ pool) cells _ _ third
+    (listed_text (λ k j e. items.Cell k j e) cell_text (λ k j e. refl) 0 r.cells.items) in
+    let fifth = joined_items (head ++ entries ++ roots ++ pool ++ cells) report _ _ fourth
+    (plain_text (λ l. items.Report l) report_text (λ l. refl) r.report.items) in
     let whole = joined_items (head ++ entries ++ roots ++ pool ++ cells ++ report) (items.End ∷ []) _ (codes "end\n") fifth refl in
     sym whole
 
@@ -82,7 +92,8 @@ begin_report (items.Pool j e) l h = inl (omega arith, tt)
 begin_report (items.Cell k j e) l h = inl (omega arith, tt)
 begin_report items.End l h = absurd (omega (arith, h))
 
-report_goes : (ls : List ReportLine) (tail : List Item) → AllByRecursion ReportInBits ls → Goes (IsUpTo 5) tail → Goes (IsUpTo 5) (map (λ l. items.Report l) ls ++ tail)
+report_goes : (ls : List ReportLine) (tail : List Item) → AllByRecursion ReportInBits ls → Goes (IsUpTo 5) tail →
+    Goes (IsUpTo 5) (map (λ l. items.Report l) ls ++ tail)
 report_goes [] tail fits goes last h = goes last h
 report_goes (l ∷ ls) tail fits goes last h = (fits.0, begin_report last l h, report_goes ls tail fits.1 goes (items.Report l) (omega arith))
 
@@ -95,7 +106,8 @@ begin_record (items.Pool j x) e h = absurd (omega (arith, h))
 begin_record (items.Cell k j x) e h = absurd (omega (arith, h))
 begin_record items.End e h = absurd (omega (arith, h))
 
-record_goes : (es : List Entry) (tail : List Item) → AllByRecursion EntryInBits es → Goes (IsUpTo 1) tail → Goes (IsUpTo 1) (map (λ e. items.Record e) es ++ tail)
+record_goes : (es : List Entry) (tail : List Item) → AllByRecursion EntryInBits es → Goes (IsUpTo 1) tail →
+    Goes (IsUpTo 1) (map (λ e. items.Record e) es ++ tail)
 record_goes [] tail fits goes last h = goes last h
 record_goes (e ∷ es) tail fits goes last h = (fits.0, begin_record last e h, record_goes es tail fits.1 goes (items.Record e) (omega arith))
 
@@ -108,12 +120,15 @@ IsPoolDue j i = (x : PoolEntry) → Follows (Some i) (items.Pool j x)
 begin_pool : (last : Item) → IsUpTo 2 last → IsPoolDue 0 last
 begin_pool last h x = inl (omega (arith, h), refl)
 
-pool_rest : (j : ℕ) (es : List PoolEntry) (tail : List Item) → AllByRecursion PoolInBits es → Goes (IsUpTo 3) tail → (last : Item) → IsUpTo 3 last → IsPoolDue j last
+pool_rest : (j : ℕ) (es : List PoolEntry) (tail : List Item) → AllByRecursion PoolInBits es → Goes (IsUpTo 3) tail → (last : Item) →
+    IsUpTo 3 last → IsPoolDue j last
     → AreInOrder (Some last) (numbered_items (λ j e. items.Pool j e) j es ++ tail)
 pool_rest j [] tail fits goes last h due = goes last h
-pool_rest j (e ∷ es) tail fits goes last h due = (fits.0, due e, pool_rest (j + 1) es tail fits.1 goes (items.Pool j e) (omega arith) (λ x. inr refl))
+pool_rest j (e ∷ es) tail fits goes last h due =
+    (fits.0, due e, pool_rest (j + 1) es tail fits.1 goes (items.Pool j e) (omega arith) (λ x. inr refl))
 
-pool_goes : (es : List PoolEntry) (tail : List Item) → AllByRecursion PoolInBits es → Goes (IsUpTo 3) tail → Goes (IsUpTo 2) (numbered_items (λ j e. items.Pool j e) 0 es ++ tail)
+pool_goes : (es : List PoolEntry) (tail : List Item) → AllByRecursion PoolInBits es → Goes (IsUpTo 3) tail →
+    Goes (IsUpTo 2) (numbered_items (λ j e. items.Pool j e) 0 es ++ tail)
 pool_goes es tail fits goes last h = pool_rest 0 es tail fits goes last (omega (arith, h)) (begin_pool last h)
 
 -- ---- items in lists
@@ -128,19 +143,22 @@ record AreLists {A : Type 0} (P : A → Type 0) (most : ℕ) (at : ℕ → ℕ �
   later : (p : ℕ) (last : Item) → Up p last → Up (p + 1) last
 
 module _ {A : Type 0} (P : A → Type 0) (most : ℕ) (at : ℕ → ℕ → A → Item) (Up : ℕ → Item → Type 0) (known : AreLists P most at Up) where
-  list_rest : (p j : ℕ) (xs : List A) (tail : List Item) → p < most → AllByRecursion P xs → Goes (Up (p + 1)) tail → (last : Item) → Up (p + 1) last → ((x : A) → Follows (Some last) (at p j x))
+  list_rest : (p j : ℕ) (xs : List A) (tail : List Item) → p < most → AllByRecursion P xs → Goes (Up (p + 1)) tail → (last : Item) →
+      Up (p + 1) last → ((x : A) → Follows (Some last) (at p j x))
       → AreInOrder (Some last) (numbered_items (at p) j xs ++ tail)
   list_rest p j [] tail lt fits goes last up due = goes last up
   list_rest p j (x ∷ xs) tail lt fits goes last up due =
       (known.fits p j x lt fits.0, due x, list_rest p (j + 1) xs tail lt fits.1 goes (at p j x) (known.up p j x) (λ y. known.next p j x y))
 
-  lists_go : (p : ℕ) (lists : List (List A)) (tail : List Item) → p + length lists ≤ most → AllByRecursion (AllByRecursion P) lists → Goes (Up (p + length lists)) tail
+  lists_go : (p : ℕ) (lists : List (List A)) (tail : List Item) → p + length lists ≤ most → AllByRecursion (AllByRecursion P) lists →
+      Goes (Up (p + length lists)) tail
       → Goes (Up p) (listed_items at p lists ++ tail)
   lists_go p [] tail few fits goes last h = goes last (subst (λ (q : ℕ). Up q last) (omega arith) h)
   lists_go p (xs ∷ lists) tail few fits goes last h =
       let rest = lists_go (p + 1) lists tail (omega arith) fits.1 (λ l k. goes l (subst (λ (q : ℕ). Up q l) (omega arith) k)) in
       subst (λ is. AreInOrder (Some last) is) (sym (append_assoc (numbered_items (at p) 0 xs) (listed_items at (p + 1) lists) tail))
-      (list_rest p 0 xs (listed_items at (p + 1) lists ++ tail) (omega arith) fits.0 rest last (known.later p last h) (λ x. known.first p last x h))
+      (list_rest p 0 xs (listed_items at (p + 1) lists ++ tail) (omega arith) fits.0 rest last (known.later p last h)
+      (λ x. known.first p last x h))
 
 -- before the journal of partition p
 abbrev IsUpToRoot : ℕ → Item → Type 0
@@ -270,11 +288,16 @@ items_ordered r bytes h =
     let last : List Item = items.End ∷ [] in
     let five : Goes (IsUpTo 5) (report ++ last) = report_goes r.report.items last h.fits.report end_goes in
     let four : Goes (IsUpToCell 0) (cells ++ (report ++ last)) =
-    lists_go CellInBits 64 (λ k j e. items.Cell k j e) IsUpToCell cells_listed 0 r.cells.items (report ++ last) (omega (arith, h.form.cells)) h.fits.cells
+    lists_go CellInBits 64 (λ k j e. items.Cell k j e) IsUpToCell cells_listed 0 r.cells.items (report ++ last)
+    (omega (arith, h.form.cells)) h.fits.cells
     (λ l up. five l (cell_kind (0 + length r.cells.items) l up)) in
     let three = pool_goes r.pool.items (cells ++ (report ++ last)) h.fits.pool (λ l up. four l (cell_begin l up)) in
     let two : Goes (IsUpToRoot 0) (roots ++ (pool ++ (cells ++ (report ++ last)))) =
-    lists_go IsRootFit 4 (λ p j e. items.Root p j e) IsUpToRoot roots_listed 0 r.roots.items (pool ++ (cells ++ (report ++ last))) (omega (arith, h.form.roots))
-    (all_both RootInBits (λ e. NamesSlots e.act) r.roots.items h.fits.roots h.form.slots) (λ l up. three l (root_kind (0 + length r.roots.items) l up)) in
-    let one = record_goes r.entries.items (roots ++ (pool ++ (cells ++ (report ++ last)))) h.fits.entries (λ l up. two l (root_begin l up)) in
-    subst (λ is. AreInOrder None is) (sym (items_cut (items.Head ∷ []) entries roots pool cells report last)) (tt, refl, one items.Head (omega arith))
+    lists_go IsRootFit 4 (λ p j e. items.Root p j e) IsUpToRoot roots_listed 0 r.roots.items (pool ++ (cells ++ (report ++ last)))
+    (omega (arith, h.form.roots))
+    (all_both RootInBits (λ e. NamesSlots e.act) r.roots.items h.fits.roots h.form.slots)
+    (λ l up. three l (root_kind (0 + length r.roots.items) l up)) in
+    let one = record_goes r.entries.items (roots ++ (pool ++ (cells ++ (report ++ last)))) h.fits.entries
+    (λ l up. two l (root_begin l up)) in
+    subst (λ is. AreInOrder None is) (sym (items_cut (items.Head ∷ []) entries roots pool cells report last))
+    (tt, refl, one items.Head (omega arith))

@@ -27,7 +27,8 @@ pub too_wide : (value d first : ℕ) (rest after bytes : List ℕ) → digit_at 
 too_wide value d first rest after bytes e same large =
     let all = goes_on value d first rest after bytes e same in
     let grown = digits_grow after (10 * value + d) in
-    let top : 18446744073709551616 ≤ (digits_from first bytes).0 = subst (λ (x : ℕ × List ℕ). 18446744073709551616 ≤ x.0) all (omega (arith, grown)) in
+    let top : 18446744073709551616 ≤ (digits_from first bytes).0 =
+    subst (λ (x : ℕ × List ℕ). 18446744073709551616 ≤ x.0) all (omega (arith, grown)) in
     rw (le-ltb (digits_from first bytes).0 18446744073709551616 top) refl
 
 -- at the end
@@ -38,7 +39,8 @@ all_read value first rest bytes e same small =
     ap narrowed last ∙ rw (lt-ltb value 18446744073709551616 small) refl
 
 -- if one of the digits is none
-pub hexes_end : (count k value : ℕ) (bytes rest : List ℕ) → hexes_at k bytes ≡ Some (value, rest) → hex_at rest ≡ None → k < count → hexes_at count bytes ≡ None
+pub hexes_end : (count k value : ℕ) (bytes rest : List ℕ) → hexes_at k bytes ≡ Some (value, rest) → hex_at rest ≡ None → k < count →
+    hexes_at count bytes ≡ None
 hexes_end count k value bytes rest e none lt =
     let least : (count - (k + 1)) + (k + 1) ≡ count = omega arith in
     subst (λ (m : ℕ). hexes_at m bytes ≡ None) least (hexes_none (k + 1) (count - (k + 1)) bytes (hexes_stop k value bytes rest e none))
@@ -47,5 +49,6 @@ hexes_end count k value bytes rest e none lt =
 pub hexes_bound : (k value : ℕ) (bytes rest : List ℕ) → hexes_at k bytes ≡ Some (value, rest) → value < 16 ^ k
 hexes_bound k value bytes rest e = (hexes_take k bytes (value, rest) e).1
 
-pub hexes_all : (count k value : ℕ) (bytes rest : List ℕ) → hexes_at k bytes ≡ Some (value, rest) → k ≡ count → hexes_at count bytes ≡ Some (value, rest)
+pub hexes_all : (count k value : ℕ) (bytes rest : List ℕ) → hexes_at k bytes ≡ Some (value, rest) → k ≡ count →
+    hexes_at count bytes ≡ Some (value, rest)
 hexes_all count k value bytes rest e same = subst (λ (m : ℕ). hexes_at m bytes ≡ Some (value, rest)) same e

@@ -4,7 +4,7 @@ use Rattle.pa_text.specs.Reading.{◌>>=◌}
 use Rattle.pa_record.specs.declared.entry.Entry.{Entry}
 use Rattle.pa_record.specs.declared.entry.Seen.{Seen}
 use Rattle.pa_record.specs.declared.entry.Answer.{Answer}
-use Rattle.pa_record.specs.declared.entry.Answer.TheVariants.{Made, Done, Value, Dangling, SecondFree, NotOwner, StaleReset, StaleUse, Nothing, Filled, NotRef, Shared, OutOfRange, TooLarge, Full, Swapped, Purged}
+use Rattle.pa_record.specs.declared.entry.Answer.TheVariants.{Made, Done, Value, Dangling, SecondFree, NotOwner, StaleReset, StaleUse, Nothing, Filled, NotRef, Shared, OutOfRange, TooLarge, Full, Swapped, Purged, Uncounted}
 use Rattle.pa_run_reader.specs.Reading.{after_word, either, first_read, below_at, below_in, hexes_in, slot_in}
 
 -- ---- answers
@@ -96,7 +96,8 @@ plain_answer_in bytes =
     (either (after_word (codes "filled") bytes) (λ rest. Some (Filled, rest))
     (either (after_word (codes "not-ref") bytes) (λ rest. Some (NotRef, rest))
     (either (after_word (codes "out-of-range") bytes) (λ rest. Some (OutOfRange, rest))
-    (either (after_word (codes "too-large") bytes) (λ rest. Some (TooLarge, rest)) None)))))
+    (either (after_word (codes "too-large") bytes) (λ rest. Some (TooLarge, rest))
+    (either (after_word (codes "uncounted") bytes) (λ rest. Some (Uncounted, rest)) None))))))
 
 -- the answer with the number that was read, if one was
 abbrev pub with_number : (ℕ → Answer) → Option (ℕ × List ℕ) → Option (Answer × List ℕ)

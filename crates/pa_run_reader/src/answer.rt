@@ -181,6 +181,9 @@ fn plain_answer(bytes: &[u8]) -> Option<(Answer, &[u8])>
     if let Some(rest) = behind(b"too-large", bytes) {
         return Some((Answer::TooLarge, rest));
     }
+    if let Some(rest) = behind(b"uncounted", bytes) {
+        return Some((Answer::Uncounted, rest));
+    }
     None
 }
 

@@ -9,7 +9,8 @@ use Rattle.pa_record.specs.declared.run.Run.{Run}
 use Rattle.pa_record.specs.RunText.{IsRunText}
 
 -- the run has these records, journals, entries of the pool, histories and lines of the report
-pub record HasLists (records : List Entry) (journals : List (List RootEntry)) (turns : List PoolEntry) (histories : List (List CellEntry)) (lines : List ReportLine)
+pub record HasLists (records : List Entry) (journals : List (List RootEntry)) (turns : List PoolEntry) (histories : List (List CellEntry))
+    (lines : List ReportLine)
     (r : Run) : Type 0 where
   pub entries : r.entries.items ≡ records
   pub roots : r.roots.items ≡ journals
@@ -18,7 +19,8 @@ pub record HasLists (records : List Entry) (journals : List (List RootEntry)) (t
   pub report : r.report.items ≡ lines
 
 -- the bytes are the text of a run that has these lists
-pub record IsTextOfLists (records : List Entry) (journals : List (List RootEntry)) (turns : List PoolEntry) (histories : List (List CellEntry)) (lines : List ReportLine)
+pub record IsTextOfLists (records : List Entry) (journals : List (List RootEntry)) (turns : List PoolEntry)
+    (histories : List (List CellEntry)) (lines : List ReportLine)
     (bytes : List ℕ) : Type 0 where
   pub run : Run
   pub lists : HasLists records journals turns histories lines run

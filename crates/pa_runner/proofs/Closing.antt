@@ -79,14 +79,16 @@ names_numbered v [] = refl
 names_numbered v (u ∷ ts) = ap (λ ss. name_of u ∷ ss) (names_numbered v ts)
 
 -- the entries of a thread's records are those of its number
-thread_entries : (k : ℕ) (xs : List ToldRecord) → map entry_of (played_in (filter (is_of_thread k) xs)) ≡ filter (is_entry_of k) (map entry_of (played_in xs))
+thread_entries : (k : ℕ) (xs : List ToldRecord) →
+    map entry_of (played_in (filter (is_of_thread k) xs)) ≡ filter (is_entry_of k) (map entry_of (played_in xs))
 thread_entries k [] = refl
 thread_entries k (x ∷ xs) = elim (cases_Bool (x.played.thread == k)) [
   | inl y ↦ rw y (ap (λ es. entry_of x.played ∷ es) (thread_entries k xs))
   | inr n ↦ rw n (thread_entries k xs)
 ]
 
-module _ (t : Trace) (workers : List WorkerValue) (seat : View) (report : List ReportLine) (limits : IsWithinLimits t) (went : HasPlayed t workers seat report) where
+module _ (t : Trace) (workers : List WorkerValue) (seat : View) (report : List ReportLine) (limits : IsWithinLimits t)
+    (went : HasPlayed t workers seat report) where
   -- ---- the records, before the close
 
   pub are_merged : IsMergeOf t.lines workers (entries_of t went.course)
@@ -102,10 +104,13 @@ module _ (t : Trace) (workers : List WorkerValue) (seat : View) (report : List R
         due = records_are_lines.due (rules_of t) t.lines (played_in ts) (are_lines t c limits course);
         theirs = λ k below.
             let few : k < t.threads = omega arith in
-            let told : (worker_in workers k).records ≡ (worker_in went.ends k).records = ap (λ (w : WorkerValue). w.records) (went.told.told k few) in
-            let ended : (c.ends n k).records ≡ (worker_in went.ends k).records = ap (λ (w : WorkerValue). w.records) (went.ended.ends k few) in
+            let told : (worker_in workers k).records ≡ (worker_in went.ends k).records =
+            ap (λ (w : WorkerValue). w.records) (went.told.told k few) in
+            let ended : (c.ends n k).records ≡ (worker_in went.ends k).records =
+            ap (λ (w : WorkerValue). w.records) (went.ended.ends k few) in
             told ∙ (sym ended ∙ (theirs.records n k (omega arith) (omega arith) few
-            ∙ (ap (λ (xs : List ToldRecord). map entry_of (played_in (filter (is_of_thread k) xs))) (all_until t c limits course) ∙ thread_entries k ts)));
+            ∙ (ap (λ (xs : List ToldRecord). map entry_of (played_in (filter (is_of_thread k) xs))) (all_until t c limits course) ∙
+            thread_entries k ts)));
       }
 
   -- as the slices of both are
@@ -124,7 +129,8 @@ module _ (t : Trace) (workers : List WorkerValue) (seat : View) (report : List R
 
   -- ---- the whole run
 
-  module _ (words : ℕ) (left : Left) (long : words ≡ 262144 * t.region) (four : length left.roots ≡ 4) (closed : IsClosedBy words workers seat left) where
+  module _ (words : ℕ) (left : Left) (long : words ≡ 262144 * t.region) (four : length left.roots ≡ 4)
+      (closed : IsClosedBy words workers seat left) where
     abbrev pub run_told : Told
     run_told = told_of t went.course left report
 
@@ -138,7 +144,8 @@ module _ (t : Trace) (workers : List WorkerValue) (seat : View) (report : List R
         aware = closed.aware;
         every = closed.every;
         logs = λ k. closed.logs k ∙ ap (log_of k) (sym went.ended.seat);
-        sees = subst (λ s. HasSeenAll s closed.last) (sym went.ended.seat) (record { lists = closed.within.lists; seen = closed.within.seen });
+        sees = subst (λ s. HasSeenAll s closed.last) (sym went.ended.seat)
+            (record { lists = closed.within.lists; seen = closed.within.seen });
       };
       left = record {
         limits = limits;
@@ -197,7 +204,8 @@ module _ (t : Trace) (workers : List WorkerValue) (seat : View) (report : List R
     -- what a worker had on its lists when it handed its stake over it had there at the end of the last phase
     same_lists : (k : ℕ) → k < t.threads → (worker_in workers k).stock.caches ≡ (went.course.ends (phases_in t.lines) k).stock.caches
     same_lists k few =
-        ap (λ (w : WorkerValue). w.stock.caches) (went.told.told k few) ∙ ap (λ (w : WorkerValue). w.stock.caches) (sym (went.ended.ends k few))
+        ap (λ (w : WorkerValue). w.stock.caches) (went.told.told k few) ∙
+        ap (λ (w : WorkerValue). w.stock.caches) (sym (went.ended.ends k few))
 
     -- the lists at the end are those to which the records lead
     lists_lead : CachesTo t.partitions run_told.roots no_caches (records_of t run_told) (lists_at t went.course (phases_in t.lines))
@@ -208,25 +216,30 @@ module _ (t : Trace) (workers : List WorkerValue) (seat : View) (report : List R
         let now : until n ps ≡ ps = filter_all (λ (x : Played). leb x.phase n) ps (λ x among.
         let (y, there, is) = map_cases (λ (z : ToldRecord). z.played) ts x among in
         le-leb x.phase n (subst (λ (z : Played). z.phase ≤ n) is (within t went.course limits went.ended.course y there).high)) in
-        let (after, to, same) = leads t.partitions run_told.roots no_caches (until n ps) (all_say.lists n) (λ k. all_say.heap.caches n k (omega arith) (omega arith)) in
+        let (after, to, same) =
+        leads t.partitions run_told.roots no_caches (until n ps) (all_say.lists n)
+        (λ k. all_say.heap.caches n k (omega arith) (omega arith)) in
         subst (λ (c : Caches). CachesTo t.partitions run_told.roots no_caches (records_of t run_told) c) (fun_ext same ∙ lists_say n)
         (subst (λ xs. CachesTo t.partitions run_told.roots no_caches xs after) (now ∙ all_say.runner.records) to)
 
     -- each is linked in the words of the closed region
-    lists_linked : (k p class : ℕ) → AreLinked left.region (map (λ (m : Numbered). m.slot) (lists_at t went.course (phases_in t.lines) k p class))
+    lists_linked : (k p class : ℕ) →
+        AreLinked left.region (map (λ (m : Numbered). m.slot) (lists_at t went.course (phases_in t.lines) k p class))
     lists_linked k p class = elim (cases_lt k t.threads) [
       | inl few ↦
           (let n = phases_in t.lines in
           let last_worker = went.course.ends n k in
           let w = worker_in workers k in
           let count = went.same_count in
-          let leaves : LeavesWorker closed.last w = All-get_or (LeavesWorker closed.last) workers k no_worker (omega arith) closed.workers in
+          let leaves : LeavesWorker closed.last w =
+          All-get_or (LeavesWorker closed.last) workers k no_worker (omega arith) closed.workers in
           let ts = titles_in w.stock.caches p class in
           let here : AreLinked left.region (slot_names ts) = links_stay w.stock.view.words left.region (slot_names ts)
           (All-map (λ s. first_word left.region s ≡ first_word w.stock.view.words s) name_of ts
           (all_from_members (λ u. first_word left.region (name_of u) ≡ first_word w.stock.view.words (name_of u)) ts (λ u among.
           let well = leaves.stock.lists.well p class u among in
-          let (here, same) = leaves.within.known (u.start / 8) (first_known well.0 w.stock.view u well.1 (leaves.stock.lists.free p class u among)) in
+          let (here, same) =
+          leaves.within.known (u.start / 8) (first_known well.0 w.stock.view u well.1 (leaves.stock.lists.free p class u among)) in
           sym (closed.ends.values (u.start / 8) here) ∙ same)))
           (leaves.links p class) in
           let has : lists_at t went.course n k ≡ listed_in last_worker.stock = rw (lt-ltb k t.threads few) refl in
@@ -252,11 +265,13 @@ module _ (t : Trace) (workers : List WorkerValue) (seat : View) (report : List R
         let w = worker_in workers k in
         let count = went.same_count in
         let leaves : LeavesWorker closed.last w = All-get_or (LeavesWorker closed.last) workers k no_worker (omega arith) closed.workers in
-        let mine : Contains (titles_in w.stock.caches p class) u = subst (λ cs. Contains (titles_in cs p class) u) (sym (same_lists k few)) listed in
+        let mine : Contains (titles_in w.stock.caches p class) u =
+        subst (λ cs. Contains (titles_in cs p class) u) (sym (same_lists k few)) listed in
         let free = leaves.stock.lists.free p class u mine in
         let more = leaves.within.frees u in
         let made = stay (listed_slot p class u) w.stock.view closed.last (leaves.stock.lists.made p class u mine) (leaves.within.lists p) in
-        let slot = slot_in_run (outcome_of t run_told) closed.last (listed_slot p class u) (is_outcome t run_told went.course closed.last exchanges is_whole)
+        let slot = slot_in_run (outcome_of t run_told) closed.last (listed_slot p class u)
+        (is_outcome t run_told went.course closed.last exchanges is_whole)
         (seen_of_it t run_told went.course closed.last exchanges is_whole) made in
         let named : name_of u ≡ m.slot = ap (λ (z : Numbered). z.slot) is in
         let title : title_of (sizes_in t run_told) m.slot ≡ u = ap (title_of (sizes_in t run_told)) (sym named) ∙ slot.title in
@@ -273,4 +288,5 @@ module _ (t : Trace) (workers : List WorkerValue) (seat : View) (report : List R
     pub is_held : SlotsStaySeen → IsHeldIn t run_told left.region
     is_held stay =
         layers_tell_all.held left.region t run_told closed.last (told_in t went.course) all_say
-        (subst (CloseSays t run_told closed.last (told_in t went.course)) (sym (lists_say (phases_in t.lines))) (close_says stay)) closed.ends
+        (subst (CloseSays t run_told closed.last (told_in t went.course)) (sym (lists_say (phases_in t.lines)))
+        (close_says stay)) closed.ends

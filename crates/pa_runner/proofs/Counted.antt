@@ -22,13 +22,16 @@ none zero k = refl
 none (suc n) zero = refl
 none (suc n) (suc k) = none n k
 
-pub lines_with : (i : ℕ) (ls : List Line) (d l : Line) (k : ℕ) → i < length ls → get_or ls i d ≡ l → lines_by k (take (i + 1) ls) ≡ lines_by k (take i ls ++ l ∷ [])
+pub lines_with : (i : ℕ) (ls : List Line) (d l : Line) (k : ℕ) → i < length ls → get_or ls i d ≡ l →
+    lines_by k (take (i + 1) ls) ≡ lines_by k (take i ls ++ l ∷ [])
 lines_with i ls d l k low is = ap (lines_by k) (take_more ls i d low ∙ ap (λ x. take i ls ++ x ∷ []) is)
 
-pub line_there : (ls : List Line) (i : ℕ) (d : Line) (thread partitions threads : ℕ) (op : Op) → i < length ls → get_or ls i d ≡ Do thread op → threads ≤ 16 →
+pub line_there : (ls : List Line) (i : ℕ) (d : Line) (thread partitions threads : ℕ) (op : Op) → i < length ls →
+    get_or ls i d ≡ Do thread op → threads ≤ 16 →
     AllByRecursion (IsLineWithin partitions threads) ls → thread < 16
 line_there ls i d thread partitions threads op low is few within =
-    let there = subst (IsLineWithin partitions threads) is (All-get_or (IsLineWithin partitions threads) ls i d low (All-from_recursion (IsLineWithin partitions threads) ls within)) in
+    let there = subst (IsLineWithin partitions threads) is
+    (All-get_or (IsLineWithin partitions threads) ls i d low (All-from_recursion (IsLineWithin partitions threads) ls within)) in
     let t = there.0 in omega arith
 
 at_most_one : (b : Bool) → cond b 1 0 ≤ 1

@@ -23,7 +23,8 @@ module _ (t : Trace) (n : ℕ) (c : Course) (queues : List (List LineOp)) (befor
     (many : length before ≡ t.threads) (passed : HasPassed queues before after first seat)
     (aware : IsAware seat) where
   heard_all : HasHeardAll t.threads (worker_in passed.ends) seat
-  heard_all = subst (λ m. HasHeardAll m (worker_in passed.ends) seat) many (workers_tell.all (length before) (worker_in passed.ends) first seat passed.heard aware)
+  heard_all = subst (λ m. HasHeardAll m (worker_in passed.ends) seat) many
+      (workers_tell.all (length before) (worker_in passed.ends) first seat passed.heard aware)
 
   -- one phase more
   pub phase_grows : AreReady queues before → HasBegun t n c (worker_in before) → (1 ≤ n → HasSeenAll (c.seats n) first) →
@@ -40,16 +41,21 @@ module _ (t : Trace) (n : ℕ) (c : Course) (queues : List (List LineOp)) (befor
       heard_all (λ some. sees_then (c.seats n) first seat (more some) passed.heard.grows)
 
   -- a worker that got its stake back from the main seat
-  heard_one : (k : ℕ) → k < t.threads → (w : WorkerValue) → HeardFrom (length before) k seat (worker_in after k) w → Hears k seat (worker_in passed.ends k) w
+  heard_one : (k : ℕ) → k < t.threads → (w : WorkerValue) → HeardFrom (length before) k seat (worker_in after k) w →
+      Hears k seat (worker_in passed.ends k) w
   heard_one k few w from =
       let ends = worker_in passed.ends in
       let told : worker_in after k ≡ told_worker k (ends k) = passed.told.told k (omega arith) in
       let f = subst (λ (z : WorkerValue). HeardFrom (length before) k seat z w) told from in
-      let none : stake_of (told_worker k (ends k)).stock.view k ≡ 0 = ap (λ (z : WorkerValue). stake_of z.stock.view k) (sym told) ∙ passed.told.none k (omega arith) k in
-      workers_hear.hears (length before) k ends seat f.seat w (workers_tell.all (length before) ends first seat passed.heard aware) f.answered (omega arith) none f.heard f.lists
+      let none : stake_of (told_worker k (ends k)).stock.view k ≡ 0 =
+      ap (λ (z : WorkerValue). stake_of z.stock.view k) (sym told) ∙ passed.told.none k (omega arith) k in
+      workers_hear.hears (length before) k ends seat f.seat w
+      (workers_tell.all (length before) ends first seat passed.heard aware) f.answered (omega arith) none f.heard f.lists
 
   -- the next phase begins
-  pub phase_begins : (d : Course) → HasEnded t (n + 1) d (worker_in passed.ends) seat → (again : List WorkerValue) → HaveHeard (length before) (length before) seat after again →
+  pub phase_begins : (d : Course) → HasEnded t (n + 1) d (worker_in passed.ends) seat → (again : List WorkerValue) →
+      HaveHeard (length before) (length before) seat after again →
       HasBegun t (n + 1) d (worker_in again)
   phase_begins d ended again heard =
-      courses_grow.goes_on t (n + 1) d (worker_in passed.ends) (worker_in again) seat (omega arith) ended (λ k few. heard_one k few (worker_in again k) (heard.heard k (omega arith)))
+      courses_grow.goes_on t (n + 1) d (worker_in passed.ends) (worker_in again) seat (omega arith) ended
+      (λ k few. heard_one k few (worker_in again k) (heard.heard k (omega arith)))

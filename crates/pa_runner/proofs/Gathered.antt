@@ -38,13 +38,15 @@ tell_start ws seat main = record {
   told = record { told = λ k low. absurd (omega arith); none = λ k low. absurd (omega arith); others = λ k low. refl };
 }
 
-pub tell_more : (k : ℕ) (before now : List WorkerValue) (first seat next : View) (d w : WorkerValue) → IsTelling k before now first seat → k < length before → HaveStakes before →
+pub tell_more : (k : ℕ) (before now : List WorkerValue) (first seat next : View) (d w : WorkerValue) → IsTelling k before now first seat →
+    k < length before → HaveStakes before →
     w ≡ told_worker (get_or now k d).stock.thread (get_or now k d) → ((j : ℕ) → stake_of w.stock.view j ≡ 0) →
     next ≡ united seat (given_after (stake_parcel (get_or now k d).stock.thread) (get_or now k d).stock.view) → IsAware next →
     IsTelling (k + 1) before (set now k w) first next
 tell_more k before now first seat next d w telling few has is' none took' aware =
     let here : get_or now k d ≡ worker_in now k = (let long = telling.count in get_or_default now k d no_worker (omega arith)) in
-    let is : w ≡ told_worker (worker_in now k).stock.thread (worker_in now k) = is' ∙ ap (λ (z : WorkerValue). told_worker z.stock.thread z) here in
+    let is : w ≡ told_worker (worker_in now k).stock.thread (worker_in now k) =
+    is' ∙ ap (λ (z : WorkerValue). told_worker z.stock.thread z) here in
     let took : next ≡ united seat (given_after (stake_parcel (worker_in now k).stock.thread) (worker_in now k).stock.view) =
     took' ∙ ap (λ (z : WorkerValue). united seat (given_after (stake_parcel z.stock.thread) z.stock.view)) here in
     let same : worker_in now k ≡ worker_in before k = telling.told.others k (omega arith) in
@@ -57,14 +59,17 @@ tell_more k before now first seat next d w telling few has is' none took' aware 
     record {
       count = length-set now k w ∙ telling.count;
       heard = subst (HasHeardSome (length before) (k + 1) (worker_in before) first) (sym note)
-          (workers_tell.next (length before) k (worker_in before) first seat telling.heard few (has.thread k few) (has.each k few) (subst IsAware note aware));
+          (workers_tell.next (length before) k (worker_in before) first seat telling.heard few (has.thread k few) (has.each k few)
+          (subst IsAware note aware));
       told = record {
         told = λ j low. elim (cases_eq j k) [
-          | inl e ↦ subst (λ n. worker_in (set now k w) n ≡ told_worker n (worker_in before n)) (sym e) (at_place now k w (omega arith) ∙ told)
+          | inl e ↦ subst (λ n. worker_in (set now k w) n ≡ told_worker n (worker_in before n)) (sym e)
+              (at_place now k w (omega arith) ∙ told)
           | inr ne ↦ beside now k j w ne ∙ telling.told.told j (omega arith)
         ];
         none = λ j low i. elim (cases_eq j k) [
-          | inl e ↦ subst (λ n. stake_of (worker_in (set now k w) n).stock.view i ≡ 0) (sym e) (ap (λ (z : WorkerValue). stake_of z.stock.view i) (at_place now k w (omega arith)) ∙ none i)
+          | inl e ↦ subst (λ n. stake_of (worker_in (set now k w) n).stock.view i ≡ 0) (sym e)
+              (ap (λ (z : WorkerValue). stake_of z.stock.view i) (at_place now k w (omega arith)) ∙ none i)
           | inr ne ↦ ap (λ (z : WorkerValue). stake_of z.stock.view i) (beside now k j w ne) ∙ telling.told.none j (omega arith) i
         ];
         others = λ j high. beside now k j w (λ e. absurd (omega arith)) ∙ telling.told.others j (omega arith);
@@ -72,11 +77,13 @@ tell_more k before now first seat next d w telling few has is' none took' aware 
     }
 
 -- the next worker that tells still has its stake
-pub tell_ready : (k : ℕ) (before now : List WorkerValue) (first seat : View) (d : WorkerValue) → IsTelling k before now first seat → k < length before → HaveStakes before →
+pub tell_ready : (k : ℕ) (before now : List WorkerValue) (first seat : View) (d : WorkerValue) → IsTelling k before now first seat →
+    k < length before → HaveStakes before →
     0 < stake_of (get_or now k d).stock.view (get_or now k d).stock.thread
 tell_ready k before now first seat d telling few has =
     let here : get_or now k d ≡ worker_in now k = (let long = telling.count in get_or_default now k d no_worker (omega arith)) in
-    subst (λ (z : WorkerValue). 0 < stake_of z.stock.view z.stock.thread) (sym (here ∙ telling.told.others k (omega arith))) (has.each k few)
+    subst (λ (z : WorkerValue). 0 < stake_of z.stock.view z.stock.thread) (sym (here ∙ telling.told.others k (omega arith)))
+    (has.each k few)
 
 -- ---- stakes come back
 
@@ -92,7 +99,8 @@ hear_start ws whole main = record {
   heard = record { heard = λ k low. absurd (omega arith); others = λ k low. refl };
 }
 
-pub hear_more : (k : ℕ) (before now : List WorkerValue) (whole seat next : View) (d w : WorkerValue) → IsHearing k before now whole seat → k < length before →
+pub hear_more : (k : ℕ) (before now : List WorkerValue) (whole seat next : View) (d w : WorkerValue) →
+    IsHearing k before now whole seat → k < length before →
     w ≡ worker_with_view (united (get_or now k d).stock.view (given_after (stake_parcel k) seat)) (get_or now k d) →
     SameLists (listed_in w.stock) (listed_in (get_or now k d).stock) → next ≡ left_after (stake_parcel k) seat →
     IsHearing (k + 1) before (set now k w) whole next
@@ -107,7 +115,8 @@ hear_more k before now whole seat next d w hearing few is' lists' left =
     is ∙ ap (λ (z : WorkerValue). worker_with_view (united z.stock.view (given_after (stake_parcel k) seat)) z) same in
     record {
       count = length-set now k w ∙ hearing.count;
-      answered = subst (HasAnswered (length before) (k + 1) whole) (sym left) (workers_hear.next (length before) k whole seat hearing.answered few);
+      answered = subst (HasAnswered (length before) (k + 1) whole) (sym left)
+          (workers_hear.next (length before) k whole seat hearing.answered few);
       heard = record {
         heard = λ j low. elim (cases_eq j k) [
           | inl e ↦
@@ -119,19 +128,23 @@ hear_more k before now whole seat next d w hearing few is' lists' left =
                 heard = heard;
                 lists = subst (λ (z : WorkerValue). SameLists (listed_in w.stock) (listed_in z.stock)) same lists;
               }))
-          | inr ne ↦ subst (HeardFrom (length before) j whole (worker_in before j)) (sym (beside now k j w ne)) (hearing.heard.heard j (omega arith))
+          | inr ne ↦ subst (HeardFrom (length before) j whole (worker_in before j)) (sym (beside now k j w ne))
+              (hearing.heard.heard j (omega arith))
         ];
         others = λ j high. beside now k j w (λ e. absurd (omega arith)) ∙ hearing.heard.others j (omega arith);
       };
     }
 
 -- what the next worker needs to get its stake back
-pub hear_ready : (k : ℕ) (before now : List WorkerValue) (whole seat : View) (d : WorkerValue) → IsHearing k before now whole seat → k < length before → length before ≤ 16 → HasEveryStake whole →
+pub hear_ready : (k : ℕ) (before now : List WorkerValue) (whole seat : View) (d : WorkerValue) → IsHearing k before now whole seat →
+    k < length before → length before ≤ 16 → HasEveryStake whole →
     HaveNone before →
-    ((get_or now k d).stock.thread ≡ k) × (0 < stake_of seat k) × ((j : ℕ) → stake_of (get_or now k d).stock.view j ≡ 0) × ((get_or now k d).owed ≡ none_owed)
+    ((get_or now k d).stock.thread ≡ k) × (0 < stake_of seat k) × ((j : ℕ) → stake_of (get_or now k d).stock.view j ≡ 0) ×
+    ((get_or now k d).owed ≡ none_owed)
 hear_ready k before now whole seat d hearing few small every none =
     let long = hearing.count in
-    let same : get_or now k d ≡ worker_in before k = get_or_default now k d no_worker (omega arith) ∙ hearing.heard.others k (omega arith) in (
+    let same : get_or now k d ≡ worker_in before k =
+    get_or_default now k d no_worker (omega arith) ∙ hearing.heard.others k (omega arith) in (
       ap (λ (z : WorkerValue). z.stock.thread) same ∙ none.thread k few,
       let s = hearing.answered.stakes k (omega arith) in let e = every k (omega arith) in omega arith,
       λ j. ap (λ (z : WorkerValue). stake_of z.stock.view j) same ∙ none.each k few j,

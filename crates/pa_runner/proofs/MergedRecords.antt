@@ -36,7 +36,8 @@ pub record IsMerging (i : ℕ) (ls : List Line) (next : List ℕ) (merged es : L
   pub due : map key_of_entry rest ≡ keys_from (i + 2) (drop i ls)
   pub at : (k : ℕ) → k < 16 → slice_index next k ≡ length (filter (is_entry_of k) merged)
 
-pub merge_start : (rules : Rules) (ls : List Line) (next : List ℕ) (es : List Entry) → map key_of_entry es ≡ map key_of_line (op_lines rules 2 1 ls) →
+pub merge_start : (rules : Rules) (ls : List Line) (next : List ℕ) (es : List Entry) →
+    map key_of_entry es ≡ map key_of_line (op_lines rules 2 1 ls) →
     ((k : ℕ) → k < 16 → slice_index next k ≡ 0) → IsMerging 0 ls next [] es
 merge_start rules ls next es due zeros = record { rest = es; is = refl; due = due ∙ keys_are rules 2 1 ls; at = zeros }
 
@@ -72,17 +73,20 @@ module _ (i : ℕ) (ls : List Line) (next : List ℕ) (merged es : List Entry) (
       let place : suc i ≡ i + 1 = omega arith in
       let here : map key_of_entry m.rest ≡ (i + 2, thread) ∷ keys_from (i + 1 + 2) (drop (i + 1) ls) =
       m.due ∙ (ap (keys_from (i + 2)) (drop_at ls i Phase low ∙ ap (λ l. l ∷ drop (suc i) ls) is)
-      ∙ (ap (λ n. (i + 2, thread) ∷ keys_from n (drop (suc i) ls)) number ∙ ap (λ j. (i + 2, thread) ∷ keys_from (i + 1 + 2) (drop j ls)) place)) in
+      ∙ (ap (λ n. (i + 2, thread) ∷ keys_from n (drop (suc i) ls)) number ∙
+      ap (λ j. (i + 2, thread) ∷ keys_from (i + 1 + 2) (drop j ls)) place)) in
       parted m.rest refl (keys_from (i + 1 + 2) (drop (i + 1) ls)) here refl
     where
-      parted : (rest : List Entry) → m.rest ≡ rest → (ks : List (ℕ × ℕ)) → map key_of_entry rest ≡ (i + 2, thread) ∷ ks → ks ≡ keys_from (i + 1 + 2) (drop (i + 1) ls) → IsNext thread
+      parted : (rest : List Entry) → m.rest ≡ rest → (ks : List (ℕ × ℕ)) → map key_of_entry rest ≡ (i + 2, thread) ∷ ks →
+          ks ≡ keys_from (i + 1 + 2) (drop (i + 1) ls) → IsNext thread
       parted [] same ks e f = absurd cc
       parted (x ∷ xs) same ks e f =
           let key : key_of_entry x ≡ (i + 2, thread) = cc in
           let later : map key_of_entry xs ≡ ks = cc in
           record { entry = x; others = xs; rest_is = same; own = ap (λ (p : ℕ × ℕ). p.1) key; due = later ∙ f }
 
-  module _ (thread : ℕ) (n : IsNext thread) (few : thread < 16) (records : List Entry) (theirs : records ≡ filter (is_entry_of thread) es) where
+  module _ (thread : ℕ) (n : IsNext thread) (few : thread < 16) (records : List Entry)
+      (theirs : records ≡ filter (is_entry_of thread) es) where
     mine : is_entry_of thread n.entry ≡ true
     mine = eq-eqb n.entry.thread thread n.own
 
@@ -110,7 +114,8 @@ module _ (i : ℕ) (ls : List Line) (next : List ℕ) (merged es : List Entry) (
         ∙ (ap (λ j. get_or (filter (is_entry_of thread) merged ++ n.entry ∷ filter (is_entry_of thread) n.others) j d) (m.at thread few)
         ∙ at_place (filter (is_entry_of thread) merged) (filter (is_entry_of thread) n.others) n.entry d)
 
-    pub merge_more : (then : List ℕ) → slice_index then thread ≡ slice_index next thread + 1 → ((k : ℕ) → k < 16 → (k ≡ thread → ⊥) → slice_index then k ≡ slice_index next k) →
+    pub merge_more : (then : List ℕ) → slice_index then thread ≡ slice_index next thread + 1 →
+        ((k : ℕ) → k < 16 → (k ≡ thread → ⊥) → slice_index then k ≡ slice_index next k) →
         IsMerging (i + 1) ls then (merged ++ n.entry ∷ []) es
     merge_more then one others = record {
       rest = n.others;
@@ -119,7 +124,8 @@ module _ (i : ℕ) (ls : List Line) (next : List ℕ) (merged es : List Entry) (
       at = λ k low'. elim (cases_eq k thread) [
         | inl e ↦
             let own : filter (is_entry_of thread) (n.entry ∷ []) ≡ n.entry ∷ [] = rw mine refl in
-            let long = ap (λ zs. length zs) (filter-append (is_entry_of thread) merged (n.entry ∷ []) ∙ ap (λ zs. filter (is_entry_of thread) merged ++ zs) own) in
+            let long = ap (λ zs. length zs)
+            (filter-append (is_entry_of thread) merged (n.entry ∷ []) ∙ ap (λ zs. filter (is_entry_of thread) merged ++ zs) own) in
             let parts = length-append (filter (is_entry_of thread) merged) (n.entry ∷ []) in
             let at = m.at thread few in
             subst (λ j. slice_index then j ≡ length (filter (is_entry_of j) (merged ++ n.entry ∷ []))) (sym e) (omega arith)
@@ -127,13 +133,15 @@ module _ (i : ℕ) (ls : List Line) (next : List ℕ) (merged es : List Entry) (
             let other : is_entry_of k n.entry ≡ false = ne_eqb n.entry.thread k (λ e. ne (sym e ∙ n.own)) in
             let none : filter (is_entry_of k) (n.entry ∷ []) ≡ [] = rw other refl in
             let same : filter (is_entry_of k) (merged ++ n.entry ∷ []) ≡ filter (is_entry_of k) merged =
-            filter-append (is_entry_of k) merged (n.entry ∷ []) ∙ (ap (λ zs. filter (is_entry_of k) merged ++ zs) none ∙ append-nil (filter (is_entry_of k) merged)) in
+            filter-append (is_entry_of k) merged (n.entry ∷ []) ∙
+            (ap (λ zs. filter (is_entry_of k) merged ++ zs) none ∙ append-nil (filter (is_entry_of k) merged)) in
             others k low' ne ∙ (m.at k low' ∙ ap (λ zs. length zs) (sym same))
       ];
     }
 
 -- at the end all are
-pub merge_all : (i : ℕ) (ls : List Line) (next : List ℕ) (merged es : List Entry) → IsMerging i ls next merged es → length ls ≤ i → merged ≡ es
+pub merge_all : (i : ℕ) (ls : List Line) (next : List ℕ) (merged es : List Entry) →
+    IsMerging i ls next merged es → length ls ≤ i → merged ≡ es
 merge_all i ls next merged es m past =
     let none : map key_of_entry m.rest ≡ [] = m.due ∙ ap (keys_from (i + 2)) (past_all ls i past) in
     sym (m.is ∙ (ap (λ zs. merged ++ zs) (no_rest m.rest none) ∙ append-nil merged))
@@ -155,16 +163,22 @@ no_next zero k = refl
 no_next (suc n) zero = refl
 no_next (suc n) (suc k) = no_next n k
 
-pub none_merged : (ls : List Line) (workers : List WorkerValue) (merged es : List Entry) → merged ≡ [] → IsMergeOf ls workers es → IsMerging 0 ls (replicate 16 0) merged es
-none_merged ls workers merged es none of = subst (λ m. IsMerging 0 ls (replicate 16 0) m es) (sym none) (merge_start of.rules ls (replicate 16 0) es of.due (λ k low. no_next 16 k))
+pub none_merged : (ls : List Line) (workers : List WorkerValue) (merged es : List Entry) → merged ≡ [] → IsMergeOf ls workers es →
+    IsMerging 0 ls (replicate 16 0) merged es
+none_merged ls workers merged es none of =
+    subst (λ m. IsMerging 0 ls (replicate 16 0) m es) (sym none)
+    (merge_start of.rules ls (replicate 16 0) es of.due (λ k low. no_next 16 k))
 
-pub phase_merged : (i : ℕ) (ls : List Line) (d : Line) (next then : List ℕ) (merged now es : List Entry) → IsMerging i ls next merged es → i < length ls → get_or ls i d ≡ Phase →
+pub phase_merged : (i : ℕ) (ls : List Line) (d : Line) (next then : List ℕ) (merged now es : List Entry) → IsMerging i ls next merged es →
+    i < length ls → get_or ls i d ≡ Phase →
     then ≡ next → now ≡ merged → IsMerging (i + 1) ls then now es
 phase_merged i ls d next then merged now es m low is same kept =
     subst (λ ns. IsMerging (i + 1) ls ns now es) (sym same)
-    (subst (λ zs. IsMerging (i + 1) ls next zs es) (sym kept) (merge_phase i ls next merged es m low (get_or_default ls i Phase d low ∙ is)))
+    (subst (λ zs. IsMerging (i + 1) ls next zs es) (sym kept)
+    (merge_phase i ls next merged es m low (get_or_default ls i Phase d low ∙ is)))
 
-module _ (i : ℕ) (ls : List Line) (d : Line) (workers : List WorkerValue) (thread partitions : ℕ) (op : Op) (low : i < length ls) (is : get_or ls i d ≡ Do thread op)
+module _ (i : ℕ) (ls : List Line) (d : Line) (workers : List WorkerValue) (thread partitions : ℕ) (op : Op) (low : i < length ls)
+    (is : get_or ls i d ≡ Do thread op)
     (few : length workers ≤ 16) (within : AllByRecursion (IsLineWithin partitions (length workers)) ls) where
   at_phase : get_or ls i Phase ≡ Do thread op
   at_phase = get_or_default ls i Phase d low ∙ is
@@ -172,9 +186,11 @@ module _ (i : ℕ) (ls : List Line) (d : Line) (workers : List WorkerValue) (thr
   pub there : thread < length workers
   there =
       (subst (IsLineWithin partitions (length workers)) is
-      (All-get_or (IsLineWithin partitions (length workers)) ls i d low (All-from_recursion (IsLineWithin partitions (length workers)) ls within))).0
+      (All-get_or (IsLineWithin partitions (length workers)) ls i d low
+      (All-from_recursion (IsLineWithin partitions (length workers)) ls within))).0
 
-  module _ (next : List ℕ) (merged es records : List Entry) (w : WorkerValue) (of : IsMergeOf ls workers es) (m : IsMerging i ls next merged es)
+  module _ (next : List ℕ) (merged es records : List Entry) (w : WorkerValue) (of : IsMergeOf ls workers es)
+      (m : IsMerging i ls next merged es)
       (worker : records ≡ (get_or workers thread w).records) where
     small : thread < 16
     small = let t = there in omega arith
@@ -188,7 +204,8 @@ module _ (i : ℕ) (ls : List Line) (d : Line) (workers : List WorkerValue) (thr
     pub has_next : slice_index next thread < length records
     has_next = next_there i ls next merged es m low thread is_next small records theirs_of
 
-    pub line_merged : (e : Entry) (then : List ℕ) (now : List Entry) → length next ≡ 16 → then ≡ slice_set next thread (slice_index next thread + 1) →
+    pub line_merged : (e : Entry) (then : List ℕ) (now : List Entry) → length next ≡ 16 →
+        then ≡ slice_set next thread (slice_index next thread + 1) →
         now ≡ merged ++ get_or records (slice_index next thread) e ∷ [] → IsMerging (i + 1) ls then now es
     line_merged e then now long set_is pushed =
         let s = small in

@@ -36,7 +36,8 @@ module _ (k lines : ℕ) (seat : View) where
     unused = λ t. refl;
   }
 
-  pub new_for : {E : Type 0} (partitions version : ℕ) (r : Result WorkerValue E) (v : View) → v ≡ given_after (parcel_of [] lines (Stake k ∷ [])) seat → 0 < stake_of seat k → log_of k seat ≡ [] →
+  pub new_for : {E : Type 0} (partitions version : ℕ) (r : Result WorkerValue E) (v : View) →
+      v ≡ given_after (parcel_of [] lines (Stake k ∷ [])) seat → 0 < stake_of seat k → log_of k seat ≡ [] →
       IfOk r (IsNewWorker k partitions version lines v) → IfOk r (IsNewFor k partitions version lines)
   new_for partitions version (Ok w) v is has none new = record {
     view = v;
@@ -86,7 +87,8 @@ pub record IsOpening (t : Trace) (k : ℕ) (workers : List WorkerValue) (first s
   pub count : length workers ≡ k
   pub each : (j : ℕ) → j < k → IsNewFor j t.partitions t.version (lines_by j t.lines) (worker_in workers j)
 
-pub open_start : (t : Trace) (budget : ℕ) (first : View) → length t.lines ≤ budget → HasAllStakes budget first → IsOpening t 0 [] first first
+pub open_start : (t : Trace) (budget : ℕ) (first : View) → length t.lines ≤ budget →
+    HasAllStakes budget first → IsOpening t 0 [] first first
 open_start t budget first fits all = record {
   answered = record {
     main = record { own = λ k past small. all.stakes k small; idle = λ k past. all.logs k; clean = all.clean };
@@ -102,7 +104,8 @@ open_start t budget first fits all = record {
 }
 
 -- the next thread gets its stake
-opening_more : (lines : List Line) (k : ℕ) (seat : View) → after_opening lines (k + 1) seat ≡ left_after (parcel_of [] (lines_by k lines) (Stake k ∷ [])) (after_opening lines k seat)
+opening_more : (lines : List Line) (k : ℕ) (seat : View) →
+    after_opening lines (k + 1) seat ≡ left_after (parcel_of [] (lines_by k lines) (Stake k ∷ [])) (after_opening lines k seat)
 opening_more lines k seat = let e : k + 1 ≡ suc k = omega arith in ap (λ n. after_opening lines n seat) e
 
 last_in : (ws : List WorkerValue) (w : WorkerValue) (k : ℕ) → length ws ≡ k → worker_in (ws ++ w ∷ []) k ≡ w
@@ -114,16 +117,20 @@ before_in [] w j low = absurd (omega arith)
 before_in (v ∷ ws) w zero low = refl
 before_in (v ∷ ws) w (suc j) low = before_in ws w j (omega arith)
 
-module _ (t : Trace) (k : ℕ) (workers : List WorkerValue) (first seat : View) (opening : IsOpening t k workers first seat) (few : k < t.threads) where
+module _ (t : Trace) (k : ℕ) (workers : List WorkerValue) (first seat : View) (opening : IsOpening t k workers first seat)
+    (few : k < t.threads) where
   -- what the next worker needs
   pub open_budget : lines_by k t.lines ≤ seat.budget
   open_budget = let s = past_splits k t.lines in let b = opening.budget in omega arith
 
   -- the seat after it handed that worker its stake
-  pub open_handed : (next : View) → next ≡ left_after (parcel_of [] (lines_by k t.lines) (Stake k ∷ [])) seat → next ≡ after_opening t.lines (k + 1) first
-  open_handed next left = left ∙ (ap (left_after (parcel_of [] (lines_by k t.lines) (Stake k ∷ []))) opening.handed ∙ sym (opening_more t.lines k first))
+  pub open_handed : (next : View) → next ≡ left_after (parcel_of [] (lines_by k t.lines) (Stake k ∷ [])) seat →
+      next ≡ after_opening t.lines (k + 1) first
+  open_handed next left =
+      left ∙ (ap (left_after (parcel_of [] (lines_by k t.lines) (Stake k ∷ []))) opening.handed ∙ sym (opening_more t.lines k first))
 
-  pub open_next : (next : View) (w : WorkerValue) → next ≡ left_after (parcel_of [] (lines_by k t.lines) (Stake k ∷ [])) seat → IsNewFor k t.partitions t.version (lines_by k t.lines) w →
+  pub open_next : (next : View) (w : WorkerValue) → next ≡ left_after (parcel_of [] (lines_by k t.lines) (Stake k ∷ [])) seat →
+      IsNewFor k t.partitions t.version (lines_by k t.lines) w →
       IsOpening t (k + 1) (workers ++ w ∷ []) first next
   open_next next w left new =
       let l = left_after (parcel_of [] (lines_by k t.lines) (Stake k ∷ [])) seat in
@@ -137,7 +144,8 @@ module _ (t : Trace) (k : ℕ) (workers : List WorkerValue) (first seat : View) 
           lists = step.lists;
         });
         handed = open_handed next left;
-        budget = subst (λ (z : View). lines_past (k + 1) t.lines ≤ z.budget) (sym left) (let s = past_splits k t.lines in let b = opening.budget in omega arith);
+        budget = subst (λ (z : View). lines_past (k + 1) t.lines ≤ z.budget) (sym left)
+            (let s = past_splits k t.lines in let b = opening.budget in omega arith);
         count = length_push workers w ∙ ap (λ n. n + 1) opening.count;
         each = λ j low. elim (cases_eq j k) [
           | inl e ↦
@@ -145,6 +153,7 @@ module _ (t : Trace) (k : ℕ) (workers : List WorkerValue) (first seat : View) 
               (subst (IsNewFor k t.partitions t.version (lines_by k t.lines)) (sym (last_in workers w k opening.count)) new)
           | inr ne ↦
               let long = opening.count in
-              subst (IsNewFor j t.partitions t.version (lines_by j t.lines)) (sym (before_in workers w j (omega arith))) (opening.each j (omega arith))
+              subst (IsNewFor j t.partitions t.version (lines_by j t.lines)) (sym (before_in workers w j (omega arith)))
+              (opening.each j (omega arith))
         ];
       }

@@ -15,7 +15,8 @@ use Rattle.pa_runner.specs.Reporting.{HasAsked}
 use Rattle.pa_runner.proofs.Behind.{thread_is}
 
 -- one more isn't stopped
-pub going_more : (ws : List WorkerValue) (i : ℕ) (d : WorkerValue) (b : Bool) → ((k : ℕ) → k < i → (worker_in ws k).stopped ≡ false) → i < length ws →
+pub going_more : (ws : List WorkerValue) (i : ℕ) (d : WorkerValue) (b : Bool) →
+    ((k : ℕ) → k < i → (worker_in ws k).stopped ≡ false) → i < length ws →
     b ≡ (get_or ws i d).stopped → b ≡ false → (k : ℕ) → k < i + 1 → (worker_in ws k).stopped ≡ false
 going_more ws i d b before low is off k less = elim (cases_eq k i) [
   | inl e ↦
@@ -25,15 +26,18 @@ going_more ws i d b before low is off k less = elim (cases_eq k i) [
 ]
 
 -- each has its stake, whether it is stopped or not
-pub returned_stakes : (queues : List (List LineOp)) (before ends : List WorkerValue) → AreReady queues before → length ends ≡ length before → ArePlayed queues before ends → HaveStakes ends
+pub returned_stakes : (queues : List (List LineOp)) (before ends : List WorkerValue) → AreReady queues before →
+    length ends ≡ length before → ArePlayed queues before ends → HaveStakes ends
 returned_stakes queues before ends ready count played = record {
   thread = λ k low. (played k (omega arith)).keeps.thread ∙ thread_is queues before ready k (omega arith);
   each = λ k low. (played k (omega arith)).keeps.stake;
 }
 
 -- when all have handed their stakes over
-pub returned : (queues : List (List LineOp)) (before ends after : List WorkerValue) (first seat : View) → length ends ≡ length before → ArePlayed queues before ends →
-    HasHeardSome (length ends) (length ends) (worker_in ends) first seat → HaveTold (length ends) ends after → HaveReturned queues before after first seat
+pub returned : (queues : List (List LineOp)) (before ends after : List WorkerValue) (first seat : View) → length ends ≡ length before →
+    ArePlayed queues before ends →
+    HasHeardSome (length ends) (length ends) (worker_in ends) first seat → HaveTold (length ends) ends after →
+    HaveReturned queues before after first seat
 returned queues before ends after first seat count played heard told = record {
   ends = ends;
   count = count;
@@ -43,8 +47,10 @@ returned queues before ends after first seat count played heard told = record {
 }
 
 -- A main seat with the stakes of all threads has every stake.
-pub heard_every : (threads : ℕ) (workers : ℕ → WorkerValue) (first seat : View) → HasHeardSome threads threads workers first seat → HasEveryStake seat
-heard_every threads workers first seat heard k small = elim (cases_lt k threads) [ inl few ↦ heard.told k few | inr past ↦ heard.main.own k past small ]
+pub heard_every : (threads : ℕ) (workers : ℕ → WorkerValue) (first seat : View) →
+    HasHeardSome threads threads workers first seat → HasEveryStake seat
+heard_every threads workers first seat heard k small =
+    elim (cases_lt k threads) [ inl few ↦ heard.told k few | inr past ↦ heard.main.own k past small ]
 
 -- A main seat that asked roots gives the stakes back all the same.
 pub heard_asked : (threads count : ℕ) (workers : ℕ → WorkerValue) (first seat next : View) → HasHeardSome threads count workers first seat
@@ -64,7 +70,8 @@ heard_asked threads count workers first seat next heard asked = record {
     goes_on : HasSeenAll seat next
     goes_on = record { lists = asked.keeps.lists; seen = asked.keeps.seen }
 
-module _ (queues : List (List LineOp)) (before after : List WorkerValue) (first seat : View) (back : HaveReturned queues before after first seat) where
+module _ (queues : List (List LineOp)) (before after : List WorkerValue) (first seat : View)
+    (back : HaveReturned queues before after first seat) where
   pub returned_every : HasEveryStake seat
   returned_every = heard_every (length before) (worker_in back.ends) first seat back.heard
 
@@ -89,14 +96,17 @@ module _ (queues : List (List LineOp)) (before after : List WorkerValue) (first 
   }
 
 -- both, after the main seat asked roots
-pub asked_back : (queues : List (List LineOp)) (before ends after : List WorkerValue) (first seat next : View) → length ends ≡ length before → ArePlayed queues before ends →
+pub asked_back : (queues : List (List LineOp)) (before ends after : List WorkerValue) (first seat next : View) →
+    length ends ≡ length before → ArePlayed queues before ends →
     HasHeardSome (length ends) (length ends) (worker_in ends) first seat → HaveTold (length ends) ends after → HasAsked seat next →
     HaveReturned queues before after first next × HasEveryStake next
 asked_back queues before ends after first seat next count played heard told asked =
-    let back = returned_asked queues before after first seat (returned queues before ends after first seat count played heard told) next asked in
+    let back = returned_asked queues before after first seat
+    (returned queues before ends after first seat count played heard told) next asked in
     (back, returned_every queues before after first next back)
 
-module _ (queues : List (List LineOp)) (before after : List WorkerValue) (first seat : View) (over : HasPassed queues before after first seat) where
+module _ (queues : List (List LineOp)) (before after : List WorkerValue) (first seat : View)
+    (over : HasPassed queues before after first seat) where
   pub passed_asked : (next : View) → HasAsked seat next → HasPassed queues before after first next
   passed_asked next asked = record {
     ends = over.ends;
@@ -112,12 +122,14 @@ module _ (queues : List (List LineOp)) (before after : List WorkerValue) (first 
   passed_every = heard_every (length before) (worker_in over.ends) first seat over.heard
 
   -- no worker has more records than it had room for
-  pub passed_few : AreReady queues before → ((k : ℕ) → k < length before → (worker_in before k).room ≤ 65536) → (k : ℕ) → k < length before → length (worker_in after k).records ≤ 65536
+  pub passed_few : AreReady queues before → ((k : ℕ) → k < length before → (worker_in before k).room ≤ 65536) → (k : ℕ) →
+      k < length before → length (worker_in after k).records ≤ 65536
   passed_few ready few k low =
       let can = (ready.each k low).room in
       let room = few k low in
       let (es, is, lines) = (over.played k low).records in
-      let told : (worker_in after k).records ≡ (worker_in before k).records ++ es = ap (λ (w : WorkerValue). w.records) (over.told.told k low) ∙ is in
+      let told : (worker_in after k).records ≡ (worker_in before k).records ++ es =
+      ap (λ (w : WorkerValue). w.records) (over.told.told k low) ∙ is in
       let a = ap (λ (xs : List Entry). length xs) told in
       let b = length-append (worker_in before k).records es in
       let e = length-map es (λ (x : Entry). x.line) in

@@ -1,4 +1,5 @@
--- The steps of a trace that is played phase after phase: the start, a line into its queue, the end of a phase, and what the next one begins with.
+-- The steps of a trace that is played phase after phase: the start, a line into its queue, the end of a phase, and what the next one begins
+-- with.
 use Rattle.std.proofs.Common.{◌≡◌, ℕ, zero, suc, ◌+◌, ◌<◌, ◌≤◌, List, [], ◌∷◌, ◌++◌, length, map, take, get_or, replicate, set, refl, sym, ◌∙◌, ap, ap₂, subst, arith, inl, inr}
 use Rattle.std.proofs.Math.Seq.{take_all}
 use Rattle.std.proofs.lemmas.Bool.{cases_eq}
@@ -53,10 +54,13 @@ none_in (suc n) (suc k) = none_in n k
 queue_none : (n : ℕ) (queues : List (List LineOp)) (k : ℕ) → queues ≡ replicate n [] → queue_in queues k ≡ []
 queue_none n queues k none = ap (λ (qs : List (List LineOp)). queue_in qs k) none ∙ none_in n k
 
-pub going_start : (t : Trace) (workers : List WorkerValue) (queues : List (List LineOp)) (seat : View) (report : List ReportLine) → IsMain t.threads seat → AreNew t workers →
+pub going_start : (t : Trace) (workers : List WorkerValue) (queues : List (List LineOp)) (seat : View) (report : List ReportLine) →
+    IsMain t.threads seat → AreNew t workers →
     queues ≡ replicate t.threads [] → report ≡ [] → IsUnderWay t 0 1 workers queues seat report
 going_start t workers queues seat report main begins none empty =
-    let (c, begun) = courses_grow.begins t (worker_in workers) (λ k few. let new = begins.each k few in record { lines = lines_by k t.lines; view = new.view; new = new.new; log = new.log }) in
+    let (c, begun) =
+    courses_grow.begins t (worker_in workers) (λ k few. let new = begins.each k few in
+    record { lines = lines_by k t.lines; view = new.view; new = new.new; log = new.log }) in
     record {
       over = 0;
       phase_is = refl;
@@ -79,14 +83,16 @@ pub record IsOver (t : Trace) (phase : ℕ) (ends : List WorkerValue) (seat : Vi
   pub ended : HasEnded t phase course (worker_in ends) seat
   pub reported : IsReportOf t phase course report
 
-module _ (t : Trace) (i phase : ℕ) (workers : List WorkerValue) (queues : List (List LineOp)) (seat : View) (report : List ReportLine) (within : IsWithinLimits t)
+module _ (t : Trace) (i phase : ℕ) (workers : List WorkerValue) (queues : List (List LineOp)) (seat : View) (report : List ReportLine)
+    (within : IsWithinLimits t)
     (going : IsUnderWay t i phase workers queues seat report) where
   -- a line of a thread goes into its queue
   module _ (d : Line) (thread : ℕ) (op : Op) (low : i < length t.lines) (is : get_or t.lines i d ≡ Do thread op) where
     line_within : IsLineWithin t.partitions t.threads (Do thread op)
     line_within =
         subst (IsLineWithin t.partitions t.threads) is
-        (All-get_or (IsLineWithin t.partitions t.threads) t.lines i d low (All-from_recursion (IsLineWithin t.partitions t.threads) t.lines within.lines))
+        (All-get_or (IsLineWithin t.partitions t.threads) t.lines i d low
+        (All-from_recursion (IsLineWithin t.partitions t.threads) t.lines within.lines))
 
     at_phase : get_or t.lines i Phase ≡ Do thread op
     at_phase = get_or_default t.lines i Phase d low ∙ is
@@ -97,7 +103,8 @@ module _ (t : Trace) (i phase : ℕ) (workers : List WorkerValue) (queues : List
         let c = going.count in
         omega arith
 
-    pub going_push : (queue : List LineOp) → queue ≡ queue_in queues thread ++ record { line = i + 2; op = op } ∷ [] → IsUnderWay t (i + 1) phase workers (set queues thread queue) seat report
+    pub going_push : (queue : List LineOp) → queue ≡ queue_in queues thread ++ record { line = i + 2; op = op } ∷ [] →
+        IsUnderWay t (i + 1) phase workers (set queues thread queue) seat report
     going_push queue pushed = record {
       over = going.over;
       phase_is = going.phase_is;
@@ -111,8 +118,10 @@ module _ (t : Trace) (i phase : ℕ) (workers : List WorkerValue) (queues : List
       each = λ k few. elim (cases_eq k thread) [
         | inl e ↦
             subst (λ n. IsAtPlace t (i + 1) n (queue_in (set queues thread queue) n) (worker_in workers n)) (sym e)
-            (subst (λ (q : List LineOp). IsAtPlace t (i + 1) thread q (worker_in workers thread)) (sym (get_or-set_same queues thread queue [] queue_there ∙ pushed))
-            (place_mine t i low thread op at_phase (queue_in queues thread) (worker_in workers thread) line_within.1 (going.each thread line_within.0)))
+            (subst (λ (q : List LineOp). IsAtPlace t (i + 1) thread q (worker_in workers thread))
+            (sym (get_or-set_same queues thread queue [] queue_there ∙ pushed))
+            (place_mine t i low thread op at_phase (queue_in queues thread) (worker_in workers thread) line_within.1
+            (going.each thread line_within.0)))
         | inr ne ↦
             subst (λ (q : List LineOp). IsAtPlace t (i + 1) k q (worker_in workers k)) (sym (get_or-set_other queues thread k queue [] ne))
             (place_other t i low thread op at_phase k (queue_in queues k) (worker_in workers k) ne (going.each k few))
@@ -123,7 +132,8 @@ module _ (t : Trace) (i phase : ℕ) (workers : List WorkerValue) (queues : List
   -- the workers play by the trace's rules
   rules_are : (k : ℕ) → k < t.threads → rules_at (worker_in workers k).stock ≡ rules_of t
   rules_are k few =
-      ap₂ (λ version partitions. record { version = version; plain_from = partitions }) (going.each k few).version (going.each k few).partitions
+      ap₂ (λ version partitions. record { version = version; plain_from = partitions }) (going.each k few).version
+      (going.each k few).partitions
 
   -- what the end of the phase needs
   pub many_here : (0 < length workers) × (length workers ≤ 16)
@@ -167,20 +177,28 @@ module _ (t : Trace) (i phase : ℕ) (workers : List WorkerValue) (queues : List
     none_then count = record {
       thread = λ k low.
           let few : k < length workers = omega arith in
-          ap (λ (w : WorkerValue). w.stock.thread) (passed.told.told k few) ∙ (same_thread (passed.played k few) ∙ thread_is queues workers ready_here k few);
+          ap (λ (w : WorkerValue). w.stock.thread) (passed.told.told k few) ∙
+          (same_thread (passed.played k few) ∙ thread_is queues workers ready_here k few);
       each = λ k low. passed.told.none k (omega arith);
       settled = λ k low.
           let few : k < length workers = omega arith in
           ap (λ (w : WorkerValue). w.owed) (passed.told.told k few) ∙ passed.settled k few;
     }
 
-    module _ (aware : IsAware next) (told : View) (now : List ReportLine) (said : IsReported phase t.partitions (length workers) (worker_in after) told next report now) where
-      is_over : ((k : ℕ) → lines_in (rules_of t) t.lines phase k ≡ lines_in (rules_of t) (take i t.lines) phase k) → IsOver t phase passed.ends next now
+    module _ (aware : IsAware next) (told : View) (now : List ReportLine)
+        (said : IsReported phase t.partitions (length workers) (worker_in after) told next report now) where
+      is_over : ((k : ℕ) → lines_in (rules_of t) t.lines phase k ≡ lines_in (rules_of t) (take i t.lines) phase k) →
+          IsOver t phase passed.ends next now
       is_over whole =
-          let lines : (k : ℕ) → k < t.threads → map (in_phase (rules_of t) (going.over + 1) k) (queue_in queues k) ≡ lines_in (rules_of t) t.lines (going.over + 1) k = λ k few.
+          let lines : (k : ℕ) → k < t.threads →
+          map (in_phase (rules_of t) (going.over + 1) k) (queue_in queues k) ≡
+          lines_in (rules_of t) t.lines (going.over + 1) k = λ k few.
           subst (λ n. map (in_phase (rules_of t) n k) (queue_in queues k) ≡ lines_in (rules_of t) t.lines n k) going.phase_is
-          (subst (λ n. map (in_phase (rules_of t) n k) (queue_in queues k) ≡ lines_in (rules_of t) (take i t.lines) n k) going.here (going.each k few).lines ∙ sym (whole k)) in
-          let (d, agree, ended) = phase_grows t going.over going.course queues workers after seat next going.many passed aware ready_here going.begun going.seen rules_are lines in
+          (subst (λ n. map (in_phase (rules_of t) n k) (queue_in queues k) ≡ lines_in (rules_of t) (take i t.lines) n k) going.here
+          (going.each k few).lines ∙ sym (whole k)) in
+          let (d, agree, ended) =
+          phase_grows t going.over going.course queues workers after seat next going.many passed aware ready_here going.begun going.seen
+          rules_are lines in
           let reported : IsReported (going.over + 1) t.partitions t.threads (worker_in after) told next report now =
           subst (λ n. IsReported n t.partitions t.threads (worker_in after) told next report now) going.phase_is
           (subst (λ n. IsReported phase t.partitions n (worker_in after) told next report now) going.many said) in
@@ -188,7 +206,8 @@ module _ (t : Trace) (i phase : ℕ) (workers : List WorkerValue) (queues : List
             course = d;
             ended = subst (λ n. HasEnded t n d (worker_in passed.ends) next) (sym going.phase_is) ended;
             reported = subst (λ n. IsReportOf t n d now) (sym going.phase_is)
-                (report_grows t going.over going.course d passed.ends after told next report now going.reported agree ended still_told reported);
+                (report_grows t going.over going.course d passed.ends after told next report now going.reported agree ended
+                still_told reported);
           }
 
       -- if it was the last phase
@@ -210,7 +229,8 @@ module _ (t : Trace) (i phase : ℕ) (workers : List WorkerValue) (queues : List
           }
 
       -- if another one follows
-      module _ (again : List WorkerValue) (cleared : List (List LineOp)) (last : View) (begins : BeginsPhase i t.lines) (same : length after ≡ length workers)
+      module _ (again : List WorkerValue) (cleared : List (List LineOp)) (last : View) (begins : BeginsPhase i t.lines)
+          (same : length after ≡ length workers)
           (heard : HaveHeard (length after) (length after) next after again) where
         heard_one : (k : ℕ) → k < t.threads → IsAtPlace t (i + 1) k [] (worker_in again k)
         heard_one k few =
@@ -228,10 +248,12 @@ module _ (t : Trace) (i phase : ℕ) (workers : List WorkerValue) (queues : List
             let whole = passed.heard.told k low in
             omega arith in
             subst (IsAtPlace t (i + 1) k []) (sym is)
-            (place_next t i begins.low k (queue_in queues k) (worker_in workers k) (worker_in passed.ends k) (united before note) begins.is (going.each k few) (passed.played k low)
+            (place_next t i begins.low k (queue_in queues k) (worker_in workers k) (worker_in passed.ends k) (united before note) begins.is
+            (going.each k few) (passed.played k low)
             (passed.settled k low) has)
 
-        pub going_next : length again ≡ length after → cleared ≡ replicate (length queues) [] → HasAnswered (length after) (length after) next last →
+        pub going_next : length again ≡ length after → cleared ≡ replicate (length queues) [] →
+            HasAnswered (length after) (length after) next last →
             IsUnderWay t (i + 1) (phase + 1) again cleared last now
         going_next long none answered =
             let m = going.many in
@@ -250,8 +272,10 @@ module _ (t : Trace) (i phase : ℕ) (workers : List WorkerValue) (queues : List
               main = subst (λ n. IsMain n last) (same ∙ going.many) answered.main;
               course = over.course;
               begun = subst (λ n. HasBegun t n over.course (worker_in again)) (sym going.phase_is) begun;
-              seen = λ some. subst (λ (v : View). HasSeenAll v last) (sym over.ended.seat) (workers_hear.grows (length after) (length after) next last answered);
-              each = λ k few. subst (λ (q : List LineOp). IsAtPlace t (i + 1) k q (worker_in again k)) (sym (queue_none (length queues) cleared k none)) (heard_one k few);
+              seen = λ some. subst (λ (v : View). HasSeenAll v last) (sym over.ended.seat)
+                  (workers_hear.grows (length after) (length after) next last answered);
+              each = λ k few. subst (λ (q : List LineOp). IsAtPlace t (i + 1) k q (worker_in again k))
+                  (sym (queue_none (length queues) cleared k none)) (heard_one k few);
               reported = over.reported;
             }
 
@@ -260,16 +284,20 @@ module _ (t : Trace) (i phase : ℕ) (workers : List WorkerValue) (queues : List
 pub begins_phase : (ls lines : List Line) (i : ℕ) (d : Line) → ls ≡ lines → i < length ls → get_or ls i d ≡ Phase → BeginsPhase i lines
 begins_phase ls lines i d same low is = subst (BeginsPhase i) same (record { low = low; is = get_or_default ls i Phase d low ∙ is })
 
-pub going_as : {t : Trace} {i phase then : ℕ} {workers others : List WorkerValue} {queues now : List (List LineOp)} {seat next : View} {report more : List ReportLine} →
-    IsUnderWay t i phase workers queues seat report → then ≡ phase → others ≡ workers → now ≡ queues → next ≡ seat → more ≡ report → IsUnderWay t i then others now next more
+pub going_as : {t : Trace} {i phase then : ℕ} {workers others : List WorkerValue} {queues now : List (List LineOp)} {seat next : View}
+    {report more : List ReportLine} →
+    IsUnderWay t i phase workers queues seat report → then ≡ phase → others ≡ workers → now ≡ queues → next ≡ seat → more ≡ report →
+    IsUnderWay t i then others now next more
 going_as {t} {i} {phase} {then} {workers} {others} {queues} {now} {seat} {next} {report} {more} going p w q s r =
     subst (λ n. IsUnderWay t i n others now next more) (sym p)
     (subst (λ ws. IsUnderWay t i phase ws now next more) (sym w)
     (subst (λ qs. IsUnderWay t i phase workers qs next more) (sym q)
     (subst (λ v. IsUnderWay t i phase workers queues v more) (sym s) (subst (IsUnderWay t i phase workers queues seat) (sym r) going))))
 
-module _ (t : Trace) (i phase : ℕ) (workers : List WorkerValue) (queues : List (List LineOp)) (seat : View) (report : List ReportLine) (within : IsWithinLimits t)
-    (going : IsUnderWay t i phase workers queues seat report) (ls : List Line) (d : Line) (thread : ℕ) (op : Op) (same : ls ≡ t.lines) (low : i < length ls)
+module _ (t : Trace) (i phase : ℕ) (workers : List WorkerValue) (queues : List (List LineOp)) (seat : View) (report : List ReportLine)
+    (within : IsWithinLimits t)
+    (going : IsUnderWay t i phase workers queues seat report) (ls : List Line) (d : Line) (thread : ℕ) (op : Op) (same : ls ≡ t.lines)
+    (low : i < length ls)
     (is : get_or ls i d ≡ Do thread op) where
   low_here : i < length t.lines
   low_here = subst (λ (l : List Line). i < length l) same low
@@ -280,7 +308,8 @@ module _ (t : Trace) (i phase : ℕ) (workers : List WorkerValue) (queues : List
   pub line_there : thread < length queues
   line_there = queue_there t i phase workers queues seat report within going d thread op low_here is_here
 
-  pub line_pushed : (number : ℕ) (old queue : List LineOp) → number ≡ i + 2 → old ≡ get_or queues thread old → queue ≡ old ++ record { line = number; op = op } ∷ [] →
+  pub line_pushed : (number : ℕ) (old queue : List LineOp) → number ≡ i + 2 → old ≡ get_or queues thread old →
+      queue ≡ old ++ record { line = number; op = op } ∷ [] →
       IsUnderWay t (i + 1) phase workers (set queues thread queue) seat report
   line_pushed number old queue number_is there pushed =
       going_push t i phase workers queues seat report within going d thread op low_here is_here queue

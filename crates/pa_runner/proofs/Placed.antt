@@ -51,7 +51,8 @@ rise_low n (d ∷ ds) last up =
     omega arith
 
 -- records of these lines are before the last
-rise_before : (n : ℕ) (ds : List LineOp) (last : ℕ) (es : List Entry) → RiseTo n ds last → map (λ (e : Entry). e.line) es ≡ map (λ (d : LineOp). d.line) ds → AreBefore last es
+rise_before : (n : ℕ) (ds : List LineOp) (last : ℕ) (es : List Entry) → RiseTo n ds last →
+    map (λ (e : Entry). e.line) es ≡ map (λ (d : LineOp). d.line) ds → AreBefore last es
 rise_before n ds last [] up same e among = absurd (not_in_none e among)
 rise_before n [] last (x ∷ es) up same e among = absurd cc
 rise_before n (d ∷ ds) last (x ∷ es) up same e among =
@@ -70,7 +71,8 @@ all_push P (y ∷ ys) x all one = (all.0, all_push P ys x all.1 one)
 -- ---- a worker at a place
 
 -- at the start
-pub place_start : (t : Trace) (k : ℕ) (queue : List LineOp) (w : WorkerValue) → IsNewFor k t.partitions t.version (lines_by k t.lines) w → queue ≡ [] → IsAtPlace t 0 k queue w
+pub place_start : (t : Trace) (k : ℕ) (queue : List LineOp) (w : WorkerValue) → IsNewFor k t.partitions t.version (lines_by k t.lines) w →
+    queue ≡ [] → IsAtPlace t 0 k queue w
 place_start t k queue w begins none = subst (λ (q : List LineOp). IsAtPlace t 0 k q w) (sym none) (record {
   thread = begins.new.stock.thread_is;
   partitions = begins.new.stock.partitions_are;
@@ -103,7 +105,8 @@ module _ (t : Trace) (i : ℕ) (low : i < length t.lines) where
     abbrev due : LineOp
     due = record { line = i + 2; op = op }
 
-    pub place_mine : (queue : List LineOp) (w : WorkerValue) → IsOpWithin t.partitions op → IsAtPlace t i thread queue w → IsAtPlace t (i + 1) thread (queue ++ due ∷ []) w
+    pub place_mine : (queue : List LineOp) (w : WorkerValue) → IsOpWithin t.partitions op → IsAtPlace t i thread queue w →
+        IsAtPlace t (i + 1) thread (queue ++ due ∷ []) w
     place_mine queue w within at = record {
       thread = at.thread;
       partitions = at.partitions;
@@ -114,7 +117,8 @@ module _ (t : Trace) (i : ℕ) (low : i < length t.lines) where
       room = at.room;
       count =
           let a : lines_by thread (take (i + 1) t.lines) ≡ lines_by thread (take i t.lines) + 1 =
-          lines_with i t.lines Phase (Do thread op) thread low is ∙ (lines_by_more thread (take i t.lines) (Do thread op) ∙ rw (eq-eqb thread thread refl) refl) in
+          lines_with i t.lines Phase (Do thread op) thread low is ∙
+          (lines_by_more thread (take i t.lines) (Do thread op) ∙ rw (eq-eqb thread thread refl) refl) in
           let b = length_push queue due in
           let c = at.count in
           omega arith;
@@ -124,12 +128,15 @@ module _ (t : Trace) (i : ℕ) (low : i < length t.lines) where
           let place : i + 2 + 1 ≡ i + 1 + 2 = omega arith in
           (n, before, subst (RiseTo n (queue ++ due ∷ [])) place (rise_push n queue (i + 2) due up refl));
       lines =
-          subst (λ n. map (in_phase (rules_of t) n thread) (queue ++ due ∷ []) ≡ lines_in (rules_of t) (take (i + 1) t.lines) n thread) (sym (phase_same t.lines i low thread op is))
+          subst (λ n. map (in_phase (rules_of t) n thread) (queue ++ due ∷ []) ≡ lines_in (rules_of t) (take (i + 1) t.lines) n thread)
+          (sym (phase_same t.lines i low thread op is))
           (map-append (in_phase (rules_of t) (phase_at i t.lines) thread) queue (due ∷ [])
-          ∙ (ap (λ (os : List OpLine). os ++ here t.lines i low thread op is (rules_of t) ∷ []) at.lines ∙ sym (line_mine t.lines i low thread op is (rules_of t))));
+          ∙ (ap (λ (os : List OpLine). os ++ here t.lines i low thread op is (rules_of t) ∷ []) at.lines ∙
+          sym (line_mine t.lines i low thread op is (rules_of t))));
     }
 
-    pub place_other : (k : ℕ) (queue : List LineOp) (w : WorkerValue) → (k ≡ thread → ⊥) → IsAtPlace t i k queue w → IsAtPlace t (i + 1) k queue w
+    pub place_other : (k : ℕ) (queue : List LineOp) (w : WorkerValue) → (k ≡ thread → ⊥) →
+        IsAtPlace t i k queue w → IsAtPlace t (i + 1) k queue w
     place_other k queue w ne at = record {
       thread = at.thread;
       partitions = at.partitions;
@@ -140,7 +147,8 @@ module _ (t : Trace) (i : ℕ) (low : i < length t.lines) where
       room = at.room;
       count =
           let a : lines_by k (take (i + 1) t.lines) ≡ lines_by k (take i t.lines) + 0 =
-          lines_with i t.lines Phase (Do thread op) k low is ∙ (lines_by_more k (take i t.lines) (Do thread op) ∙ rw (ne_eqb thread k (λ e. ne (sym e))) refl) in
+          lines_with i t.lines Phase (Do thread op) k low is ∙
+          (lines_by_more k (take i t.lines) (Do thread op) ∙ rw (ne_eqb thread k (λ e. ne (sym e))) refl) in
           let c = at.count in
           omega arith;
       limits = at.limits;
@@ -149,12 +157,14 @@ module _ (t : Trace) (i : ℕ) (low : i < length t.lines) where
           let place : i + 2 + 1 ≡ i + 1 + 2 = omega arith in
           (n, before, subst (RiseTo n queue) place (rise_more n queue (i + 2) up));
       lines =
-          subst (λ n. map (in_phase (rules_of t) n k) queue ≡ lines_in (rules_of t) (take (i + 1) t.lines) n k) (sym (phase_same t.lines i low thread op is))
+          subst (λ n. map (in_phase (rules_of t) n k) queue ≡ lines_in (rules_of t) (take (i + 1) t.lines) n k)
+          (sym (phase_same t.lines i low thread op is))
           (at.lines ∙ sym (line_other t.lines i low thread op is (rules_of t) k ne));
     }
 
   -- a new phase begins: the worker played its lines, and has heard
-  pub place_next : (k : ℕ) (queue : List LineOp) (w ended : WorkerValue) (v : View) → get_or t.lines i Phase ≡ Phase → IsAtPlace t i k queue w → PlaysLines queue w ended →
+  pub place_next : (k : ℕ) (queue : List LineOp) (w ended : WorkerValue) (v : View) → get_or t.lines i Phase ≡ Phase →
+      IsAtPlace t i k queue w → PlaysLines queue w ended →
       ended.owed ≡ none_owed → 0 < stake_of v k → IsAtPlace t (i + 1) k [] (worker_with_view v ended)
   place_next k queue w ended v is at played settled has =
       let (xs, all, of) = played.plays 0 in
@@ -168,7 +178,8 @@ module _ (t : Trace) (i : ℕ) (low : i < length t.lines) where
         settled = settled;
         room = played.room ∙ at.room;
         count =
-            let a : lines_by k (take (i + 1) t.lines) ≡ lines_by k (take i t.lines) + 0 = lines_with i t.lines Phase Phase k low is ∙ lines_by_more k (take i t.lines) Phase in
+            let a : lines_by k (take (i + 1) t.lines) ≡ lines_by k (take i t.lines) + 0 =
+            lines_with i t.lines Phase Phase k low is ∙ lines_by_more k (take i t.lines) Phase in
             let b = plays_count queue w ended played in
             let c = at.count in
             omega arith;

@@ -33,7 +33,8 @@ use Rattle.pa_runner.specs.Stopped.{StopsOp}
 
 -- ---- records of lines before a line
 
-in_append : (e : Entry) (xs ys : List Entry) → Contains (xs ++ ys) e → (P : Entry → Type 0) → ((z : Entry) → Contains xs z → P z) → ((z : Entry) → Contains ys z → P z) → P e
+in_append : (e : Entry) (xs ys : List Entry) → Contains (xs ++ ys) e → (P : Entry → Type 0) → ((z : Entry) → Contains xs z → P z) →
+    ((z : Entry) → Contains ys z → P z) → P e
 in_append e [] ys among P front back = back e among
 in_append e (x ∷ xs) ys among P front back = elim (in_cases x e (xs ++ ys) among) [
   | inl same ↦ subst P same (front x (0, omega arith, refl))
@@ -42,7 +43,8 @@ in_append e (x ∷ xs) ys among P front back = elim (in_cases x e (xs ++ ys) amo
 
 -- ---- one line, none, and some after others
 
-pub plays_one : (due : LineOp) (answer : Answer) (w v : WorkerValue) → PlaysOp due.line due.op answer w v → KeepsOn w v → PlaysLines (due ∷ []) w v
+pub plays_one : (due : LineOp) (answer : Answer) (w v : WorkerValue) → PlaysOp due.line due.op answer w v →
+    KeepsOn w v → PlaysLines (due ∷ []) w v
 plays_one due answer w v plays keeps = record {
   plays = λ phase. let (x, is, one) = plays phase in (x ∷ [], (v, one, refl), ap (λ (p : Played). op_line_of p ∷ []) is);
   going = keeps.going;
@@ -69,11 +71,13 @@ plays_then xs ys u v w first second = record {
       let joined : map op_line_of (played_in (a ++ b)) ≡ map op_line_of (played_in a) ++ map op_line_of (played_in b) =
       ap (map op_line_of) (map-append (λ (x : ToldRecord). x.played) a b) ∙ map-append op_line_of (played_in a) (played_in b) in
       let same : map (in_phase (rules_at v.stock) phase v.stock.thread) ys ≡ map (in_phase (rules_at u.stock) phase u.stock.thread) ys =
-      ap (λ (by : Rules). map (in_phase by phase v.stock.thread) ys) (keeps_rules u v a played) ∙ ap (λ k. map (in_phase (rules_at u.stock) phase k) ys) thread in (
+      ap (λ (by : Rules). map (in_phase by phase v.stock.thread) ys) (keeps_rules u v a played) ∙
+      ap (λ k. map (in_phase (rules_at u.stock) phase k) ys) thread in (
         a ++ b,
         composes u v w a b played more,
         joined ∙ (ap (λ os. os ++ map op_line_of (played_in b)) lines
-            ∙ (ap (λ os. map (in_phase (rules_at u.stock) phase u.stock.thread) xs ++ os) (rest ∙ same) ∙ sym (map-append (in_phase (rules_at u.stock) phase u.stock.thread) xs ys))),
+            ∙ (ap (λ os. map (in_phase (rules_at u.stock) phase u.stock.thread) xs ++ os) (rest ∙ same) ∙
+            sym (map-append (in_phase (rules_at u.stock) phase u.stock.thread) xs ys))),
       );
   going = second.going;
   stake = second.stake;
@@ -83,7 +87,8 @@ plays_then xs ys u v w first second = record {
         es ++ fs,
         more ∙ (ap (λ zs. zs ++ fs) is ∙ append_assoc u.records es fs),
         map-append (λ (e : Entry). e.line) es fs
-            ∙ (ap (λ ns. ns ++ map (λ (e : Entry). e.line) fs) of ∙ (ap (λ ns. map (λ (d : LineOp). d.line) xs ++ ns) rest ∙ sym (map-append (λ (d : LineOp). d.line) xs ys))),
+            ∙ (ap (λ ns. ns ++ map (λ (e : Entry). e.line) fs) of ∙
+            (ap (λ ns. map (λ (d : LineOp). d.line) xs ++ ns) rest ∙ sym (map-append (λ (d : LineOp). d.line) xs ys))),
       );
   room = second.room ∙ first.room;
 }
@@ -101,7 +106,8 @@ plays_count lines w v played =
 
 -- ---- a worker that can play lines can play the first, and then the others
 
-pub can_first : (due : LineOp) (rest : List LineOp) (w : WorkerValue) → CanPlay (due ∷ rest) w → CanPlayOp w × IsOpWithin w.stock.partitions due.op × AreBefore due.line w.records
+pub can_first : (due : LineOp) (rest : List LineOp) (w : WorkerValue) → CanPlay (due ∷ rest) w →
+    CanPlayOp w × IsOpWithin w.stock.partitions due.op × AreBefore due.line w.records
 can_first due rest w can =
     let (n, before, rises) = can.rise in
     let low = rises.0 in
@@ -126,7 +132,8 @@ can_rest due rest w v can played = record {
       let (es, is, of) = played.records in (
         due.line + 1,
         λ e among.
-            in_append e w.records es (subst (λ zs. Contains zs e) is among) (λ z. z.line < due.line + 1) (λ z there. let b = before z there in omega arith)
+            in_append e w.records es (subst (λ zs. Contains zs e) is among) (λ z. z.line < due.line + 1)
+            (λ z there. let b = before z there in omega arith)
             (λ z there. let same = only es z of there in omega arith),
         rises.1,
       );
@@ -142,7 +149,8 @@ can_rest due rest w v can played = record {
 
 -- ---- one op, as the gate sees it
 
-pub one_thread : (line : ℕ) (op : Op) (answer : Answer) (w v : WorkerValue) (k : ℕ) → PlaysOp line op answer w v → w.stock.thread ≡ k → v.stock.thread ≡ k
+pub one_thread : (line : ℕ) (op : Op) (answer : Answer) (w v : WorkerValue) (k : ℕ) → PlaysOp line op answer w v →
+    w.stock.thread ≡ k → v.stock.thread ≡ k
 one_thread line op answer w v k plays own = let (x, is, one) = plays 0 in one.does.same.0 ∙ own
 
 pub one_last : (line : ℕ) (op : Op) (answer : Answer) (w v : WorkerValue) (k : ℕ) → PlaysOp line op answer w v → w.stock.thread ≡ k →
@@ -150,7 +158,9 @@ pub one_last : (line : ℕ) (op : Op) (answer : Answer) (w v : WorkerValue) (k :
 one_last line op answer w v k plays own =
     let (x, is, one) = plays 0 in (
       w.records,
-      one.records ∙ (ap (λ (p : Played). w.records ++ entry_of p ∷ []) is ∙ ap (λ n. w.records ++ record { line = line; thread = n; answer = answer } ∷ []) own),
+      one.records ∙
+          (ap (λ (p : Played). w.records ++ entry_of p ∷ []) is ∙
+          ap (λ n. w.records ++ record { line = line; thread = n; answer = answer } ∷ []) own),
     )
 
 -- ---- the lines from a place on
@@ -158,24 +168,32 @@ one_last line op answer w v k plays own =
 pub drop_next : (ds : List LineOp) (i : ℕ) (d : LineOp) → i < length ds → drop i ds ≡ get_or ds i d ∷ drop (i + 1) ds
 drop_next [] i d low = absurd (omega arith)
 drop_next (x ∷ xs) zero d low = refl
-drop_next (x ∷ xs) (suc i) d low = let e : suc (i + 1) ≡ suc i + 1 = omega arith in drop_next xs i d (omega arith) ∙ ap (λ n. get_or xs i d ∷ drop n (x ∷ xs)) e
+drop_next (x ∷ xs) (suc i) d low = let e : suc (i + 1) ≡ suc i + 1 = omega arith in
+    drop_next xs i d (omega arith) ∙ ap (λ n. get_or xs i d ∷ drop n (x ∷ xs)) e
 
-pub can_next : (ds : List LineOp) (i : ℕ) (d : LineOp) (w : WorkerValue) → i < length ds → CanPlay (drop i ds) w → CanPlay (get_or ds i d ∷ drop (i + 1) ds) w
+pub can_next : (ds : List LineOp) (i : ℕ) (d : LineOp) (w : WorkerValue) → i < length ds → CanPlay (drop i ds) w →
+    CanPlay (get_or ds i d ∷ drop (i + 1) ds) w
 can_next ds i d w low can = subst (λ xs. CanPlay xs w) (drop_next ds i d low) can
 
 pub next_ready : (ds : List LineOp) (i : ℕ) (w : WorkerValue) → i < length ds → CanPlay (drop i ds) w → CanPlayOp w
-next_ready ds i w low can = let d : LineOp = record { line = 0; op = Purge } in (can_first (get_or ds i d) (drop (i + 1) ds) w (can_next ds i d w low can)).0
+next_ready ds i w low can = let d : LineOp = record { line = 0; op = Purge } in
+    (can_first (get_or ds i d) (drop (i + 1) ds) w (can_next ds i d w low can)).0
 
-pub next_limits : (ds : List LineOp) (i : ℕ) (d : LineOp) (w : WorkerValue) → i < length ds → CanPlay (drop i ds) w → IsOpWithin w.stock.partitions (get_or ds i d).op
+pub next_limits : (ds : List LineOp) (i : ℕ) (d : LineOp) (w : WorkerValue) → i < length ds → CanPlay (drop i ds) w →
+    IsOpWithin w.stock.partitions (get_or ds i d).op
 next_limits ds i d w low can = (can_first (get_or ds i d) (drop (i + 1) ds) w (can_next ds i d w low can)).1
 
-pub next_new : (ds : List LineOp) (i : ℕ) (d : LineOp) (w : WorkerValue) → i < length ds → CanPlay (drop i ds) w → AreBefore (get_or ds i d).line w.records
+pub next_new : (ds : List LineOp) (i : ℕ) (d : LineOp) (w : WorkerValue) → i < length ds → CanPlay (drop i ds) w →
+    AreBefore (get_or ds i d).line w.records
 next_new ds i d w low can = (can_first (get_or ds i d) (drop (i + 1) ds) w (can_next ds i d w low can)).2
 
-pub next_played : (ds : List LineOp) (i : ℕ) (d : LineOp) (u w v : WorkerValue) → i < length ds → PlaysLines (take i ds) u w → PlaysLines (get_or ds i d ∷ []) w v → PlaysLines (take (i + 1) ds) u v
-next_played ds i d u w v low first one = subst (λ xs. PlaysLines xs u v) (sym (take_more ds i d low)) (plays_then (take i ds) (get_or ds i d ∷ []) u w v first one)
+pub next_played : (ds : List LineOp) (i : ℕ) (d : LineOp) (u w v : WorkerValue) → i < length ds → PlaysLines (take i ds) u w →
+    PlaysLines (get_or ds i d ∷ []) w v → PlaysLines (take (i + 1) ds) u v
+next_played ds i d u w v low first one =
+    subst (λ xs. PlaysLines xs u v) (sym (take_more ds i d low)) (plays_then (take i ds) (get_or ds i d ∷ []) u w v first one)
 
-pub next_rest : (ds : List LineOp) (i : ℕ) (d : LineOp) (w v : WorkerValue) → i < length ds → CanPlay (drop i ds) w → PlaysLines (get_or ds i d ∷ []) w v → CanPlay (drop (i + 1) ds) v
+pub next_rest : (ds : List LineOp) (i : ℕ) (d : LineOp) (w v : WorkerValue) → i < length ds → CanPlay (drop i ds) w →
+    PlaysLines (get_or ds i d ∷ []) w v → CanPlay (drop (i + 1) ds) v
 next_rest ds i d w v low can one = can_rest (get_or ds i d) (drop (i + 1) ds) w v (can_next ds i d w low can) one
 
 pub all_lines : (ds : List LineOp) (i : ℕ) (u v : WorkerValue) → length ds ≤ i → PlaysLines (take i ds) u v → PlaysLines ds u v
@@ -185,14 +203,17 @@ pub same_thread : {ds : List LineOp} {w v : WorkerValue} → PlaysLines ds w v �
 same_thread {ds} {w} {v} played = let (xs, all, of) = played.plays 0 in (stays w v xs all).0
 
 -- a worker that stopped before it did anything has its stake, and owes nothing
-pub stopped_keeps : (w v : WorkerValue) → HasItsStake w.stock → v ≡ record w { stopped = true; owed = none_owed } → KeepsItsStake w.stock v.stock
-stopped_keeps w v stake same = subst (λ (z : WorkerValue). KeepsItsStake w.stock z.stock) (sym same) (record { thread = refl; stake = stake })
+pub stopped_keeps : (w v : WorkerValue) → HasItsStake w.stock →
+    v ≡ record w { stopped = true; owed = none_owed } → KeepsItsStake w.stock v.stock
+stopped_keeps w v stake same =
+    subst (λ (z : WorkerValue). KeepsItsStake w.stock z.stock) (sym same) (record { thread = refl; stake = stake })
 
 pub stopped_owes : (w v : WorkerValue) → v ≡ record w { stopped = true; owed = none_owed } → v.owed ≡ none_owed
 stopped_owes w v same = ap (λ (z : WorkerValue). z.owed) same
 
 -- a worker that stopped has no record more, whatever its thread state and room are
-pub stopped_records : (w v : WorkerValue) {s : StockValue} {n : ℕ} → v ≡ record w { stock = s; room = n; stopped = true; owed = none_owed } → v.records ≡ w.records
+pub stopped_records : (w v : WorkerValue) {s : StockValue} {n : ℕ} →
+    v ≡ record w { stock = s; room = n; stopped = true; owed = none_owed } → v.records ≡ w.records
 stopped_records w v same = ap (λ (z : WorkerValue). z.records) same
 
 -- of an error both are said
@@ -211,10 +232,14 @@ some_there (suc n) b is none = omega arith
 
 -- ---- it settles what it owes
 
-module _ (ends : SettlingEndsPhase) (ds : List LineOp) (u v : WorkerValue) (some : 0 < length ds) (kept : IsWorker v) (played : PlaysLines ds u v) where
-  settled_plays : (phase : ℕ) (xs : List ToldRecord) → PlaysAll u xs v → map op_line_of (played_in xs) ≡ map (in_phase (rules_at u.stock) phase u.stock.thread) ds →
-      (ys : List ToldRecord) × PlaysAll u ys (settled_worker v) × (map op_line_of (played_in ys) ≡ map (in_phase (rules_at u.stock) phase u.stock.thread) ds)
-  settled_plays phase [] all of = absurd (let a = ap (λ os. length os) of in let b = length-map ds (in_phase (rules_at u.stock) phase u.stock.thread) in omega arith)
+module _ (ends : SettlingEndsPhase) (ds : List LineOp) (u v : WorkerValue) (some : 0 < length ds) (kept : IsWorker v)
+    (played : PlaysLines ds u v) where
+  settled_plays : (phase : ℕ) (xs : List ToldRecord) → PlaysAll u xs v →
+      map op_line_of (played_in xs) ≡ map (in_phase (rules_at u.stock) phase u.stock.thread) ds →
+      (ys : List ToldRecord) × PlaysAll u ys (settled_worker v) ×
+      (map op_line_of (played_in ys) ≡ map (in_phase (rules_at u.stock) phase u.stock.thread) ds)
+  settled_plays phase [] all of =
+      absurd (let a = ap (λ os. length os) of in let b = length-map ds (in_phase (rules_at u.stock) phase u.stock.thread) in omega arith)
   settled_plays phase (x ∷ xs) all of =
       let (more, same) = ends u v x xs all kept played.stake in
       (last_lengthened (all_added v.owed) (x ∷ xs), more, ap (map op_line_of) same ∙ of)
@@ -240,24 +265,31 @@ back_whole ds u v whole settled = record {
 }
 
 -- it had no lines
-pub back_none : (ds : List LineOp) (i : ℕ) (u v : WorkerValue) → length ds ≤ i → length ds ≡ 0 → PlaysLines (take i ds) u v → u.owed ≡ none_owed → IsPlayed ds u v
+pub back_none : (ds : List LineOp) (i : ℕ) (u v : WorkerValue) → length ds ≤ i → length ds ≡ 0 → PlaysLines (take i ds) u v →
+    u.owed ≡ none_owed → IsPlayed ds u v
 back_none ds i u v past none played settled =
     let whole = all_lines ds i u v past played in
     let (xs, all, of) = whole.plays 0 in
     back_whole ds u v whole (owes xs all of)
   where
-    owes : (xs : List ToldRecord) → PlaysAll u xs v → map op_line_of (played_in xs) ≡ map (in_phase (rules_at u.stock) 0 u.stock.thread) ds → v.owed ≡ none_owed
+    owes : (xs : List ToldRecord) → PlaysAll u xs v →
+        map op_line_of (played_in xs) ≡ map (in_phase (rules_at u.stock) 0 u.stock.thread) ds → v.owed ≡ none_owed
     owes [] same of = ap (λ (w : WorkerValue). w.owed) same ∙ settled
-    owes (x ∷ xs) more of = absurd (let a = ap (λ os. length os) of in let b = length-map ds (in_phase (rules_at u.stock) 0 u.stock.thread) in omega arith)
+    owes (x ∷ xs) more of =
+        absurd (let a = ap (λ os. length os) of in let b = length-map ds (in_phase (rules_at u.stock) 0 u.stock.thread) in omega arith)
 
 -- it had some, and settled then
-pub back_settled : SettlingEndsPhase → (ds : List LineOp) (i : ℕ) (u v w : WorkerValue) → length ds ≤ i → 0 < length ds → PlaysLines (take i ds) u v → IsWorker v → w ≡ settled_worker v →
+pub back_settled : SettlingEndsPhase → (ds : List LineOp) (i : ℕ) (u v w : WorkerValue) → length ds ≤ i → 0 < length ds →
+    PlaysLines (take i ds) u v → IsWorker v → w ≡ settled_worker v →
     HasItsStake w.stock → IsPlayed ds u w
 back_settled ends ds i u v w past some played kept is stake =
     let whole = all_lines ds i u v past played in
-    subst (IsPlayed ds u) (sym is) (back_whole ds u (settled_worker v) (settled_lines ends ds u v some kept whole (subst (λ (z : WorkerValue). HasItsStake z.stock) is stake)) refl)
+    subst (IsPlayed ds u) (sym is)
+    (back_whole ds u (settled_worker v)
+    (settled_lines ends ds u v some kept whole (subst (λ (z : WorkerValue). HasItsStake z.stock) is stake)) refl)
 
-pub back_stopped : (ds : List LineOp) (i : ℕ) (d : LineOp) (u w v : WorkerValue) → i < length ds → PlaysLines (take i ds) u w → KeepsItsStake w.stock v.stock → v.stopped ≡ true →
+pub back_stopped : (ds : List LineOp) (i : ℕ) (d : LineOp) (u w v : WorkerValue) → i < length ds → PlaysLines (take i ds) u w →
+    KeepsItsStake w.stock v.stock → v.stopped ≡ true →
     v.owed ≡ none_owed → v.records ≡ w.records → StopsOp (get_or ds i d).line (get_or ds i d).op w v → IsPlayed ds u v
 back_stopped ds i d u w v low played keeps stopped settled records left =
     record {
@@ -278,7 +310,8 @@ back_stopped ds i d u w v low played keeps stopped settled records left =
     }
 
 -- after the next line was played, without running out of memory
-pub next_ok : {T E : Type 0} (ds : List LineOp) (i : ℕ) (d : LineOp) (u w v : WorkerValue) (r : Result T E) (x : T) → r ≡ Ok x → OnOk r (PlaysLines (get_or ds i d ∷ []) w v) → i < length ds →
+pub next_ok : {T E : Type 0} (ds : List LineOp) (i : ℕ) (d : LineOp) (u w v : WorkerValue) (r : Result T E) (x : T) → r ≡ Ok x →
+    OnOk r (PlaysLines (get_or ds i d ∷ []) w v) → i < length ds →
     CanPlay (drop i ds) w → PlaysLines (take i ds) u w → CanPlay (drop (i + 1) ds) v × PlaysLines (take (i + 1) ds) u v
 next_ok ds i d u w v r x is on low can before =
     let one : PlaysLines (get_or ds i d ∷ []) w v = subst (λ q. OnOk q (PlaysLines (get_or ds i d ∷ []) w v)) is on in

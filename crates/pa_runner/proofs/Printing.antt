@@ -29,7 +29,8 @@ use Rattle.pa_logs.proofs.Filters.{place_at}
 -- ---- the acts of gives and of purges
 
 in_purge : (lists : ℕ → List Numbered) (class n : ℕ) (a : RootAct) → Contains (purge_acts lists class n) a → NamesSlots a
-in_purge lists class zero a among = elim (in_cases Purge a [] among) [ inl e ↦ subst NamesSlots e tt | inr none ↦ absurd (not_in_none a none) ]
+in_purge lists class zero a among =
+    elim (in_cases Purge a [] among) [ inl e ↦ subst NamesSlots e tt | inr none ↦ absurd (not_in_none a none) ]
 in_purge lists class (suc n) a among = elim (Contains-append_cases (gives (lists class)) (purge_acts lists (class + 1) n) a among) [
   | inl here ↦ gives_names (lists class) a here
   | inr later ↦ in_purge lists (class + 1) n a later
@@ -49,7 +50,8 @@ module _ (partitions : ℕ) (roots : Journals) (x : Played) (p : ℕ) (a : RootA
 
   of_one : (q : ℕ) (b : RootAct) → OnlyActs roots x.line q (b ∷ []) → NamesSlots b → NamesSlots a
   of_one q b only named =
-      of_acts q (b ∷ []) only (λ d there. elim (in_cases b d [] there) [ inl e ↦ subst NamesSlots e named | inr none ↦ absurd (not_in_none d none) ])
+      of_acts q (b ∷ []) only
+      (λ d there. elim (in_cases b d [] there) [ inl e ↦ subst NamesSlots e named | inr none ↦ absurd (not_in_none d none) ])
 
   by_filled : (q class : ℕ) (old xs : List Numbered) → 0 < length xs → FilledFirst roots x.line q class old xs → NamesSlots a
   by_filled q class [] xs some (asked, only) = of_one q (Fill class asked xs) only some
@@ -76,7 +78,8 @@ module _ (partitions : ℕ) (roots : Journals) (x : Played) (p : ℕ) (a : RootA
   by_done (Some step) seen cache after (inr (other, acts, becomes)) = absurd (not_none (acts p))
 
   by_purged : (slots : ℕ) (cache after : Cache) → p < partitions → PurgedRow partitions roots x slots cache after → NamesSlots a
-  by_purged slots cache after below (acts, counted, empty) = in_purge (cache p) 0 170 a (subst (λ acts. Contains acts a) (acts p below) among)
+  by_purged slots cache after below (acts, counted, empty) =
+      in_purge (cache p) 0 170 a (subst (λ acts. Contains acts a) (acts p below) among)
 
   by_row : (answer : Answer) (cache after : Cache) → p < partitions → CacheRow partitions roots x answer cache after → NamesSlots a
   by_row (answers.Made seen usable) cache after below row = by_made seen cache after row
@@ -96,16 +99,19 @@ entry_named t r p e legal among = elim (cases_lt p t.partitions) [
       let (cache, after, known, row) = row_of t.partitions r.roots (records_of t r) x legal.caches of_line.0 in
       let on_line : RootEntry → Bool = λ (f : RootEntry). f.line == x.line in
       let here : Contains (acts_of r.roots x.line p) e.act =
-      map_in (λ (f : RootEntry). f.act) (filter on_line (r.roots p)) e (filter_in on_line (r.roots p) e among (eq-eqb e.line x.line (sym of_line.1))) in
+      map_in (λ (f : RootEntry). f.act) (filter on_line (r.roots p)) e
+      (filter_in on_line (r.roots p) e among (eq-eqb e.line x.line (sym of_line.1))) in
       by_row t.partitions r.roots x p e.act here x.answer cache after below row
   | inr past ↦ absurd (not_in_none e (subst (λ es. Contains es e) (legal.roots.none_past p past) among))
 ]
 
-pub journals_named : (t : Trace) (r : Told) (journals : List (List RootEntry)) → IsLegalTold t r → ((p : ℕ) → get_or journals p [] ≡ r.roots p) →
+pub journals_named : (t : Trace) (r : Told) (journals : List (List RootEntry)) → IsLegalTold t r →
+    ((p : ℕ) → get_or journals p [] ≡ r.roots p) →
     AllByRecursion (AllByRecursion (λ (e : RootEntry). NamesSlots e.act)) journals
 journals_named t r journals legal same =
     let N : RootEntry → Type 0 = λ e. NamesSlots e.act in
     let each : (p : ℕ) → AllByRecursion N (get_or journals p []) = λ p.
     recursion_from_All N (get_or journals p [])
-    (λ k d low. entry_named t r p _ legal (subst (λ es. Contains es (get_or (get_or journals p []) k d)) (same p) (Contains-get_or (get_or journals p []) k d low))) in
+    (λ k d low. entry_named t r p _ legal
+    (subst (λ es. Contains es (get_or (get_or journals p []) k d)) (same p) (Contains-get_or (get_or journals p []) k d low))) in
     recursion_from_All (AllByRecursion N) journals (All-from_get_or (AllByRecursion N) journals [] (λ p low. each p))

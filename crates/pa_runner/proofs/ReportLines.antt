@@ -30,12 +30,14 @@ pub record HaveTheSame (threads : ℕ) (workers others : ℕ → WorkerValue) : 
   pub lists : (k : ℕ) → k < threads → listed_in (others k).stock ≡ listed_in (workers k).stock
 
 module _ (threads : ℕ) (workers others : ℕ → WorkerValue) (same : HaveTheSame threads workers others) where
-  counts_same : (measure : Count → ℕ) (p : ℕ) → sum_over (λ k. measure (counted_in (others k).counts p)) threads ≡ sum_over (λ k. measure (counted_in (workers k).counts p)) threads
+  counts_same : (measure : Count → ℕ) (p : ℕ) →
+      sum_over (λ k. measure (counted_in (others k).counts p)) threads ≡ sum_over (λ k. measure (counted_in (workers k).counts p)) threads
   counts_same measure p =
       sum_same (λ k. measure (counted_in (workers k).counts p)) (λ k. measure (counted_in (others k).counts p)) threads
       (λ k low. ap (λ (cs : List Count). measure (counted_in cs p)) (same.counts k low))
 
-  left_same : (into out : Count → ℕ) (i j p : ℕ) (seat : View) (tally : Tally) → IsLeftOf into out i j p threads workers seat tally → IsLeftOf into out i j p threads others seat tally
+  left_same : (into out : Count → ℕ) (i j p : ℕ) (seat : View) (tally : Tally) → IsLeftOf into out i j p threads workers seat tally →
+      IsLeftOf into out i j p threads others seat tally
   left_same into out i j p seat tally left = record {
     slots =
         let s = left.slots in
@@ -49,11 +51,13 @@ module _ (threads : ℕ) (workers others : ℕ → WorkerValue) (same : HaveTheS
   cached_same p tally cached = record {
     slots =
         cached.slots
-        ∙ sym (sum_same (λ k. listed_slots (listed_in (workers k).stock p) 0 170) (λ k. listed_slots (listed_in (others k).stock p) 0 170) threads
+        ∙ sym (sum_same (λ k. listed_slots (listed_in (workers k).stock p) 0 170)
+        (λ k. listed_slots (listed_in (others k).stock p) 0 170) threads
         (λ k low. ap (λ lists. listed_slots (lists p) 0 170) (same.lists k low)));
     bytes =
         cached.bytes
-        ∙ sym (sum_same (λ k. listed_bytes (λ class. length (listed_in (workers k).stock p class)) 0 170) (λ k. listed_bytes (λ class. length (listed_in (others k).stock p class)) 0 170) threads
+        ∙ sym (sum_same (λ k. listed_bytes (λ class. length (listed_in (workers k).stock p class)) 0 170)
+        (λ k. listed_bytes (λ class. length (listed_in (others k).stock p class)) 0 170) threads
         (λ k low. ap (λ lists. listed_bytes (λ class. length (lists p class)) 0 170) (same.lists k low)));
   }
 
@@ -67,7 +71,8 @@ module _ (threads : ℕ) (workers others : ℕ → WorkerValue) (same : HaveTheS
   }
 
 -- workers that handed their stakes over have the same as before
-told_same : (threads : ℕ) (ends after : List WorkerValue) → HaveTold threads ends after → HaveTheSame threads (worker_in after) (worker_in ends)
+told_same : (threads : ℕ) (ends after : List WorkerValue) → HaveTold threads ends after →
+    HaveTheSame threads (worker_in after) (worker_in ends)
 told_same threads ends after told = record {
   counts = λ k low. sym (ap (λ (w : WorkerValue). w.counts) (told.told k low));
   lists = λ k low. sym (ap (λ (w : WorkerValue). listed_in w.stock) (told.told k low) ∙ still k (worker_in ends k));
@@ -78,14 +83,17 @@ told_same threads ends after told = record {
 
 -- ---- one more phase
 
-one_more : (partitions phase n : ℕ) → phases_of partitions phase (n + 1) ≡ phases_of partitions phase n ++ partitions_of (phase + n) 0 partitions
-one_more partitions phase zero = let e : phase ≡ phase + 0 = omega arith in append-nil (partitions_of phase 0 partitions) ∙ ap (λ m. partitions_of m 0 partitions) e
+one_more : (partitions phase n : ℕ) →
+    phases_of partitions phase (n + 1) ≡ phases_of partitions phase n ++ partitions_of (phase + n) 0 partitions
+one_more partitions phase zero = let e : phase ≡ phase + 0 = omega arith in
+    append-nil (partitions_of phase 0 partitions) ∙ ap (λ m. partitions_of m 0 partitions) e
 one_more partitions phase (suc n) =
     let e : suc n + 1 ≡ suc (n + 1) = omega arith in
     let f : phase + 1 + n ≡ phase + suc n = omega arith in
     ap (phases_of partitions phase) e
     ∙ (ap (λ qs. partitions_of phase 0 partitions ++ qs) (one_more partitions (phase + 1) n)
-    ∙ (sym (append_assoc (partitions_of phase 0 partitions) (phases_of partitions (phase + 1) n) (partitions_of (phase + 1 + n) 0 partitions))
+    ∙ (sym (append_assoc (partitions_of phase 0 partitions) (phases_of partitions (phase + 1) n)
+    (partitions_of (phase + 1 + n) 0 partitions))
     ∙ ap (λ m. phases_of partitions phase (suc n) ++ partitions_of m 0 partitions) f))
 
 pub report_empty : (t : Trace) (c : Course) (report : List ReportLine) → report ≡ [] → IsReportOf t 0 c report
@@ -95,7 +103,8 @@ report_empty t c report none = subst (IsReportOf t 0 c) (sym none) (record {
   right = λ l has. absurd (not_in_none l has);
 })
 
-module _ (t : Trace) (n : ℕ) (c d : Course) (ends after : List WorkerValue) (first seat : View) (before now : List ReportLine) (old : IsReportOf t n c before) (agree : Agree n c d)
+module _ (t : Trace) (n : ℕ) (c d : Course) (ends after : List WorkerValue) (first seat : View) (before now : List ReportLine)
+    (old : IsReportOf t n c before) (agree : Agree n c d)
     (ended : HasEnded t (n + 1) d (worker_in ends) seat) (told : HaveTold t.threads ends after)
     (said : IsReported (n + 1) t.partitions t.threads (worker_in after) first seat before now) where
   old_right : (l : ReportLine) → Contains before l → IsLineFor l.phase t.threads (d.ends l.phase) (d.seats l.phase) l
@@ -111,8 +120,10 @@ module _ (t : Trace) (n : ℕ) (c d : Course) (ends after : List WorkerValue) (f
   new_right l has =
       let line = said.right l has in
       let is : l.phase ≡ n + 1 = line.phase_is in
-      let ends_line : IsLineFor (n + 1) t.threads (worker_in ends) seat l = line_same t.threads (worker_in after) (worker_in ends) (told_same t.threads ends after told) (n + 1) seat l line in
-      let course_line : IsLineFor (n + 1) t.threads (d.ends (n + 1)) seat l = line_same t.threads (worker_in ends) (d.ends (n + 1)) (record {
+      let ends_line : IsLineFor (n + 1) t.threads (worker_in ends) seat l =
+      line_same t.threads (worker_in after) (worker_in ends) (told_same t.threads ends after told) (n + 1) seat l line in
+      let course_line : IsLineFor (n + 1) t.threads (d.ends (n + 1)) seat l =
+      line_same t.threads (worker_in ends) (d.ends (n + 1)) (record {
         counts = λ k few. ap (λ (w : WorkerValue). w.counts) (ended.ends k few);
         lists = λ k few. ap (λ (w : WorkerValue). listed_in w.stock) (ended.ends k few);
       }) (n + 1) seat l ends_line in
@@ -126,7 +137,8 @@ module _ (t : Trace) (n : ℕ) (c d : Course) (ends after : List WorkerValue) (f
         ap (map (λ (l : ReportLine). (l.phase, l.partition))) said.behind
         ∙ (map-append (λ (l : ReportLine). (l.phase, l.partition)) before said.lines
         ∙ (ap (λ qs. qs ++ map (λ (l : ReportLine). (l.phase, l.partition)) said.lines) old.places
-        ∙ (ap (λ qs. phases_of t.partitions 1 n ++ qs) (said.places ∙ ap (λ m. partitions_of m 0 t.partitions) e) ∙ sym (one_more t.partitions 1 n))));
+        ∙ (ap (λ qs. phases_of t.partitions 1 n ++ qs) (said.places ∙ ap (λ m. partitions_of m 0 t.partitions) e) ∙
+        sym (one_more t.partitions 1 n))));
     within = λ l has. elim (Contains-append_cases before said.lines l (subst (λ (ls : List ReportLine). Contains ls l) said.behind has)) [
       | inl first ↦ let w = old.within l first in (w.0, let high = w.1 in omega arith)
       | inr last ↦ let is = (said.right l last).phase_is in (omega arith, omega arith)

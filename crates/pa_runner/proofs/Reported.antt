@@ -28,23 +28,27 @@ use Rattle.pa_runner.specs.Reporting.{IsCountedBy, AreCountedBy, IsBalance, IsLi
 
 pub left_by : (into out : Count → ℕ) (i j p threads : ℕ) (workers : ℕ → WorkerValue) (seat : View) (a b bytes : ℕ) (t : Tally)
     → IsCountedBy into p threads workers a → IsCountedBy out p threads workers b →
-    bytes ≡ added_in seat (4 * p + i) - added_in seat (4 * p + j) → t ≡ record { slots = a - b; bytes = bytes } → IsLeftOf into out i j p threads workers seat t
+    bytes ≡ added_in seat (4 * p + i) - added_in seat (4 * p + j) → t ≡ record { slots = a - b; bytes = bytes } →
+    IsLeftOf into out i j p threads workers seat t
 left_by into out i j p threads workers seat a b bytes t of_a of_b of_bytes left =
     let s = ap (λ (q : Tally). q.slots) left in
     record { slots = omega arith; bytes = ap (λ (q : Tally). q.bytes) left ∙ of_bytes }
 
 -- both tallies of a line
-pub live_by : (p threads : ℕ) (workers : ℕ → WorkerValue) (seat : View) (n : Count) (bytes : ℕ × ℕ) (t : Tally) → AreCountedBy p threads workers n → IsBalance p seat bytes →
+pub live_by : (p threads : ℕ) (workers : ℕ → WorkerValue) (seat : View) (n : Count) (bytes : ℕ × ℕ) (t : Tally) →
+    AreCountedBy p threads workers n → IsBalance p seat bytes →
     t ≡ record { slots = n.issued - n.freed; bytes = bytes.0 } → IsLiveOf p threads workers seat t
 live_by p threads workers seat n bytes t of balance left =
     let e : 4 * p + 0 ≡ 4 * p = omega arith in
     left_by (λ (x : Count). x.issued) (λ (x : Count). x.freed) 0 1 p threads workers seat n.issued n.freed bytes.0 t of.issued of.freed
     (balance.live ∙ ap (λ k. added_in seat k - added_in seat (4 * p + 1)) (sym e)) left
 
-pub quarantined_by : (p threads : ℕ) (workers : ℕ → WorkerValue) (seat : View) (n : Count) (bytes : ℕ × ℕ) (t : Tally) → AreCountedBy p threads workers n → IsBalance p seat bytes →
+pub quarantined_by : (p threads : ℕ) (workers : ℕ → WorkerValue) (seat : View) (n : Count) (bytes : ℕ × ℕ) (t : Tally) →
+    AreCountedBy p threads workers n → IsBalance p seat bytes →
     t ≡ record { slots = n.entered - n.left; bytes = bytes.1 } → IsQuarantinedOf p threads workers seat t
 quarantined_by p threads workers seat n bytes t of balance left =
-    left_by (λ (x : Count). x.entered) (λ (x : Count). x.left) 2 3 p threads workers seat n.entered n.left bytes.1 t of.entered of.left balance.quarantined left
+    left_by (λ (x : Count). x.entered) (λ (x : Count). x.left) 2 3 p threads workers seat n.entered n.left bytes.1 t of.entered of.left
+    balance.quarantined left
 
 -- ---- a seat that asks
 
@@ -71,7 +75,8 @@ asked_nothing v = record { keeps = keeps_itself v; logs = λ k. refl; lists = λ
 pub asked_every : (first seat : View) → HasAsked first seat → HasEveryStake first → HasEveryStake seat
 asked_every first seat asked every k small = let s = asked.keeps.stakes k in let e = every k small in omega arith
 
-pub asked_more : (r : ℕ) (first seat next : View) → HasAsked first seat → Lends r [] seat next → HasSameLists seat next → HasAsked first next
+pub asked_more : (r : ℕ) (first seat next : View) → HasAsked first seat → Lends r [] seat next →
+    HasSameLists seat next → HasAsked first next
 asked_more r first seat next asked lends same = record {
   keeps = keeps_on first seat next asked.keeps lends.keeps;
   logs = λ k. same_log k ∙ asked.logs k;
@@ -92,17 +97,21 @@ census_still p c seat next same tells list pools begins pool =
     subst (λ (journal : List Made). IsCensusBy journal list c) (sym (same p))
     (tells list pools (subst (λ (ms : List Made). IsBeginning ms list) (same 4) begins) pool)
 
-left_still : (into out : Count → ℕ) (i j p threads : ℕ) (workers : ℕ → WorkerValue) (seat next : View) (t : Tally) → ((k : ℕ) → added_in next k ≡ added_in seat k) →
+left_still : (into out : Count → ℕ) (i j p threads : ℕ) (workers : ℕ → WorkerValue) (seat next : View) (t : Tally) →
+    ((k : ℕ) → added_in next k ≡ added_in seat k) →
     IsLeftOf into out i j p threads workers seat t → IsLeftOf into out i j p threads workers next t
 left_still into out i j p threads workers seat next t same left =
     record { slots = left.slots; bytes = (let a = same (4 * p + i) in let b = same (4 * p + j) in let e = left.bytes in omega arith) }
 
-line_still : (phase threads : ℕ) (workers : ℕ → WorkerValue) (seat next : View) (l : ReportLine) → HasSameLists seat next → ((k : ℕ) → added_in next k ≡ added_in seat k) →
+line_still : (phase threads : ℕ) (workers : ℕ → WorkerValue) (seat next : View) (l : ReportLine) → HasSameLists seat next →
+    ((k : ℕ) → added_in next k ≡ added_in seat k) →
     IsLineFor phase threads workers seat l → IsLineFor phase threads workers next l
 line_still phase threads workers seat next l same added line = record {
   phase_is = line.phase_is;
   live = left_still (λ (n : Count). n.issued) (λ (n : Count). n.freed) 0 1 l.partition threads workers seat next l.live added line.live;
-  quarantined = left_still (λ (n : Count). n.entered) (λ (n : Count). n.left) 2 3 l.partition threads workers seat next l.quarantined added line.quarantined;
+  quarantined =
+      left_still (λ (n : Count). n.entered) (λ (n : Count). n.left) 2 3 l.partition threads workers seat next l.quarantined added
+      line.quarantined;
   cached = line.cached;
   root = census_still l.partition (census_of l) seat next same line.root;
 }
@@ -112,9 +121,12 @@ one_place phase p zero = let e : p ≡ p + 0 = omega arith in ap (λ q. (phase, 
 one_place phase p (suc n) =
     let e : suc n + 1 ≡ suc (n + 1) = omega arith in
     let f : p + 1 + n ≡ p + suc n = omega arith in
-    ap (partitions_of phase p) e ∙ (ap (λ qs. (phase, p) ∷ qs) (one_place phase (p + 1) n) ∙ ap (λ q. (phase, p) ∷ (partitions_of phase (p + 1) n ++ (phase, q) ∷ [])) f)
+    ap (partitions_of phase p) e ∙
+    (ap (λ qs. (phase, p) ∷ qs) (one_place phase (p + 1) n) ∙
+    ap (λ q. (phase, p) ∷ (partitions_of phase (p + 1) n ++ (phase, q) ∷ [])) f)
 
-pub report_none : (phase threads : ℕ) (workers : ℕ → WorkerValue) (seat : View) (before : List ReportLine) → IsReported phase 0 threads workers seat seat before before
+pub report_none : (phase threads : ℕ) (workers : ℕ → WorkerValue) (seat : View) (before : List ReportLine) →
+    IsReported phase 0 threads workers seat seat before before
 report_none phase threads workers seat before = record {
   asked = asked_nothing seat;
   lines = [];
@@ -124,8 +136,10 @@ report_none phase threads workers seat before = record {
 }
 
 -- The seat asked one root more, and there is no line of it yet.
-pub report_asked : (phase p r threads : ℕ) (workers : ℕ → WorkerValue) (first seat next : View) (before now : List ReportLine) → IsReported phase p threads workers first seat before now →
-    IsAware first → HasEveryStake first → Lends r [] seat next → (HasEveryStake seat → HasSameLists seat next) → IsReported phase p threads workers first next before now
+pub report_asked : (phase p r threads : ℕ) (workers : ℕ → WorkerValue) (first seat next : View) (before now : List ReportLine) →
+    IsReported phase p threads workers first seat before now →
+    IsAware first → HasEveryStake first → Lends r [] seat next → (HasEveryStake seat → HasSameLists seat next) →
+    IsReported phase p threads workers first next before now
 report_asked phase p r threads workers first seat next before now so aware every lends lists =
     let same = lists (asked_every first seat so.asked every) in
     let then = asked_more r first seat next so.asked lends same in
@@ -141,19 +155,22 @@ report_asked phase p r threads workers first seat next before now so aware every
 
 pub report_more : (phase p r threads : ℕ) (workers : ℕ → WorkerValue) (first seat next : View) (before now after : List ReportLine)
     (l : ReportLine) → IsReported phase p threads workers first seat before now →
-    IsAware first → HasEveryStake first → Lends r [] seat next → (HasEveryStake seat → HasSameLists seat next) → IsLineFor phase threads workers next l → l.partition ≡ p →
+    IsAware first → HasEveryStake first → Lends r [] seat next → (HasEveryStake seat → HasSameLists seat next) →
+    IsLineFor phase threads workers next l → l.partition ≡ p →
     after ≡ now ++ l ∷ [] →
     IsReported phase (p + 1) threads workers first next before after
 report_more phase p r threads workers first seat next before now after l so aware every lends lists line at behind =
     let asked = report_asked phase p r threads workers first seat next before now so aware every lends lists in
-    let place : (l.phase, l.partition) ≡ (phase, 0 + p) = (let f : l.partition ≡ 0 + p = omega arith in ap (λ n. (n, l.partition)) line.phase_is ∙ ap (λ q. (phase, q)) f) in
+    let place : (l.phase, l.partition) ≡ (phase, 0 + p) =
+    (let f : l.partition ≡ 0 + p = omega arith in ap (λ n. (n, l.partition)) line.phase_is ∙ ap (λ q. (phase, q)) f) in
     record {
       asked = asked.asked;
       lines = asked.lines ++ l ∷ [];
       behind = behind ∙ (ap (λ ls. ls ++ l ∷ []) asked.behind ∙ append_assoc before asked.lines (l ∷ []));
       places =
           map-append (λ (x : ReportLine). (x.phase, x.partition)) asked.lines (l ∷ [])
-          ∙ (ap (λ qs. qs ++ (l.phase, l.partition) ∷ []) asked.places ∙ (ap (λ q. partitions_of phase 0 p ++ q ∷ []) place ∙ sym (one_place phase 0 p)));
+          ∙ (ap (λ qs. qs ++ (l.phase, l.partition) ∷ []) asked.places ∙
+          (ap (λ q. partitions_of phase 0 p ++ q ∷ []) place ∙ sym (one_place phase 0 p)));
       right = λ x has. elim (Contains-push_cases asked.lines l x has) [
         | inl old ↦ asked.right x old
         | inr e ↦ subst (IsLineFor phase threads workers next) e line

@@ -25,10 +25,12 @@ sum_more f i = let e : i + 1 ≡ suc i = omega arith in ap (sum_over f) e
 pub item_in : (ws : List WorkerValue) (i : ℕ) (d w : WorkerValue) → w ≡ get_or ws i d → i < length ws → w ≡ worker_in ws i
 item_in ws i d w is low = is ∙ get_or_default ws i d no_worker low
 
-pub worker_at : (ws : List WorkerValue) (i : ℕ) (d w : WorkerValue) → w ≡ get_or ws i d → i < length ws → IsWorker w → IsWorker (worker_in ws i)
+pub worker_at : (ws : List WorkerValue) (i : ℕ) (d w : WorkerValue) → w ≡ get_or ws i d → i < length ws →
+    IsWorker w → IsWorker (worker_in ws i)
 worker_at ws i d w is low kept = subst IsWorker (item_in ws i d w is low) kept
 
-pub count_at : (ws : List WorkerValue) (i p : ℕ) (d w : WorkerValue) (counts : List Count) (e : Count) → w ≡ get_or ws i d → i < length ws → IsWorker w → counts ≡ w.counts → p < 4 →
+pub count_at : (ws : List WorkerValue) (i p : ℕ) (d w : WorkerValue) (counts : List Count) (e : Count) → w ≡ get_or ws i d → i < length ws →
+    IsWorker w → counts ≡ w.counts → p < 4 →
     get_or counts p e ≡ counted_in (worker_in ws i).counts p
 count_at ws i p d w counts e is low kept same small =
     let four = kept.counts.count in
@@ -49,7 +51,8 @@ pub record AreAdding (p i : ℕ) (ws : List WorkerValue) (n : Count) : Type 0 wh
   pub entered : IsAdding (λ (c : Count). c.entered) p i ws n.entered
   pub left : IsAdding (λ (c : Count). c.left) p i ws n.left
 
-adding_more : (part : Count → ℕ) (p i steps : ℕ) (ws : List WorkerValue) (slots more : ℕ) → more ≡ part (counted_in (worker_in ws i).counts p) → part (counted_in (worker_in ws i).counts p) ≤ steps →
+adding_more : (part : Count → ℕ) (p i steps : ℕ) (ws : List WorkerValue) (slots more : ℕ) →
+    more ≡ part (counted_in (worker_in ws i).counts p) → part (counted_in (worker_in ws i).counts p) ≤ steps →
     steps ≤ 65536 → IsAdding part p i ws slots → IsAdding part p (i + 1) ws (slots + more)
 adding_more part p i steps ws slots more is of few adding =
     let a = sum_more (λ k. part (counted_in (worker_in ws k).counts p)) i in
@@ -57,19 +60,24 @@ adding_more part p i steps ws slots more is of few adding =
     let u = adding.few in
     record { by = omega arith; few = omega arith }
 
-module _ (p i : ℕ) (ws : List WorkerValue) (n more : Count) (is : more ≡ counted_in (worker_in ws i).counts p) (of : AreOfSteps (length (worker_in ws i).records) (worker_in ws i).counts)
+module _ (p i : ℕ) (ws : List WorkerValue) (n more : Count) (is : more ≡ counted_in (worker_in ws i).counts p)
+    (of : AreOfSteps (length (worker_in ws i).records) (worker_in ws i).counts)
     (few : length (worker_in ws i).records ≤ 65536) (adding : AreAdding p i ws n) where
-  pub add_more : (after : Count) → after.issued ≡ n.issued + more.issued → after.freed ≡ n.freed + more.freed → after.entered ≡ n.entered + more.entered → after.left ≡ n.left + more.left →
+  pub add_more : (after : Count) → after.issued ≡ n.issued + more.issued → after.freed ≡ n.freed + more.freed →
+      after.entered ≡ n.entered + more.entered → after.left ≡ n.left + more.left →
       AreAdding p (i + 1) ws after
   add_more after a b c d =
       let steps = length (worker_in ws i).records in
       record {
         issued = subst (IsAdding (λ (x : Count). x.issued) p (i + 1) ws) (sym a)
-            (adding_more (λ (x : Count). x.issued) p i steps ws n.issued more.issued (ap (λ (x : Count). x.issued) is) (of.issued p) few adding.issued);
+            (adding_more (λ (x : Count). x.issued) p i steps ws n.issued more.issued (ap (λ (x : Count). x.issued) is)
+            (of.issued p) few adding.issued);
         freed = subst (IsAdding (λ (x : Count). x.freed) p (i + 1) ws) (sym b)
-            (adding_more (λ (x : Count). x.freed) p i steps ws n.freed more.freed (ap (λ (x : Count). x.freed) is) (of.freed p) few adding.freed);
+            (adding_more (λ (x : Count). x.freed) p i steps ws n.freed more.freed (ap (λ (x : Count). x.freed) is)
+            (of.freed p) few adding.freed);
         entered = subst (IsAdding (λ (x : Count). x.entered) p (i + 1) ws) (sym c)
-            (adding_more (λ (x : Count). x.entered) p i steps ws n.entered more.entered (ap (λ (x : Count). x.entered) is) (of.entered p) few adding.entered);
+            (adding_more (λ (x : Count). x.entered) p i steps ws n.entered more.entered (ap (λ (x : Count). x.entered) is)
+            (of.entered p) few adding.entered);
         left = subst (IsAdding (λ (x : Count). x.left) p (i + 1) ws) (sym d)
             (adding_more (λ (x : Count). x.left) p i steps ws n.left more.left (ap (λ (x : Count). x.left) is) (of.left p) few adding.left);
       }
@@ -105,11 +113,14 @@ listed_few lists class (suc n) low short =
     let b = again.1 in
     (omega arith, omega arith)
 
-module _ (p i : ℕ) (ws : List WorkerValue) (t more : Tally) (stock : IsStock (worker_in ws i).stock) (slots : more.slots ≡ listed_slots (listed_in (worker_in ws i).stock p) 0 170)
-    (bytes : more.bytes ≡ listed_bytes (λ class. length (listed_in (worker_in ws i).stock p class)) 0 170) (caching : IsCaching p i ws t) where
+module _ (p i : ℕ) (ws : List WorkerValue) (t more : Tally) (stock : IsStock (worker_in ws i).stock)
+    (slots : more.slots ≡ listed_slots (listed_in (worker_in ws i).stock p) 0 170)
+    (bytes : more.bytes ≡ listed_bytes (λ class. length (listed_in (worker_in ws i).stock p class)) 0 170)
+    (caching : IsCaching p i ws t) where
   pub cache_fits : i < 16 → (t.slots + more.slots < 2 ^ 64) × (t.bytes + more.bytes < 2 ^ 64)
   cache_fits low =
-      let l = listed_few (listed_in (worker_in ws i).stock p) 0 170 (omega arith) (λ k small. short_list (worker_in ws i).stock p k stock small) in
+      let l = listed_few (listed_in (worker_in ws i).stock p) 0 170 (omega arith)
+      (λ k small. short_list (worker_in ws i).stock p k stock small) in
       let a = l.0 in
       let b = l.1 in
       let u = caching.few in
@@ -118,7 +129,8 @@ module _ (p i : ℕ) (ws : List WorkerValue) (t more : Tally) (stock : IsStock (
 
   pub cache_more : IsCaching p (i + 1) ws (together t more)
   cache_more =
-      let l = listed_few (listed_in (worker_in ws i).stock p) 0 170 (omega arith) (λ k small. short_list (worker_in ws i).stock p k stock small) in
+      let l = listed_few (listed_in (worker_in ws i).stock p) 0 170 (omega arith)
+      (λ k small. short_list (worker_in ws i).stock p k stock small) in
       let a = sum_more (λ k. listed_slots (listed_in (worker_in ws k).stock p) 0 170) i in
       let b = sum_more (λ k. listed_bytes (λ class. length (listed_in (worker_in ws k).stock p class)) 0 170) i in
       let c = l.0 in

@@ -24,12 +24,15 @@ use Rattle.pa_runner.proofs.Closing.{entries_of, told_of, is_legal, has_timeline
 use Rattle.pa_runner.proofs.Printing.{journals_named}
 use Rattle.pa_rules.proofs.SameTold.{same_lists}
 
-module _ (t : Trace) (workers : List WorkerValue) (seat : View) (report : List ReportLine) (limits : IsWithinLimits t) (went : HasPlayed t workers seat report)
-    (words : ℕ) (left : Left) (long : words ≡ 262144 * t.region) (four : length left.roots ≡ 4) (closed : IsClosedBy words workers seat left) where
+module _ (t : Trace) (workers : List WorkerValue) (seat : View) (report : List ReportLine) (limits : IsWithinLimits t)
+    (went : HasPlayed t workers seat report)
+    (words : ℕ) (left : Left) (long : words ≡ 262144 * t.region) (four : length left.roots ≡ 4)
+    (closed : IsClosedBy words workers seat left) where
   legal : IsLegalTold t (told_of t went.course left report)
   legal = is_legal t workers seat report limits went words left long four closed
 
-  module _ (run : Run) (entries : run.entries.items ≡ entries_of t went.course) (roots : run.roots.items ≡ left.roots) (pool : run.pool.items ≡ left.pool.items)
+  module _ (run : Run) (entries : run.entries.items ≡ entries_of t went.course) (roots : run.roots.items ≡ left.roots)
+      (pool : run.pool.items ≡ left.pool.items)
       (cells : run.cells.items ≡ left.cells.items) (lines : run.report.items ≡ report) where
     journals : (p : ℕ) → journal_of run p ≡ journal_left left p
     journals p = ap (λ (js : List (List RootEntry)). get_or js p []) roots
@@ -44,8 +47,10 @@ module _ (t : Trace) (workers : List WorkerValue) (seat : View) (report : List R
     is_run stay = record {
       legal = subst (IsLegalTold t) (sym same) legal;
       ordered = subst (HasTimeline t) (sym same) (has_timeline t workers seat report limits went words left long four closed);
-      held = subst (λ (r : Told). IsHeldIn t r left.region) (sym same) (is_held t workers seat report limits went words left long four closed stay);
-      lists = subst (λ (r : Told). HasLinkedLists t r left.region) (sym same) (has_lists t workers seat report limits went words left long four closed);
+      held = subst (λ (r : Told). IsHeldIn t r left.region) (sym same)
+          (is_held t workers seat report limits went words left long four closed stay);
+      lists = subst (λ (r : Told). HasLinkedLists t r left.region) (sym same)
+          (has_lists t workers seat report limits went words left long four closed);
       spans = subst (λ (r : Told). HasSpanRecords r left.region) (sym same) closed.spans;
       long = closed.long ∙ long;
       printable = record {

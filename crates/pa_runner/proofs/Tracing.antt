@@ -30,11 +30,13 @@ lines_over : (rules : Rules) (n phase : ℕ) (xs ys : List Line) →
 lines_over rules n phase [] ys = let e : n ≡ n + 0 = omega arith in ap (λ m. op_lines rules m phase ys) e
 lines_over rules n phase (Phase ∷ xs) ys =
     let e : n + 1 + length xs ≡ n + suc (length xs) = omega arith in
-    lines_over rules (n + 1) (phase + 1) xs ys ∙ ap (λ m. op_lines rules (n + 1) (phase + 1) xs ++ op_lines rules m (phase_after (phase + 1) xs) ys) e
+    lines_over rules (n + 1) (phase + 1) xs ys ∙
+    ap (λ m. op_lines rules (n + 1) (phase + 1) xs ++ op_lines rules m (phase_after (phase + 1) xs) ys) e
 lines_over rules n phase (Do thread op ∷ xs) ys =
     let e : n + 1 + length xs ≡ n + suc (length xs) = omega arith in
     let first : OpLine = record { line = n; thread = thread; phase = phase; rules = rules; op = op } in
-    ap (λ os. first ∷ os) (lines_over rules (n + 1) phase xs ys ∙ ap (λ m. op_lines rules (n + 1) phase xs ++ op_lines rules m (phase_after phase xs) ys) e)
+    ap (λ os. first ∷ os)
+    (lines_over rules (n + 1) phase xs ys ∙ ap (λ m. op_lines rules (n + 1) phase xs ++ op_lines rules m (phase_after phase xs) ys) e)
 
 -- a line isn't of another phase
 other_phase : (n k : ℕ) (o : OpLine) → (o.phase ≡ n → ⊥) → is_line_of n k o ≡ false
@@ -45,14 +47,17 @@ none_before : (rules : Rules) (n phase m k : ℕ) (ls : List Line) → m < phase
 none_before rules n phase m k [] low = refl
 none_before rules n phase m k (Phase ∷ ls) low = none_before rules (n + 1) (phase + 1) m k ls (omega arith)
 none_before rules n phase m k (Do thread op ∷ ls) low =
-    rw (other_phase m k (record { line = n; thread = thread; phase = phase; rules = rules; op = op }) (λ e. omega arith)) (none_before rules (n + 1) phase m k ls low)
+    rw (other_phase m k (record { line = n; thread = thread; phase = phase; rules = rules; op = op }) (λ e. omega arith))
+    (none_before rules (n + 1) phase m k ls low)
 
-none_behind : (rules : Rules) (n phase m k : ℕ) (ls : List Line) → phase_after phase ls < m → filter (is_line_of m k) (op_lines rules n phase ls) ≡ []
+none_behind : (rules : Rules) (n phase m k : ℕ) (ls : List Line) → phase_after phase ls < m →
+    filter (is_line_of m k) (op_lines rules n phase ls) ≡ []
 none_behind rules n phase m k [] high = refl
 none_behind rules n phase m k (Phase ∷ ls) high = none_behind rules (n + 1) (phase + 1) m k ls high
 none_behind rules n phase m k (Do thread op ∷ ls) high =
     let up = phase_on phase ls in
-    rw (other_phase m k (record { line = n; thread = thread; phase = phase; rules = rules; op = op }) (λ e. omega arith)) (none_behind rules (n + 1) phase m k ls high)
+    rw (other_phase m k (record { line = n; thread = thread; phase = phase; rules = rules; op = op }) (λ e. omega arith))
+    (none_behind rules (n + 1) phase m k ls high)
 
 -- ---- up to a place of the trace
 
@@ -62,7 +67,8 @@ phase_at i ls = phases_in (take i ls)
 
 module _ (ls : List Line) (i : ℕ) (low : i < length ls) where
   -- if a new phase begins here, all lines of the phase that ends were seen
-  pub phase_whole : (rules : Rules) (k : ℕ) → get_or ls i Phase ≡ Phase → lines_in rules ls (phase_at i ls) k ≡ lines_in rules (take i ls) (phase_at i ls) k
+  pub phase_whole : (rules : Rules) (k : ℕ) → get_or ls i Phase ≡ Phase →
+      lines_in rules ls (phase_at i ls) k ≡ lines_in rules (take i ls) (phase_at i ls) k
   phase_whole rules k is =
       let xs = take i ls in
       let ys = drop (suc i) ls in
@@ -95,7 +101,8 @@ module _ (ls : List Line) (i : ℕ) (low : i < length ls) where
       let at = phases_are (take i ls) in
       let next = phase_next is in
       ap (λ zs. filter (is_line_of (phase_at (i + 1) ls) k) (op_lines rules 2 1 zs)) more
-      ∙ (ap (filter (is_line_of (phase_at (i + 1) ls) k)) (lines_phase rules 2 1 (take i ls)) ∙ none_behind rules 2 1 (phase_at (i + 1) ls) k (take i ls) (omega arith))
+      ∙ (ap (filter (is_line_of (phase_at (i + 1) ls) k)) (lines_phase rules 2 1 (take i ls)) ∙
+      none_behind rules 2 1 (phase_at (i + 1) ls) k (take i ls) (omega arith))
 
   -- a line of a thread is in the same phase, after those of its thread
   module _ (thread : ℕ) (op : Op) (is : get_or ls i Phase ≡ Do thread op) where
@@ -122,31 +129,39 @@ module _ (ls : List Line) (i : ℕ) (low : i < length ls) where
         let number : 2 + length (take i ls) ≡ i + 2 = omega arith in
         ap (op_lines rules 2 1) more_is
         ∙ (lines_push rules 2 1 (take i ls) thread op
-        ∙ (ap (λ m. op_lines rules 2 1 (take i ls) ++ record { line = m; thread = thread; phase = phase_after 1 (take i ls); rules = rules; op = op } ∷ []) number
-        ∙ ap (λ p. op_lines rules 2 1 (take i ls) ++ record { line = i + 2; thread = thread; phase = p; rules = rules; op = op } ∷ []) (phases_are (take i ls))))
+        ∙ (ap (λ m. op_lines rules 2 1 (take i ls) ++
+        record { line = m; thread = thread; phase = phase_after 1 (take i ls); rules = rules; op = op } ∷ []) number
+        ∙ ap (λ p. op_lines rules 2 1 (take i ls) ++ record { line = i + 2; thread = thread; phase = p; rules = rules; op = op } ∷ [])
+        (phases_are (take i ls))))
       where
         long_take : (zs : List Line) (j : ℕ) → j < length zs → length (take j zs) ≡ j
         long_take [] j short = absurd (omega arith)
         long_take (z ∷ zs) zero short = refl
         long_take (z ∷ zs) (suc j) short = let again = long_take zs j (omega arith) in omega arith
 
-    pub line_mine : (rules : Rules) → lines_in rules (take (i + 1) ls) (phase_at i ls) thread ≡ lines_in rules (take i ls) (phase_at i ls) thread ++ here rules ∷ []
+    pub line_mine : (rules : Rules) →
+        lines_in rules (take (i + 1) ls) (phase_at i ls) thread ≡ lines_in rules (take i ls) (phase_at i ls) thread ++ here rules ∷ []
     line_mine rules =
-        let own : is_line_of (phase_at i ls) thread (here rules) ≡ true = rw (eq-eqb (phase_at i ls) (phase_at i ls) refl, eq-eqb thread thread refl) refl in
+        let own : is_line_of (phase_at i ls) thread (here rules) ≡ true =
+        rw (eq-eqb (phase_at i ls) (phase_at i ls) refl, eq-eqb thread thread refl) refl in
         let last : filter (is_line_of (phase_at i ls) thread) (here rules ∷ []) ≡ here rules ∷ [] = rw own refl in
         ap (filter (is_line_of (phase_at i ls) thread)) (lines_are rules)
-        ∙ (filter-append (is_line_of (phase_at i ls) thread) (op_lines rules 2 1 (take i ls)) (here rules ∷ []) ∙ ap (λ os. lines_in rules (take i ls) (phase_at i ls) thread ++ os) last)
+        ∙ (filter-append (is_line_of (phase_at i ls) thread) (op_lines rules 2 1 (take i ls)) (here rules ∷ []) ∙
+        ap (λ os. lines_in rules (take i ls) (phase_at i ls) thread ++ os) last)
 
-    pub line_other : (rules : Rules) (k : ℕ) → (k ≡ thread → ⊥) → lines_in rules (take (i + 1) ls) (phase_at i ls) k ≡ lines_in rules (take i ls) (phase_at i ls) k
+    pub line_other : (rules : Rules) (k : ℕ) → (k ≡ thread → ⊥) →
+        lines_in rules (take (i + 1) ls) (phase_at i ls) k ≡ lines_in rules (take i ls) (phase_at i ls) k
     line_other rules k ne =
-        let other : is_line_of (phase_at i ls) k (here rules) ≡ false = rw (eq-eqb (phase_at i ls) (phase_at i ls) refl, ne_eqb thread k (λ e. ne (sym e))) refl in
+        let other : is_line_of (phase_at i ls) k (here rules) ≡ false =
+        rw (eq-eqb (phase_at i ls) (phase_at i ls) refl, ne_eqb thread k (λ e. ne (sym e))) refl in
         let last : filter (is_line_of (phase_at i ls) k) (here rules ∷ []) ≡ [] = rw other refl in
         ap (filter (is_line_of (phase_at i ls) k)) (lines_are rules)
         ∙ (filter-append (is_line_of (phase_at i ls) k) (op_lines rules 2 1 (take i ls)) (here rules ∷ [])
         ∙ (ap (λ os. lines_in rules (take i ls) (phase_at i ls) k ++ os) last ∙ append-nil (lines_in rules (take i ls) (phase_at i ls) k)))
 
 -- at the end all lines of the last phase were seen
-pub all_seen : (rules : Rules) (ls : List Line) (i k : ℕ) → length ls ≤ i → lines_in rules ls (phases_in ls) k ≡ lines_in rules (take i ls) (phase_at i ls) k
+pub all_seen : (rules : Rules) (ls : List Line) (i k : ℕ) → length ls ≤ i →
+    lines_in rules ls (phases_in ls) k ≡ lines_in rules (take i ls) (phase_at i ls) k
 all_seen rules ls i k past = let all = take_all i ls past in ap (λ zs. lines_in rules zs (phases_in zs) k) (sym all)
 
 -- ---- how many lines a thread has

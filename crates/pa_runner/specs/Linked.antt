@@ -6,8 +6,8 @@ use Rattle.pa_trace.specs.declared.script.Trace.{Trace}
 use Rattle.pa_rules.specs.Caches.{Caches, CachesTo, no_caches}
 use Rattle.pa_rules.specs.Told.{Told, records_of}
 
--- The words have the threads' lists as the run leaves them, by thread, partition and class. A list that the run doesn't have is
--- empty.
+-- The words have the threads' lists as the run leaves them, by thread, partition and class.
+-- A list that the run doesn't have is empty.
 pub record HasLinkedLists (t : Trace) (r : Told) (words : List ℕ) : Type 0 where
   pub all : Caches
   pub are : CachesTo t.partitions r.roots no_caches (records_of t r) all

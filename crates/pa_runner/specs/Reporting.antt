@@ -28,8 +28,8 @@ pub record IsBalance (p : ℕ) (seat : View) (bytes : ℕ × ℕ) : Type 0 where
   pub live : bytes.0 ≡ added_in seat (4 * p) - added_in seat (4 * p + 1)
   pub quarantined : bytes.1 ≡ added_in seat (4 * p + 2) - added_in seat (4 * p + 3)
 
--- The line is of this phase, and says what the workers counted and have cached, and the totals words and the census of its root, as a
--- seat has seen them.
+-- The line is of this phase, and says what the workers counted and have cached,
+-- and the totals words and the census of its root, as a seat has seen them.
 pub record IsLineFor (phase threads : ℕ) (workers : ℕ → WorkerValue) (seat : View) (l : ReportLine) : Type 0 where
   pub phase_is : l.phase ≡ phase
   pub live : IsLiveOf l.partition threads workers seat l.live
@@ -44,7 +44,8 @@ pub record HasAsked (before after : View) : Type 0 where
   pub lists : HasSameLists before after
 
 -- Lines were appended to those of a report: one for each partition in order, each of this phase and right.
-pub record IsReported (phase partitions threads : ℕ) (workers : ℕ → WorkerValue) (first seat : View) (before after : List ReportLine) : Type 0 where
+pub record IsReported (phase partitions threads : ℕ) (workers : ℕ → WorkerValue) (first seat : View)
+    (before after : List ReportLine) : Type 0 where
   pub asked : HasAsked first seat
   pub lines : List ReportLine
   pub behind : after ≡ before ++ lines

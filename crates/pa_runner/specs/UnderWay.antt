@@ -66,8 +66,8 @@ pub record IsUnderWay (t : Trace) (i phase : ℕ) (workers : List WorkerValue) (
   pub reported : IsReportOf t over course report
 
 -- Memory ran out when a trace was under way to some line index, in some phase. Either no line of that phase was played, and workers
--- and main seat are as they were, or all workers are back from the phase, with or without having stopped, and the main seat has every
--- stake.
+-- and main seat are as they were, or all workers are back from the phase, with or without having stopped,
+-- and the main seat has every stake.
 pub record StopsIn (t : Trace) (workers : List WorkerValue) (seat : View) : Type 0 where
   pub index : ℕ
   pub phase : ℕ

@@ -47,7 +47,8 @@ impl<R: Threads + Wait + Sync, N: Name + Send + Sync, G: Gate> Playing<'_, R, N,
         ensures reported { OnOk result ((told : View) × IsReported phase self.now.trace.now.partitions (length workers.old)
             (worker_in workers.new) told seat.new.view report.old.items report.new.items) }
         ensures begun { OnErr result ((told : View) × (partitions : ℕ) × (partitions ≤ self.now.trace.now.partitions)
-            × IsReported phase partitions (length workers.old) (worker_in workers.new) told seat.new.view report.old.items report.new.items) }
+            × IsReported phase partitions (length workers.old) (worker_in workers.new) told seat.new.view
+            report.old.items report.new.items) }
     {
         self.play_phase(workers, queues);
         tell_all(self.heap, workers, seat);

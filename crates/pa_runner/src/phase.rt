@@ -164,7 +164,8 @@ fn hear<N: Name>(heap: &Heap<N>, worker: &mut Worker<N>, seat: &mut Seat, thread
     requires settled { worker.old.owed ≡ none_owed }
     ensures region { seat.new.region ≡ N.region }
     ensures left { seat.new.view ≡ left_after (stake_parcel thread) seat.old.view }
-    ensures heard { worker.new ≡ worker_with_view (united worker.old.stock.view (given_after (stake_parcel thread) seat.old.view)) worker.old }
+    ensures heard { worker.new ≡ worker_with_view
+        (united worker.old.stock.view (given_after (stake_parcel thread) seat.old.view)) worker.old }
     ensures lists { SameLists (listed_in worker.new.stock) (listed_in worker.old.stock) }
 {
     let note = heap.region().hand(seat, &[], 0, &[Mark::Stake(thread)]);

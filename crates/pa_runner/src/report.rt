@@ -38,7 +38,8 @@ impl<R: Wait, N: Name, G> Playing<'_, R, N, G> {
         ensures reported { OnOk result (IsReported phase self.now.trace.now.partitions (length workers.now) (worker_in workers.now)
             seat.old.view seat.new.view report.old.items report.new.items) }
         ensures begun { OnErr result ((partitions : ℕ) × (partitions < self.now.trace.now.partitions)
-            × IsReported phase partitions (length workers.now) (worker_in workers.now) seat.old.view seat.new.view report.old.items report.new.items) }
+            × IsReported phase partitions (length workers.now) (worker_in workers.now) seat.old.view seat.new.view
+            report.old.items report.new.items) }
     {
         seat.aware();
         let partitions = self.trace.partitions;

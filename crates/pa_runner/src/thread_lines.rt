@@ -29,8 +29,8 @@ pub struct LineOp {
 
 impl<R: Threads + Wait + Sync, N: Name, G: Gate> Playing<'_, R, N, G> {
     /// Plays a thread's lines in their order, and adds the bytes of its steps to the totals words then. If an op runs out of
-    /// memory the worker is stopped, and plays no more. It has no record of that op, but has its stake all the same, and owes
-    /// nothing.
+    /// memory the worker is stopped, and plays no more. It has no record of that op,
+    /// but has its stake all the same, and owes nothing.
     pub fn play_lines(&self, worker: &mut Worker<N>, thread: u32, lines: &[LineOp])
         requires thread { worker.old.stock.thread ≡ thread }
         requires ready { CanPlay lines.now worker.old }

@@ -23,8 +23,8 @@ use std::thread::Threads;
 
 /// Plays a trace within the limits, each thread's lines of a phase on a thread of its own if it gets one, and returns the run
 /// and the region's words at the end. The run is a legal run of the trace, and those words hold it. Which of the legal runs it
-/// is depends on how the threads interleaved. With one thread there is one. The only error is out of memory, with all threads
-/// joined.
+/// is depends on how the threads interleaved. With one thread there is one.
+/// The only error is out of memory, with all threads joined.
 pub fn run_trace<R: Threads + Wait + Sync, G: Gate>(
     rt: &R,
     alloc: Global,

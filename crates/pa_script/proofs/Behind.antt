@@ -25,7 +25,8 @@ past_line : (n before : ℕ) (line : List ℕ) → (10000 < n) ⊎ (4194304 < be
 past_line n before line (inl many) = inl many
 past_line n before line (inr long) = inr (omega (arith, length_push line 10))
 
-pub not_past : (n before : ℕ) (line : List ℕ) → n ≤ 10000 → before + (length line + 1) ≤ 4194304 → IsPastScript n before (line ++ 10 ∷ []) → ⊥
+pub not_past : (n before : ℕ) (line : List ℕ) → n ≤ 10000 → before + (length line + 1) ≤ 4194304 → IsPastScript n before (line ++ 10 ∷ []) →
+    ⊥
 not_past n before line few short (inl many) = omega arith
 not_past n before line few short (inr long) = omega (arith, length_push line 10)
 
@@ -34,7 +35,8 @@ body_text l line h = subst (λ (x : List ℕ). IsScriptLineText l x) (sym (same_
 
 pub head_text : (region partitions threads : ℕ) (line : List ℕ) → IsScriptHeadLine region partitions threads (line ++ 10 ∷ [])
     → IsScriptHeadText region partitions threads line
-head_text region partitions threads line h = subst (λ (x : List ℕ). IsScriptHeadText region partitions threads x) (sym (same_from_push line h.0 10 10 h.2).0) h.1
+head_text region partitions threads line h =
+    subst (λ (x : List ℕ). IsScriptHeadText region partitions threads x) (sym (same_from_push line h.0 10 10 h.2).0) h.1
 
 -- ---- lines after a head
 
@@ -44,7 +46,8 @@ module _ (partitions threads : ℕ) where
       → (10000 < n) ⊎ (4194304 < before + (length line + 1))
       → IsFirstScriptBehind partitions threads n before (lines_of bytes) (Limit n)
   first_past n before bytes line after one e past =
-      subst (λ (x : List (List ℕ)). IsFirstScriptBehind partitions threads n before x (Limit n)) (sym (cut_of bytes line after one e)) (inl (refl, inl (past_line n before line past)))
+      subst (λ (x : List (List ℕ)). IsFirstScriptBehind partitions threads n before x (Limit n)) (sym (cut_of bytes line after one e))
+      (inl (refl, inl (past_line n before line past)))
 
   unread_here : (n before : ℕ) (line : List ℕ) (lines : List (List ℕ)) (d : LineFault) → (IsPastScript n before (line ++ 10 ∷ []) → ⊥)
       → IsScriptNotRead partitions threads d line
@@ -64,7 +67,8 @@ module _ (partitions threads : ℕ) where
   pub first_later : (n before m behind : ℕ) (bytes line after : List ℕ) (l : ScriptLine) (e : TraceFault) → IsOneLine line
       → bytes ≡ line ++ 10 ∷ after → n ≤ 10000 → before + (length line + 1) ≤ 4194304
       → IsScriptLineText l line → IsScriptLineWithin partitions threads l → m ≡ n + 1 → behind ≡ before + (length line + 1)
-      → IsFirstScriptBehind partitions threads m behind (lines_of after) e → IsFirstScriptBehind partitions threads n before (lines_of bytes) e
+      → IsFirstScriptBehind partitions threads m behind (lines_of after) e →
+      IsFirstScriptBehind partitions threads n before (lines_of bytes) e
   first_later n before m behind bytes line after l e one parts few short text within next far h =
       let place : behind ≡ before + length (line ++ 10 ∷ []) = omega (arith, far, length_push line 10) in
       let there : IsFirstScriptBehind partitions threads (n + 1) (before + length (line ++ 10 ∷ [])) (lines_of after) e =
@@ -79,7 +83,9 @@ module _ (partitions threads : ℕ) where
 
   pub end_past : (n before : ℕ) (line : List ℕ) → IsOneLine line → (line ≡ [] → ⊥) → IsPastScript n before line
       → IsFirstScriptBehind partitions threads n before (lines_of line) (Limit n)
-  end_past n before line one some' past = subst (λ (x : List (List ℕ)). IsFirstScriptBehind partitions threads n before x (Limit n)) (sym (last_line line one some')) (inl (refl, inl past))
+  end_past n before line one some' past =
+      subst (λ (x : List (List ℕ)). IsFirstScriptBehind partitions threads n before x (Limit n)) (sym (last_line line one some'))
+      (inl (refl, inl past))
 
   pub end_bad : (n before : ℕ) (line : List ℕ) → IsOneLine line → (line ≡ [] → ⊥) → n ≤ 10000 → before + length line ≤ 4194304
       → IsFirstScriptBehind partitions threads n before (lines_of line) (BadLine n)
@@ -93,12 +99,14 @@ module _ (partitions threads : ℕ) where
       → IsFirstScriptBehind partitions threads n before (lines_of line) e
   first_end n before line e one some' past bad =
       let as_limit : (10000 < n) ⊎ (4194304 < before + length line) → IsFirstScriptBehind partitions threads n before (lines_of line) e =
-      λ h. subst (λ (x : TraceFault). IsFirstScriptBehind partitions threads n before (lines_of line) x) (sym (past h)) (end_past n before line one some' h) in
+      λ h. subst (λ (x : TraceFault). IsFirstScriptBehind partitions threads n before (lines_of line) x) (sym (past h))
+      (end_past n before line one some' h) in
       elim (cases_lt 10000 n) [
         | inl many ↦ as_limit (inl many)
         | inr few ↦ elim (cases_lt 4194304 (before + length line)) [
           | inl long ↦ as_limit (inr long)
-          | inr short ↦ subst (λ (x : TraceFault). IsFirstScriptBehind partitions threads n before (lines_of line) x) (sym (bad few short)) (end_bad n before line one some' few short)
+          | inr short ↦ subst (λ (x : TraceFault). IsFirstScriptBehind partitions threads n before (lines_of line) x) (sym (bad few short))
+              (end_bad n before line one some' few short)
         ]
       ]
 
@@ -110,9 +118,11 @@ head_past bytes line after one e past =
     subst (λ (x : List (List ℕ)). IsFirstScriptOf x (Limit 1)) (sym (cut_of bytes line after one e))
     (inl (refl, inl (past_line 1 0 line (elim past [ inl many ↦ inl many | inr long ↦ inr (omega arith) ]))))
 
-head_unread_here : (line : List ℕ) (lines : List (List ℕ)) (d : LineFault) → (IsPastScript 1 0 (line ++ 10 ∷ []) → ⊥) → IsScriptHeadNotRead d line
+head_unread_here : (line : List ℕ) (lines : List (List ℕ)) (d : LineFault) → (IsPastScript 1 0 (line ++ 10 ∷ []) → ⊥) →
+    IsScriptHeadNotRead d line
     → IsFirstScriptOf ((line ++ 10 ∷ []) ∷ lines) (told 1 d)
-head_unread_here line lines Outside none out = inl (refl, none, λ region partitions threads h. out region partitions threads (head_text region partitions threads line h))
+head_unread_here line lines Outside none out =
+    inl (refl, none, λ region partitions threads h. out region partitions threads (head_text region partitions threads line h))
 head_unread_here line lines Past none over = inl (refl, inr (over.0, over.1, over.2, (line, over.3, refl), over.4))
 
 -- the first fault is why bytes aren't read
@@ -121,7 +131,8 @@ first_is_fault (BadLine n) bytes h = h
 first_is_fault (Limit n) bytes h = h
 first_is_fault OutOfMemory bytes h = tt
 
-pub head_first_unread : (bytes line after : List ℕ) (d : LineFault) → IsOneLine line → bytes ≡ line ++ 10 ∷ after → length line + 1 ≤ 4194304
+pub head_first_unread : (bytes line after : List ℕ) (d : LineFault) → IsOneLine line → bytes ≡ line ++ 10 ∷ after →
+    length line + 1 ≤ 4194304
     → IsScriptHeadNotRead d line → IsFirstScriptFault (told 1 d) bytes
 head_first_unread bytes line after d one e short unread =
     subst (λ (x : List (List ℕ)). IsFirstScriptOf x (told 1 d)) (sym (cut_of bytes line after one e))
@@ -129,9 +140,11 @@ head_first_unread bytes line after d one e short unread =
 
 pub head_unread : (bytes line after : List ℕ) (d : LineFault) → IsOneLine line → bytes ≡ line ++ 10 ∷ after → length line + 1 ≤ 4194304
     → IsScriptHeadNotRead d line → IsScriptFault (told 1 d) bytes
-head_unread bytes line after d one e short unread = first_is_fault (told 1 d) bytes (head_first_unread bytes line after d one e short unread)
+head_unread bytes line after d one e short unread =
+    first_is_fault (told 1 d) bytes (head_first_unread bytes line after d one e short unread)
 
-pub head_later : (region partitions threads behind : ℕ) (bytes line after : List ℕ) (e : TraceFault) → IsOneLine line → bytes ≡ line ++ 10 ∷ after
+pub head_later : (region partitions threads behind : ℕ) (bytes line after : List ℕ) (e : TraceFault) → IsOneLine line → bytes ≡ line ++
+    10 ∷ after
     → length line + 1 ≤ 4194304
     → IsScriptHeadText region partitions threads line → IsHeadWithin (first_head region partitions threads) → behind ≡ length line + 1
     → IsFirstScriptBehind partitions threads 2 behind (lines_of after) e → IsFirstScriptFault e bytes
@@ -148,7 +161,9 @@ no_head bytes one region partitions threads h = no_cut bytes h.0 [] one h.2
 -- bytes without an LF: one line, or none
 pub end_limit : (bytes : List ℕ) → IsOneLine bytes → 4194304 < length bytes → IsFirstScriptFault (Limit 1) bytes
 end_limit [] one long = absurd (omega arith)
-end_limit (b ∷ bytes) one long = subst (λ (x : List (List ℕ)). IsFirstScriptOf x (Limit 1)) (sym (last_line (b ∷ bytes) one (λ e. cc))) (inl (refl, inl (inr (omega arith))))
+end_limit (b ∷ bytes) one long =
+    subst (λ (x : List (List ℕ)). IsFirstScriptOf x (Limit 1)) (sym (last_line (b ∷ bytes) one (λ e. cc)))
+    (inl (refl, inl (inr (omega arith))))
 
 pub end_badly : (bytes : List ℕ) → IsOneLine bytes → length bytes ≤ 4194304 → IsFirstScriptFault (BadLine 1) bytes
 end_badly [] one short = subst (λ (x : List (List ℕ)). IsFirstScriptOf x (BadLine 1)) (sym no_lines) refl

@@ -67,7 +67,8 @@ abbrev resize_at : List ℕ → Result (ℕ × ℕ × ℕ) LineFault
 resize_at bytes = three_at bytes [] (codes " S r") (codes " ")
 
 resize_tested : (a b c : Bool) (m n k : ℕ)
-    → (tested a m >>= λ thread. tested b n >>= λ reg. tested c k >>= λ size. Ok (Resize thread reg size)) ≡ cond (a && (b && c)) (Ok (Resize m n k)) (Err Past)
+    → (tested a m >>= λ thread. tested b n >>= λ reg. tested c k >>= λ size. Ok (Resize thread reg size)) ≡ cond (a && (b && c))
+    (Ok (Resize m n k)) (Err Past)
 resize_tested true true true m n k = refl
 resize_tested true true false m n k = refl
 resize_tested true false c m n k = refl
@@ -76,15 +77,18 @@ resize_tested false b c m n k = refl
 resize_takes : (bytes : List ℕ) (x : ℕ × ℕ × ℕ) → resize_at bytes ≡ Ok x → IsScriptLineText (resize_with x) bytes
 resize_takes bytes x e = three_takes bytes [] (codes " S r") (codes " ") x e
 
-resize_again : (thread reg size : ℕ) (text : List ℕ) → IsScriptLineText (Resize thread reg size) text → resize_at text ≡ Ok (thread, reg, size)
+resize_again : (thread reg size : ℕ) (text : List ℕ) → IsScriptLineText (Resize thread reg size) text →
+    resize_at text ≡ Ok (thread, reg, size)
 resize_again thread reg size text h =
     ap resize_at h.6 ∙ three_again [] (codes " S r") (codes " ") thread reg size h.0 h.1 h.2 (λ x. refl) (λ x. refl) h.3 h.4 h.5
 
 module _ (threads : ℕ) (few_threads : threads ≤ 4294967296) where
   resize_cases : (r : Result (ℕ × ℕ × ℕ) LineFault)
-      → ((r >>= three_handed) >>= λ numbers. below numbers.0 threads >>= λ thread. below numbers.1 63 >>= λ reg. within numbers.2 >>= λ size. Ok (Resize thread reg size))
+      → ((r >>= three_handed) >>= λ numbers. below numbers.0 threads >>= λ thread. below numbers.1 63 >>= λ reg. within numbers.2 >>=
+      λ size. Ok (Resize thread reg size))
       ≡ (r >>= checked_resize threads)
-  resize_cases (Ok x) = rw (below_fit x.0 threads few_threads, below_fit x.1 63 (omega arith), within_fit x.2) (resize_tested (ltb x.0 threads) (ltb x.1 63) (ltb x.2 4294967296) x.0 x.1 x.2)
+  resize_cases (Ok x) = rw (below_fit x.0 threads few_threads, below_fit x.1 63 (omega arith), within_fit x.2)
+      (resize_tested (ltb x.0 threads) (ltb x.1 63) (ltb x.2 4294967296) x.0 x.1 x.2)
   resize_cases (Err e) = refl
 
   resize_is : (bytes : List ℕ) → resize_in threads bytes ≡ (resize_at bytes >>= checked_resize threads)
@@ -106,7 +110,8 @@ IsNotResize partitions threads Outside bytes = (thread reg size : ℕ) → IsScr
 IsNotResize partitions threads Past bytes = (l : ScriptLine) × IsScriptLineText l bytes × (IsScriptLineWithin partitions threads l → ⊥)
 
 module _ (partitions threads : ℕ) (few_threads : threads ≤ 4294967296) where
-  resize_read : (bytes : List ℕ) (l : ScriptLine) → resize_in threads bytes ≡ Ok l → IsScriptLineText l bytes × IsScriptLineWithin partitions threads l
+  resize_read : (bytes : List ℕ) (l : ScriptLine) → resize_in threads bytes ≡ Ok l → IsScriptLineText l bytes ×
+      IsScriptLineWithin partitions threads l
   resize_read bytes l e =
       let b = bind_ok (resize_at bytes) (checked_resize threads) l (sym (resize_is threads few_threads bytes) ∙ e) in
       let t = let_through (resize_ok threads b.0) (resize_with b.0) l b.2 in
@@ -122,7 +127,8 @@ module _ (partitions threads : ℕ) (few_threads : threads ≤ 4294967296) where
       subst (λ (k : LineFault). IsNotResize partitions threads k bytes) (sym t.1) past
   resize_refused bytes (Err f) d same e =
       let out : IsNotResize partitions threads Outside bytes =
-      λ thread reg size h. let read : ◌≡◌ {A = Result (ℕ × ℕ × ℕ) LineFault} (Err f) (Ok (thread, reg, size)) = sym same ∙ resize_again thread reg size bytes h in cc in
+      λ thread reg size h. let read : ◌≡◌ {A = Result (ℕ × ℕ × ℕ) LineFault} (Err f) (Ok (thread, reg, size)) = sym same ∙
+      resize_again thread reg size bytes h in cc in
       let shape = shape_of (resize_at bytes) f same (three_shape bytes [] (codes " S r") (codes " ")) in
       let is : Outside ≡ d = let one : f ≡ d = cc in shape ∙ one in
       subst (λ (k : LineFault). IsNotResize partitions threads k bytes) is out
@@ -138,13 +144,15 @@ IsScriptNotRead partitions threads Outside bytes = (l : ScriptLine) → IsScript
 IsScriptNotRead partitions threads Past bytes = (l : ScriptLine) × IsScriptLineText l bytes × (IsScriptLineWithin partitions threads l → ⊥)
 
 module _ (partitions threads : ℕ) (few : partitions ≤ 4294967296) (few_threads : threads ≤ 4294967296) where
-  plain_read : (bytes : List ℕ) (l : ScriptLine) → plain_in partitions threads bytes ≡ Ok l → IsScriptLineText l bytes × IsScriptLineWithin partitions threads l
+  plain_read : (bytes : List ℕ) (l : ScriptLine) → plain_in partitions threads bytes ≡ Ok l → IsScriptLineText l bytes ×
+      IsScriptLineWithin partitions threads l
   unfolding plain_in
   plain_read bytes l e =
       let b = bind_ok (line_in partitions threads bytes) plain_of l e in
       let t = let_through (names_few b.0) (Plain b.0) l b.2 in
       let read = line_read partitions threads few few_threads bytes b.0 b.1 in
-      subst (λ (k : ScriptLine). IsScriptLineText k bytes × IsScriptLineWithin partitions threads k) t.1 (read.0, (read.1, few_names b.0 t.0))
+      subst (λ (k : ScriptLine). IsScriptLineText k bytes × IsScriptLineWithin partitions threads k) t.1
+      (read.0, (read.1, few_names b.0 t.0))
 
   read_by : (bytes : List ℕ) (r : Result ScriptLine LineFault) (l : ScriptLine) → resize_in threads bytes ≡ r
       → or_plain r (plain_in partitions threads bytes) ≡ Ok l
@@ -163,11 +171,13 @@ module _ (partitions threads : ℕ) (few : partitions ≤ 4294967296) (few_threa
   plain_refused bytes (Ok l) d none same e =
       let t = kept_out (names_few l) (Plain l) d e in
       let read = line_read partitions threads few few_threads bytes l same in
-      let past : IsScriptNotRead partitions threads Past bytes = (Plain l, read.0, λ h. both_ways (names_few l) t.0 (names_are_few l h.1)) in
+      let past : IsScriptNotRead partitions threads Past bytes =
+      (Plain l, read.0, λ h. both_ways (names_few l) t.0 (names_are_few l h.1)) in
       subst (λ (k : LineFault). IsScriptNotRead partitions threads k bytes) (sym t.1) past
   plain_refused bytes (Err f) d none same e =
       let is : f ≡ d = cc in
-      subst (λ (k : LineFault). IsScriptNotRead partitions threads k bytes) is (not_plain f (line_not_read partitions threads few few_threads bytes f same))
+      subst (λ (k : LineFault). IsScriptNotRead partitions threads k bytes) is
+      (not_plain f (line_not_read partitions threads few few_threads bytes f same))
     where
       not_plain : (f : LineFault) → IsNotRead partitions threads f bytes → IsScriptNotRead partitions threads f bytes
       not_plain Outside out = either
@@ -186,9 +196,11 @@ module _ (partitions threads : ℕ) (few : partitions ≤ 4294967296) (few_threa
       plain_refused bytes (line_in partitions threads bytes) d (resize_not_read partitions threads few_threads bytes Outside same) refl e
   refused_by bytes (Err Past) d same e =
       let is : Past ≡ d = cc in
-      subst (λ (k : LineFault). IsScriptNotRead partitions threads k bytes) is (resize_not_read partitions threads few_threads bytes Past same)
+      subst (λ (k : LineFault). IsScriptNotRead partitions threads k bytes) is
+      (resize_not_read partitions threads few_threads bytes Past same)
 
-  pub script_line_not_read : (bytes : List ℕ) (d : LineFault) → script_line_in partitions threads bytes ≡ Err d → IsScriptNotRead partitions threads d bytes
+  pub script_line_not_read : (bytes : List ℕ) (d : LineFault) → script_line_in partitions threads bytes ≡ Err d →
+      IsScriptNotRead partitions threads d bytes
   script_line_not_read bytes d e = refused_by bytes (resize_in threads bytes) d refl e
 
 -- ---- the head
@@ -216,11 +228,14 @@ script_head_read bytes h e =
 -- what a head that was not read is
 abbrev pub IsScriptHeadNotRead : LineFault → List ℕ → Type 0
 IsScriptHeadNotRead Outside bytes = (region partitions threads : ℕ) → IsScriptHeadText region partitions threads bytes → ⊥
-IsScriptHeadNotRead Past bytes = (region partitions threads : ℕ) × IsScriptHeadText region partitions threads bytes × (IsHeadWithin (first_head region partitions threads) → ⊥)
+IsScriptHeadNotRead Past bytes = (region partitions threads : ℕ) × IsScriptHeadText region partitions threads bytes ×
+    (IsHeadWithin (first_head region partitions threads) → ⊥)
 
-head_again : (region partitions threads : ℕ) (text : List ℕ) → IsScriptHeadText region partitions threads text → head_at text ≡ Ok (region, partitions, threads)
+head_again : (region partitions threads : ℕ) (text : List ℕ) → IsScriptHeadText region partitions threads text →
+    head_at text ≡ Ok (region, partitions, threads)
 head_again region partitions threads text h =
-    ap head_at h.6 ∙ three_again (codes "script 1 region ") (codes " partitions ") (codes " threads ") region partitions threads h.0 h.1 h.2 (λ x. refl) (λ x. refl) h.3 h.4 h.5
+    ap head_at h.6 ∙ three_again (codes "script 1 region ") (codes " partitions ") (codes " threads ") region partitions threads h.0 h.1 h.2
+    (λ x. refl) (λ x. refl) h.3 h.4 h.5
 
 head_refused : (bytes : List ℕ) (r : Result (ℕ × ℕ × ℕ) LineFault) (d : LineFault) → head_at bytes ≡ r → (r >>= checked_first) ≡ Err d
     → IsScriptHeadNotRead d bytes
@@ -233,7 +248,8 @@ head_refused bytes (Ok x) d same e =
 head_refused bytes (Err f) d same e =
     let out : IsScriptHeadNotRead Outside bytes =
     λ region partitions threads h.
-    let read : ◌≡◌ {A = Result (ℕ × ℕ × ℕ) LineFault} (Err f) (Ok (region, partitions, threads)) = sym same ∙ head_again region partitions threads bytes h in
+    let read : ◌≡◌ {A = Result (ℕ × ℕ × ℕ) LineFault} (Err f) (Ok (region, partitions, threads)) = sym same ∙
+    head_again region partitions threads bytes h in
     cc in
     let shape = shape_of (head_at bytes) f same (three_shape bytes (codes "script 1 region ") (codes " partitions ") (codes " threads ")) in
     let is : Outside ≡ d = let one : f ≡ d = cc in shape ∙ one in

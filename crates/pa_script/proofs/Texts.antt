@@ -22,7 +22,8 @@ pub script_line_one : (l : ScriptLine) (text : List ℕ) → IsScriptLineText l 
 script_line_one (Plain l) text h = line_line l text h
 script_line_one (Resize thread reg size) text h =
     subst (λ (x : List ℕ). IsOneLine x) (sym h.6)
-    (three_line [] h.0 (codes " S r") h.1 (codes " ") h.2 thread reg size tt (word_line (codes " S r") refl) (word_line (codes " ") refl) h.3 h.4 h.5)
+    (three_line [] h.0 (codes " S r") h.1 (codes " ") h.2 thread reg size tt (word_line (codes " S r") refl)
+    (word_line (codes " ") refl) h.3 h.4 h.5)
 
 pub script_head_one : (region partitions threads : ℕ) (text : List ℕ) → IsScriptHeadText region partitions threads text → IsOneLine text
 script_head_one region partitions threads text h =
@@ -87,7 +88,8 @@ head_numbers : (region partitions threads : ℕ) (text : List ℕ) → IsScriptH
     → three_at text (codes "script 1 region ") (codes " partitions ") (codes " threads ") ≡ Ok (region, partitions, threads)
 head_numbers region partitions threads text h =
     ap (λ (x : List ℕ). three_at x (codes "script 1 region ") (codes " partitions ") (codes " threads ")) h.6
-    ∙ three_again (codes "script 1 region ") (codes " partitions ") (codes " threads ") region partitions threads h.0 h.1 h.2 (λ x. refl) (λ x. refl) h.3 h.4 h.5
+    ∙ three_again (codes "script 1 region ") (codes " partitions ") (codes " threads ") region partitions threads h.0 h.1 h.2 (λ x. refl)
+    (λ x. refl) h.3 h.4 h.5
 
 pub one_script_line : (k l : ScriptLine) (text : List ℕ) → IsScriptLineText k text → IsScriptLineText l text → k ≡ l
 one_script_line (Plain k) (Plain l) text h g = ap (λ (x : Line). Plain x) (one_line_of k l text h g)

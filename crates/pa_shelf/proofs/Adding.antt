@@ -25,7 +25,8 @@ can_stand x y class is outside zero = subst (StaysListed x) (sym is)
     (record { class = inr outside.0; state = sym outside.0; turn = sym (zero outside.0); previous = sym outside.1; next = sym outside.2 })
 
 pub added_unused : (spans after : ℕ → SpanRecord) (has : ℕ → Type 0) (at class : ℕ) (x : SpanRecord) → x ≡ record_of_class class →
-    ((u : ℕ) → after u ≡ (if u == at then x else spans u)) → ((u : ℕ) → has u → StartsAtZero (spans u)) → (u : ℕ) → has u → StartsAtZero (after u)
+    ((u : ℕ) → after u ≡ (if u == at then x else spans u)) → ((u : ℕ) → has u → StartsAtZero (spans u)) → (u : ℕ) → has u →
+    StartsAtZero (after u)
 added_unused spans after has at class x x_is put_in unused u h none = elim (eqb_tells u at) [
   | inl w ↦ ap (λ (y : SpanRecord). y.turn) (put_in u ∙ (ap (λ b. if b then x else spans u) w.0 ∙ x_is))
   | inr w ↦
@@ -33,13 +34,15 @@ added_unused spans after has at class x x_is put_in unused u h none = elim (eqb_
       ap (λ (y : SpanRecord). y.turn) same ∙ unused u h (sym (ap (λ (y : SpanRecord). y.state) same) ∙ none)
 ]
 
-pub added_stored : (spans after : ℕ → SpanRecord) (has : ℕ → Type 0) (ss : List Span) (t : Span) (at class : ℕ) (x : SpanRecord) → AreStored spans has ss →
+pub added_stored : (spans after : ℕ → SpanRecord) (has : ℕ → Type 0) (ss : List Span) (t : Span) (at class : ℕ) (x : SpanRecord) →
+    AreStored spans has ss →
     has at → IsAddedAs at class ss t → x ≡ record_of_class class → ((u : ℕ) → after u ≡ (if u == at then x else spans u)) →
     AreStored after has (ss ++ t ∷ [])
 added_stored spans after has ss t at class x st here added x_is put_in =
     let new : alone (after t.place) ≡ record_with t 0 0 =
     ap (λ p. alone (after p)) added.here ∙ (ap alone (put_in at ∙ (there_is at (spans at) x ∙ x_is)) ∙ sym added.is) in
-    let old : (u : Span) → Contains ss u → after u.place ≡ spans u.place = λ u among. put_in u.place ∙ elsewhere_is u.place at (spans u.place) x (added.alone u among) in
+    let old : (u : Span) → Contains ss u → after u.place ≡ spans u.place = λ u among. put_in u.place ∙
+    elsewhere_is u.place at (spans u.place) x (added.alone u among) in
     record {
       had = λ u m. elim (Contains-push_cases ss t u m) [
         | inl among ↦ st.had u among
@@ -73,7 +76,8 @@ added_stored spans after has ss t at class x st here added x_is put_in =
     }
 
 -- what the records keep with it
-pub added_kept : (v w : View) (l : ShelfParts) (r : Root) (t : Span) → RecordsRoot v l r → ((u : ℕ) → HasSpanAt w l.supers u ↔ HasSpanAt v l.supers u) →
+pub added_kept : (v w : View) (l : ShelfParts) (r : Root) (t : Span) → RecordsRoot v l r →
+    ((u : ℕ) → HasSpanAt w l.supers u ↔ HasSpanAt v l.supers u) →
     ((u : ℕ) → HasSpanAt w l.supers u → StartsAtZero (spans_in w.words u)) → Stand l.lists (spans_in w.words) (HasSpanAt w l.supers) →
     AreStored (spans_in w.words) (HasSpanAt w l.supers) (r.spans ++ t ∷ []) → RecordsRoot w l (record r { spans = r.spans ++ t ∷ [] })
 added_kept v w l r t k same unused stand stored = record {

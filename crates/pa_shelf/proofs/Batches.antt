@@ -38,7 +38,8 @@ pub one_returned : (r : Root) (t : Title) → IsSound r → IsSlotOut r t → Is
 one_returned r t sound out = returned_is r (name_of t) sound (name_out r t out)
 
 -- another slot is still out, as the same title
-still_slot : (r : Root) (t u : Title) → IsSound r → IsSlotOut r t → IsSlotOut r u → name_of t ≢ name_of u → IsSlotOut (returned (name_of t) r) u
+still_slot : (r : Root) (t u : Title) → IsSound r → IsSlotOut r t → IsSlotOut r u → name_of t ≢ name_of u →
+    IsSlotOut (returned (name_of t) r) u
 still_slot r t u sound gone out differ =
     let next = returned (name_of t) r in
     let ret = one_returned r t sound gone in
@@ -50,13 +51,15 @@ still_slot r t u sound gone out differ =
     let c = (ret.kept.sound.spans y among).counted in
     let below = still.provisioned in let low = c.made in
     let w = title_at y j in
-    let made : IsMade r w = all_returned_make_none (name_of t ∷ []) r w sound (one_name r (name_of t) (name_out r t gone)) (no_pairs (name_of t))
+    let made : IsMade r w = all_returned_make_none (name_of t ∷ []) r w sound (one_name r (name_of t) (name_out r t gone))
+    (no_pairs (name_of t))
     (y, among, j, omega arith, refl) in
     let (x, inside, i, less, same) = made in
     let cz = (sound.spans z member).counted in let lz = cz.made in let mz = cz.most in let pz = away.provisioned in
     let mx = (sound.spans x inside).counted.most in
     let names : name_of (title_at z k) ≡ name_of (title_at x i) = sym away.named ∙ (still.named ∙ ap name_of same) in
-    let one = one_slot r z x k i sound member inside (omega arith) (omega arith) (ap (λ (a : SlotName). a.born) names) (ap (λ (a : SlotName). a.start) names) in
+    let one = one_slot r z x k i sound member inside (omega arith) (omega arith) (ap (λ (a : SlotName). a.born) names)
+    (ap (λ (a : SlotName). a.start) names) in
     (y, among, j, still, is ∙ (ap (λ (s : Span). title_at s k) one.span ∙ (ap (title_at x) one.number ∙ sym same)))
 
 -- once the first slot came back, the rest of the slots can
@@ -94,7 +97,8 @@ first_back v l t ts r b =
     )
 
 -- where its span was found
-pub back_there : (y z : Share) (l : ShelfParts) (at : ℕ) (t : Title) (r : Root) (s : Span) (n : ℕ) → IsBackAt z.view l s.place t r s n → y ≡ z → at ≡ s.place →
+pub back_there : (y z : Share) (l : ShelfParts) (at : ℕ) (t : Title) (r : Root) (s : Span) (n : ℕ) → IsBackAt z.view l s.place t r s n →
+    y ≡ z → at ≡ s.place →
     IsBackAt y.view l at t r s n
 back_there y z l at t r s n b same here =
     subst (λ k. IsBackAt y.view l k t r s n) (sym here) (subst (λ (q : Share). IsBackAt q.view l s.place t r s n) (sym same) b)

@@ -24,7 +24,8 @@ use Rattle.pa_link.proofs.Chains.{stay}
 use Rattle.pa_shelf.specs.Shelves.{chain_of, AreChained}
 
 -- a record's bytes are raw, so no word of it is the first of a title
-pub apart : (v : View) (t : Title) (place : ℕ) → IsAware v → HasRawRecord v place → 0 < free_of v t → 0 < t.len → record_word place ≤ t.start / 8 →
+pub apart : (v : View) (t : Title) (place : ℕ) → IsAware v → HasRawRecord v place → 0 < free_of v t → 0 < t.len →
+    record_word place ≤ t.start / 8 →
     t.start / 8 < record_word place + 4 → ⊥
 apart v t place aware raw free some low high =
     let has : HasTitle v t = omega arith in

@@ -61,10 +61,13 @@ place_among supers u payload =
     let first = payload.page.0 in let last = payload.page.1 in
     let e : page_place at.number (page_at u) ≡ u = ap (λ n. page_place n (page_at u)) is ∙ sym (at_place u payload.aligned) in
     flat_in places_in supers at u among
-    (subst (Contains (places_in at)) e (map_in (page_place at.number) (numbers 1 126) (page_at u) (numbers_has 1 126 (page_at u) first (omega arith))))
+    (subst (Contains (places_in at)) e
+    (map_in (page_place at.number) (numbers 1 126) (page_at u) (numbers_has 1 126 (page_at u) first (omega arith))))
 
-pub payload_at : (supers : List SuperPage) (at : SuperPage) (page : ℕ) → Contains supers at → 1 ≤ page → page ≤ 126 → IsPayloadOf supers (page_place at.number page)
-payload_at supers at page among first last = record { aligned = omega arith; super = (at, among, omega arith); page = (omega arith, omega arith) }
+pub payload_at : (supers : List SuperPage) (at : SuperPage) (page : ℕ) → Contains supers at → 1 ≤ page → page ≤ 126 →
+    IsPayloadOf supers (page_place at.number page)
+payload_at supers at page among first last =
+    record { aligned = omega arith; super = (at, among, omega arith); page = (omega arith, omega arith) }
 
 among_place : (supers : List SuperPage) (u : ℕ) → Contains (places_of supers) u → IsPayloadOf supers u
 among_place supers u inside =
@@ -101,7 +104,8 @@ sum_over : (f : SpanRecord → ℕ) (words : List ℕ) (supers : List SuperPage)
     sum_by (λ u. if_used f (spans_in words u)) (places_of supers) ≡ sum_of_supers f words supers
 sum_over f words supers =
     sum_flat (λ u. if_used f (spans_in words u)) places_in supers
-    ∙ sum_same (λ (at : SuperPage). sum_by (λ u. if_used f (spans_in words u)) (places_in at)) (λ (at : SuperPage). sum_of_pages f words at.number 126) supers
+    ∙ sum_same (λ (at : SuperPage). sum_by (λ u. if_used f (spans_in words u)) (places_in at))
+    (λ (at : SuperPage). sum_of_pages f words at.number 126) supers
     (λ at. sum_map (λ u. if_used f (spans_in words u)) (page_place at.number) (numbers 1 126))
 
 -- What is counted of the records is what is counted of the spans.
@@ -116,13 +120,15 @@ sums_are v l r f g k used alike =
     sym (sum_over f v.words l.supers) ∙ sums_placed place g (λ u. if_used f (spans u)) (places_of l.supers) r.spans (record {
       once = places_once l.supers k.apart;
       apart = pairs_map (λ s t. same_place s t ≡ false) ◌≢◌ place r.spans
-          (λ s t a b apart same. both_ways _ apart (subst (λ (z : Span). same_place s z ≡ true) (k.stored.one s t a b same) (place_self s))) k.stored.places;
+          (λ s t a b apart same. both_ways _ apart (subst (λ (z : Span). same_place s z ≡ true) (k.stored.one s t a b same) (place_self s)))
+          k.stored.places;
       here = λ s among. (
         place_among l.supers s.place (k.stored.had s among).payload,
         elim (used_or_none f (spans s.place)) [
           | inl some ↦ some.1 ∙ alike (spans s.place) s (k.stored.numbers s among)
           | inr none ↦ absurd (both_ways _ (used s among)
-              (subst (λ a. same_state a state.None ≡ true) (sym (sym (state_at spans (HasSpanAt v l.supers) r.spans s k.stored among) ∙ none.0)) refl))
+              (subst (λ a. same_state a state.None ≡ true)
+              (sym (sym (state_at spans (HasSpanAt v l.supers) r.spans s k.stored among) ∙ none.0)) refl))
         ],
       );
       each = λ u inside. elim (used_or_none f (spans u)) [
@@ -144,12 +150,14 @@ pub one_alike : (a : State) → CountsAlike (one_if a) (λ s. if is_in a s then 
 one_alike a x s e = ap (λ (y : SpanRecord). if same_state y.state a then 1 else 0) e
 
 -- a super page's records
-pub pages_had : (v : View) (l : ShelfParts) (r : Root) (at : SuperPage) → IsSound r → RecordsRoot v l r → Contains l.supers at → HasPagesOf v at.number
+pub pages_had : (v : View) (l : ShelfParts) (r : Root) (at : SuperPage) → IsSound r → RecordsRoot v l r → Contains l.supers at →
+    HasPagesOf v at.number
 pages_had v l r at sound k inside =
     let spans = spans_in v.words in
     let had : (page : ℕ) → 1 ≤ page → page ≤ 126 → HasSpanAt v l.supers (page_place at.number page) = λ page first last.
     k.pages (page_place at.number page) (payload_at l.supers at page inside first last) in
-    let class_is : (s : Span) → Contains r.spans s → (spans s.place).class ≡ s.class = λ s among. ap (λ (x : SpanRecord). x.class) (k.stored.numbers s among) in
+    let class_is : (s : Span) → Contains r.spans s → (spans s.place).class ≡ s.class =
+    λ s among. ap (λ (x : SpanRecord). x.class) (k.stored.numbers s among) in
     record {
       raw = λ page first last. (had page first last).raw;
       readable = λ page first last. let h = had page first last in (h.span, h.recorded);
@@ -159,23 +167,27 @@ pages_had v l r at sound k inside =
           let out : (spans s.place).allocated ≡ s.allocated = ap (λ (x : SpanRecord). x.allocated) e in
           let made : (spans s.place).made ≡ s.made = ap (λ (x : SpanRecord). x.made) e in
           let held : (spans s.place).committed ≡ s.committed = ap (λ (x : SpanRecord). x.committed) e in
-          let c = (sound.spans s among).counted in let listed = c.listed in let more = c.made in let most = c.most in let pages = c.committed in
+          let c = (sound.spans s among).counted in let listed = c.listed in let more = c.made in let most = c.most in
+          let pages = c.committed in
           let row = IsRow-of s.class c.class in let slots = row.few_slots in let used = row.used in let few = row.few_pages in
           subst (λ u. IsSmall (spans u)) here (omega arith, omega arith, omega arith);
       ends = λ page first last used.
           let (s, among, here) = k.stored.each (page_place at.number page) (had page first last) used in
           let (a, other, p) = sound.placed s among in
           let end = p.last in let place = p.place in
-          let e = (pages_differ at.number a.number page other (omega arith) (page_less other (pages_of s.class) s.class (sound.spans s among).counted.class refl end)
+          let e = (pages_differ at.number a.number page other (omega arith)
+          (page_less other (pages_of s.class) s.class (sound.spans s among).counted.class refl end)
           (sym here ∙ place)).1 in
-          subst (λ u. page + pages_of (spans u).class ≤ 127) here (subst (λ k. page + pages_of k ≤ 127) (sym (class_is s among)) (omega arith));
+          subst (λ u. page + pages_of (spans u).class ≤ 127) here
+          (subst (λ k. page + pages_of k ≤ 127) (sym (class_is s among)) (omega arith));
       behind = λ page other first last used low high too.
           let (s, among, here) = k.stored.each (page_place at.number page) (had page first last) used in
           let (a, spot, p) = sound.placed s among in
           let end = p.last in
           let long : other < page + pages_of s.class = subst (λ k. other < page + pages_of k) (class_is s among)
           (subst (λ u. other < page + pages_of (spans u).class) (sym here) high) in
-          let e = (pages_differ at.number a.number page spot (omega arith) (page_less spot (pages_of s.class) s.class (sound.spans s among).counted.class refl end)
+          let e = (pages_differ at.number a.number page spot (omega arith)
+          (page_less spot (pages_of s.class) s.class (sound.spans s among).counted.class refl end)
           (sym here ∙ p.place)).1 in
           let (t, there, starts) = k.stored.each (page_place at.number other) (had other (omega arith) (omega arith)) too in
           none_behind v l r s t sound k among there (omega arith) (omega arith);

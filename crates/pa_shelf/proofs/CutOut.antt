@@ -61,7 +61,8 @@ count_inside t w q can is =
     let start = can.start_aligned in let len = can.len_aligned in let long = can.long in
     (omega arith, omega arith)
 
-raw_stays : (t : Title) (w : View) (supers : List SuperPage) (u : ℕ) → ((b : ℕ) → Covers t b → record_byte u ≤ b → b < record_byte u + 32 → ⊥) →
+raw_stays : (t : Title) (w : View) (supers : List SuperPage) (u : ℕ) →
+    ((b : ℕ) → Covers t b → record_byte u ≤ b → b < record_byte u + 32 → ⊥) →
     HasRawRecord w u → HasRawRecord (after_cut t w) u
 raw_stays t w supers u beside raw b low high =
     let before = raw b low high in
@@ -98,7 +99,8 @@ cut_more supers v w t cut can beside = record {
 
 -- a span's slots lie on payload pages, and the records don't
 away : (number page pages k p b : ℕ) → 1 ≤ page → page + pages ≤ 127 → 2097152 * number + 16384 * page ≤ b →
-    b < 2097152 * number + 16384 * page + 16384 * pages → p ≤ 127 → 2097152 * k + 4096 + 32 * p ≤ b → b < 2097152 * k + 4096 + 32 * p + 32 → ⊥
+    b < 2097152 * number + 16384 * page + 16384 * pages → p ≤ 127 → 2097152 * k + 4096 + 32 * p ≤ b → b < 2097152 * k + 4096 + 32 * p + 32 →
+    ⊥
 away number page pages k p b first last low high few from to = omega arith
 
 slots_beside_records : (supers : List SuperPage) (r : Root) (s : Span) (n : ℕ) → IsSound r → Contains r.spans s → n < slots_of s.class →
@@ -108,10 +110,12 @@ slots_beside_records supers r s n sound among below u b payload covers low high 
     let (a, page, p) = sound.placed s among in
     let from = within.from in let to = within.to in let place = p.place in let least = covers.0 in let most = covers.1 in
     let few = payload.page.1 in
-    away a.number page (pages_of s.class) (u / 2097152) (u % 2097152 / 16384) b p.first p.last (omega arith) (omega arith) (omega arith) low high
+    away a.number page (pages_of s.class) (u / 2097152) (u % 2097152 / 16384) b p.first p.last (omega arith) (omega arith)
+    (omega arith) low high
 
 -- what is shown stays shown
-chains_kept : (v w : View) (l : ShelfParts) (r : Root) → IsAware v → IsSound r → ShowsRoot v l r → AreCutOut l.supers v w → KeepsChains v w r.spans
+chains_kept : (v w : View) (l : ShelfParts) (r : Root) → IsAware v → IsSound r → ShowsRoot v l r → AreCutOut l.supers v w →
+    KeepsChains v w r.spans
 chains_kept v w l r aware sound shown cut s member t inside =
     let (m, numbered, is) = map_cases (title_at s) s.free t inside in
     let real = (sound.spans s member).counted.class in

@@ -21,7 +21,8 @@ made_is v l x t r s b =
     ap (λ (y : SpanRecord). y.made) (record_is v l r s t.start x b.at.shown.kept b.at.among b.at.here b.read)
 
 -- the first one that wasn't made starts in the region
-pub made_inside : (v : View) (l : ShelfParts) (x : SpanRecord) (t : Title) (r : Root) (s : Span) → HasSlotOf v l x t r s → t.start < 2097152 * 2048 →
+pub made_inside : (v : View) (l : ShelfParts) (x : SpanRecord) (t : Title) (r : Root) (s : Span) → HasSlotOf v l x t r s →
+    t.start < 2097152 * 2048 →
     t.start + t.len * x.made < 2097152 * 2048
 made_inside v l x t r s b small =
     let made = made_is v l x t r s b in
@@ -33,7 +34,8 @@ made_inside v l x t r s b small =
     omega arith
 
 -- how many are cut: none if the list isn't empty
-no_cut : (v : View) (l : ShelfParts) (x : SpanRecord) (t : Title) (r : Root) (s : Span) → HasSlotOf v l x t r s → x.allocated < x.provisioned →
+no_cut : (v : View) (l : ShelfParts) (x : SpanRecord) (t : Title) (r : Root) (s : Span) → HasSlotOf v l x t r s →
+    x.allocated < x.provisioned →
     0 ≡ count_cut s.free s
 no_cut v l x t r s b some =
     let e = record_is v l r s t.start x b.at.shown.kept b.at.among b.at.here b.read in
@@ -48,7 +50,8 @@ no_cut v l x t r s b some =
 past : (a b n : ℕ) → n ≡ max a b → n - a ≡ b - a
 past a b n is = omega arith
 
-more_cut : (v : View) (l : ShelfParts) (x y : SpanRecord) (t : Title) (r : Root) (s : Span) → HasSlotOf v l x t r s → x.provisioned ≤ x.allocated →
+more_cut : (v : View) (l : ShelfParts) (x y : SpanRecord) (t : Title) (r : Root) (s : Span) → HasSlotOf v l x t r s →
+    x.provisioned ≤ x.allocated →
     y ≡ with_more t.start x → y.made - x.made ≡ count_cut s.free s
 more_cut v l x y t r s b all y_is =
     let u = used_up v l x t r s b all in
@@ -69,10 +72,12 @@ cut_with : (v : View) (l : ShelfParts) (x : SpanRecord) (t : Title) (r : Root) (
 cut_with v l x t r s count b is =
     ap (λ (z : Title). new_of z count) (first_new v l x t r s b) ∙ ap (new_of (title_at s s.made)) is
 
-pub cut_listed : (v : View) (l : ShelfParts) (x : SpanRecord) (t : Title) (r : Root) (s : Span) → HasSlotOf v l x t r s → x.allocated < x.provisioned →
+pub cut_listed : (v : View) (l : ShelfParts) (x : SpanRecord) (t : Title) (r : Root) (s : Span) → HasSlotOf v l x t r s →
+    x.allocated < x.provisioned →
     new_of (slot_beside t x.made) 0 ≡ cut_before s
 cut_listed v l x t r s b some = cut_with v l x t r s 0 b (no_cut v l x t r s b some)
 
-pub cut_more : (v : View) (l : ShelfParts) (x y : SpanRecord) (t : Title) (r : Root) (s : Span) → HasSlotOf v l x t r s → x.provisioned ≤ x.allocated →
+pub cut_more : (v : View) (l : ShelfParts) (x y : SpanRecord) (t : Title) (r : Root) (s : Span) → HasSlotOf v l x t r s →
+    x.provisioned ≤ x.allocated →
     y ≡ with_more t.start x → new_of (slot_beside t x.made) (y.made - x.made) ≡ cut_before s
 cut_more v l x y t r s b all y_is = cut_with v l x t r s (y.made - x.made) b (more_cut v l x y t r s b all y_is)

@@ -45,12 +45,14 @@ none_is (u ∷ us) e = elim (eqb_tells (length (u ∷ us)) 0) [
 ]
 
 -- the page at which it starts has a span
-first_had : (l : SpanListParts) (spans : ℕ → SpanRecord) (has : ℕ → Type 0) (at : ℕ) → Stand l spans has → first_of_ring l.ring ≡ Some at → has at
+first_had : (l : SpanListParts) (spans : ℕ → SpanRecord) (has : ℕ → Type 0) (at : ℕ) → Stand l spans has → first_of_ring l.ring ≡ Some at →
+    has at
 first_had l spans has at stand is =
     let (rest, ring_is) = first_is l.ring at is in
     ((subst (All (λ u. has u × ((spans u).state ≡ state.Empty))) ring_is stand.in_ring) 0 0 (omega arith)).0
 
-pub page_had : (v : View) (l : ShelfParts) (r : Root) (at : ℕ) → ShowsRoot v l r → first_of_ring l.lists.ring ≡ Some at → HasSpanAt v l.supers at
+pub page_had : (v : View) (l : ShelfParts) (r : Root) (at : ℕ) → ShowsRoot v l r → first_of_ring l.lists.ring ≡ Some at →
+    HasSpanAt v l.supers at
 page_had v l r at shown is = first_had l.lists (spans_in v.words) (HasSpanAt v l.supers) at shown.kept.stand is
 
 -- the span that was read is the one that the words have
@@ -62,24 +64,28 @@ pub without_stays : (x y z : SpanRecord) → x ≡ z → y ≡ without_pages_of 
 without_stays x y z e f = subst (λ (u : SpanRecord). StaysListed u y) e (subst (StaysListed x) (sym f)
     (record { class = inl refl; state = refl; turn = refl; previous = refl; next = refl }))
 
-pub few_left : (at : ℕ) (l : SpanListParts) (x : SpanRecord) → length l.ring ≤ 17 → length (lists_entered at state.Decommitted l x).ring ≤ 17
+pub few_left : (at : ℕ) (l : SpanListParts) (x : SpanRecord) → length l.ring ≤ 17 →
+    length (lists_entered at state.Decommitted l x).ring ≤ 17
 few_left at l x few = elim (cases_Bool (same_state x.state state.Decommitted)) [
-  | inl same ↦ subst (λ (b : Bool). length (if b then l else lists_with at x.class state.Decommitted (lists_without at x l)).ring ≤ 17) (sym same) few
-  | inr other ↦ subst (λ (b : Bool). length (if b then l else lists_with at x.class state.Decommitted (lists_without at x l)).ring ≤ 17) (sym other)
+  | inl same ↦ subst (λ (b : Bool). length (if b then l else lists_with at x.class state.Decommitted (lists_without at x l)).ring ≤ 17)
+      (sym same) few
+  | inr other ↦ subst (λ (b : Bool). length (if b then l else lists_with at x.class state.Decommitted (lists_without at x l)).ring ≤ 17)
+      (sym other)
       (let less = ring_shrinks at x.state l.ring in omega arith)
 ]
 
 -- a span without free slots
 pub empty_chain : (v : View) (s : Span) → s.free ≡ [] → IsChain v (chain_of s) (titles_free s)
-empty_chain v s e = subst (λ (ns : List ℕ). IsChain v (chain_of (record s { free = ns })) (titles_free (record s { free = ns }))) (sym e) (record {
-  many = refl;
-  head = refl;
-  sized = λ i d inside. absurd (omega arith);
-  named = λ i d inside. absurd (omega arith);
-  free = λ i d inside. absurd (omega arith);
-  different = pairs_none (λ t u. t ≡ u → ⊥);
-  links = tt;
-})
+empty_chain v s e = subst (λ (ns : List ℕ). IsChain v (chain_of (record s { free = ns })) (titles_free (record s { free = ns }))) (sym e)
+    (record {
+      many = refl;
+      head = refl;
+      sized = λ i d inside. absurd (omega arith);
+      named = λ i d inside. absurd (omega arith);
+      free = λ i d inside. absurd (omega arith);
+      different = pairs_none (λ t u. t ≡ u → ⊥);
+      links = tt;
+    })
 
 -- what is shown when a span was decommitted
 pub decommit_shown : (v w : View) (l after : ShelfParts) (at : ℕ) (x y : SpanRecord) (r : Root) → IsAware v → Rerecorded l.supers v w →
@@ -92,7 +98,8 @@ decommit_shown v w l after at x y r aware wrote first x_is y_is moved sound show
     let (s, old) = oldest l.lists (spans_in v.words) (HasSpanAt v l.supers) r at rest sound k.stand k.stored ring_is in
     let t = without_pages s in
     let here : alone x ≡ record_with s 0 0 = ap alone (x_is ∙ ap (spans_in v.words) (sym old.here)) ∙ k.stored.numbers s old.among in
-    let is_for : IsRecordFor at y s t = record { here = old.here; place = refl; born = refl; is = ap alone y_is ∙ ap without_pages_of here } in
+    let is_for : IsRecordFor at y s t =
+    record { here = old.here; place = refl; born = refl; is = ap alone y_is ∙ ap without_pages_of here } in
     let chains : (u : Span) → Contains r.spans u → IsChain w (chain_of u) (titles_free u) = λ u among.
     chain_stays v w l.supers (chain_of u) (titles_free u) aware wrote (λ p payload. (k.pages p payload).raw)
     (size_some u.class (sound.spans u among).counted.class) (shown.chains u among) in
@@ -103,9 +110,11 @@ decommit_shown v w l after at x y r aware wrote first x_is y_is moved sound show
     })
 
 -- if no span is empty, the root is shown with its oldest empty span decommitted
-pub none_shown : (v : View) (l : ShelfParts) (r : Root) → first_of_ring l.lists.ring ≡ None → ShowsRoot v l r → ShowsRoot v l (oldest_decommitted r)
+pub none_shown : (v : View) (l : ShelfParts) (r : Root) → first_of_ring l.lists.ring ≡ None → ShowsRoot v l r →
+    ShowsRoot v l (oldest_decommitted r)
 none_shown v l r none shown =
     let k = shown.kept in
     let e : earliest (is_in state.Empty) r.spans ≡ None =
-    none_empty l.lists (spans_in v.words) (HasSpanAt v l.supers) r.spans (earliest (is_in state.Empty) r.spans) k.stand k.stored (none_is l.lists.ring none) refl in
+    none_empty l.lists (spans_in v.words) (HasSpanAt v l.supers) r.spans (earliest (is_in state.Empty) r.spans) k.stand k.stored
+    (none_is l.lists.ring none) refl in
     subst (ShowsRoot v l) (sym (ap (λ o. decommitted_span o r) e)) shown

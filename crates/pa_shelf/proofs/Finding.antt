@@ -32,7 +32,8 @@ few_pages c real =
     ]
 
 -- two super pages with one number are one
-pub one_number : (a b : SuperPage) (ss : List SuperPage) → AllPairs (λ (x y : SuperPage). x.number ≢ y.number) ss → Contains ss a → Contains ss b →
+pub one_number : (a b : SuperPage) (ss : List SuperPage) → AllPairs (λ (x y : SuperPage). x.number ≢ y.number) ss → Contains ss a →
+    Contains ss b →
     a.number ≡ b.number → a ≡ b
 one_number a b [] apart first second same = absurd (not_in_none a first)
 one_number a b (x ∷ xs) apart first second same =
@@ -69,7 +70,8 @@ page_numbers : (number page pages place at : ℕ) → place ≡ 2097152 * number
     place ≤ at → at < place + 16384 * pages → (number ≡ at / 2097152) × (1 ≤ at % 2097152 / 16384) × (at % 2097152 / 16384 ≤ 126)
 page_numbers number page pages place at is first last aligned low high = (omega arith, omega arith, omega arith)
 
-pub on_page : (v : View) (l : ShelfParts) (r : Root) (s : Span) (at : ℕ) → RecordsRoot v l r → (a : SuperPage) (page : ℕ) → Contains r.supers a →
+pub on_page : (v : View) (l : ShelfParts) (r : Root) (s : Span) (at : ℕ) → RecordsRoot v l r → (a : SuperPage) (page : ℕ) →
+    Contains r.supers a →
     s.place ≡ 2097152 * a.number + 16384 * page → 1 ≤ page → page + pages_of s.class ≤ 127 → at % 16384 ≡ 0 → s.place ≤ at →
     at < s.place + 16384 * pages_of s.class → IsPayloadOf l.supers at
 on_page v l r s at k a page among is first last aligned low high =
@@ -84,13 +86,16 @@ page_has v l t r s n at b aligned low high =
     b.shown.kept.pages at (on_page v l r s at b.shown.kept a page p.among p.place p.first p.last aligned low (omega arith))
 
 -- no span starts after the first page of another one, up to its end
-pub none_behind : (v : View) (l : ShelfParts) (r : Root) (s t : Span) → IsSound r → RecordsRoot v l r → Contains r.spans s → Contains r.spans t →
+pub none_behind : (v : View) (l : ShelfParts) (r : Root) (s t : Span) → IsSound r → RecordsRoot v l r → Contains r.spans s →
+    Contains r.spans t →
     s.place < t.place → t.place < s.place + 16384 * pages_of s.class → ⊥
 none_behind v l r s t sound k among inside low high =
     let (a, page, p) = sound.placed s among in
     let (c, other, q) = sound.placed t inside in
-    let number = same_super a.number c.number page other (pages_of s.class) (pages_of t.class) s.place t.place p.place q.place p.last q.last low high in
-    let one = one_number a c l.supers k.apart (subst (λ zs. Contains zs a) k.supers p.among) (subst (λ zs. Contains zs c) k.supers q.among) number in
+    let number = same_super a.number c.number page other (pages_of s.class)
+    (pages_of t.class) s.place t.place p.place q.place p.last q.last low high in
+    let one = one_number a c l.supers k.apart (subst (λ zs. Contains zs a) k.supers p.among)
+    (subst (λ zs. Contains zs c) k.supers q.among) number in
     let born : s.born ≡ t.born = p.born ∙ (ap (λ (z : SuperPage). z.born) one ∙ sym q.born) in
     let far : same_place s t ≡ false = elim (cases_Bool (same_place s t)) [
       | inl same ↦ let e = (place_tells s t same).0 in absurd (omega arith)
@@ -103,7 +108,8 @@ none_behind v l r s t sound k among inside low high =
     same_super a b p q n m s u is too first second low high = omega arith
 
 -- between a span's first page and the slot, pages have records of no state, and the first has one of some state
-pub none_between : (v : View) (l : ShelfParts) (t : Title) (r : Root) (s : Span) (n at : ℕ) → IsBackAt v l s.place t r s n → at % 16384 ≡ 0 →
+pub none_between : (v : View) (l : ShelfParts) (t : Title) (r : Root) (s : Span) (n at : ℕ) → IsBackAt v l s.place t r s n →
+    at % 16384 ≡ 0 →
     s.place < at → at ≤ t.start → same_state (spans_in v.words at).state state.None ≡ true
 none_between v l t r s n at b aligned low high = elim (cases_Bool (same_state (spans_in v.words at).state state.None)) [
   | inl none ↦ none
@@ -129,7 +135,8 @@ pub goes_on : (v : View) (l : ShelfParts) (t : Title) (r : Root) (s : Span) (n a
     s.place ≤ at → same_state (spans_in v.words at).state state.None ≡ true → s.place + 16384 ≤ at
 goes_on v l t r s n at b aligned low none =
     let first = (b.shown.kept.stored.had s b.among).payload.aligned in
-    let other : s.place ≡ at → ⊥ = λ e. some_first v l t r s n b (subst (λ u. same_state (spans_in v.words u).state state.None ≡ true) (sym e) none) in
+    let other : s.place ≡ at →
+    ⊥ = λ e. some_first v l t r s n b (subst (λ u. same_state (spans_in v.words u).state state.None ≡ true) (sym e) none) in
     apart_more s.place at first aligned low other
   where
     apart_more : (a b : ℕ) → a % 16384 ≡ 0 → b % 16384 ≡ 0 → a ≤ b → (a ≡ b → ⊥) → a + 16384 ≤ b

@@ -12,7 +12,8 @@ pub record AreSmall (class committed provisioned : ℕ) : Type 0 where
   pub before : slot_of class * provisioned ≤ slot_of class * slots_of class
   pub pages : max (committed + 1) ((slot_of class * (provisioned + 1) + 4095) / 4096) ≤ 241
 
-pub are_small : (class committed provisioned : ℕ) → class < 170 → committed ≤ 240 → provisioned < slots_of class → AreSmall class committed provisioned
+pub are_small : (class committed provisioned : ℕ) → class < 170 → committed ≤ 240 → provisioned < slots_of class →
+    AreSmall class committed provisioned
 are_small class committed provisioned real low below =
     let row = IsRow-of class real in
     let least = row.least_slot in let inside = row.inside in let pages = row.few_pages in

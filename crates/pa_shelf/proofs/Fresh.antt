@@ -43,7 +43,8 @@ page_numbers number page least most = (omega arith, omega arith, omega arith, om
 same_numbers : (a b p q : ℕ) → 1 ≤ p → p ≤ 126 → 1 ≤ q → q ≤ 127 → 2097152 * a + 16384 * p ≡ 2097152 * b + 16384 * q → a ≡ b
 same_numbers a b p q least most first last e = omega arith
 
-pub is_fresh : (v : View) (l : ShelfParts) (r : Root) (class : ℕ) (a : SuperPage) → IsSound r → ShowsRoot v l r → current r ≡ Some a → class < 170 →
+pub is_fresh : (v : View) (l : ShelfParts) (r : Root) (class : ℕ) (a : SuperPage) → IsSound r → ShowsRoot v l r → current r ≡ Some a →
+    class < 170 →
     r.page + pages_of class ≤ 127 → IsFresh v l r class (page_place a.number r.page)
 is_fresh v l r class a sound shown now real room =
     let k = shown.kept in
@@ -62,7 +63,8 @@ is_fresh v l r class a sound shown now real room =
     let last = p.last in
     let pages = (IsRow-of s.class (sound.spans s member).counted.class).some_pages in
     let n = same_numbers b.number a.number page r.page p.first (omega arith) first (omega arith) (sym p.place ∙ same) in
-    let one = one_number b a l.supers k.apart (subst (λ zs. Contains zs b) k.supers p.among) (subst (λ zs. Contains zs a) k.supers among) n in
+    let one = one_number b a l.supers k.apart (subst (λ zs. Contains zs b) k.supers p.among)
+    (subst (λ zs. Contains zs a) k.supers among) n in
     let before = sound.below s a member now (p.born ∙ ap (λ (z : SuperPage). z.born) one) in
     omega arith in
     let none : (spans_in v.words at).state ≡ state.None = elim (cases_Bool (same_state (spans_in v.words at).state state.None)) [
@@ -81,7 +83,8 @@ pub is_added : (v : View) (l : ShelfParts) (r : Root) (class : ℕ) (a : SuperPa
 is_added v l r class a fresh = record { here = refl; is = refl; alone = fresh.alone }
 
 -- what is shown with it
-pub added_shown : (v w : View) (l after : ShelfParts) (r : Root) (class : ℕ) (a : SuperPage) → IsSound r → ShowsRoot v l r → IsAware v → Rerecorded l.supers v w →
+pub added_shown : (v w : View) (l after : ShelfParts) (r : Root) (class : ℕ) (a : SuperPage) → IsSound r → ShowsRoot v l r → IsAware v →
+    Rerecorded l.supers v w →
     after ≡ record l { page = l.page + pages_of class } → RecordsRoot w l (record r { spans = r.spans ++ new_span class a r.page ∷ [] }) →
     ShowsRoot w after (with_span (new_span class a r.page) r)
 added_shown v w l after r class a sound shown aware wrote after_is k =
@@ -108,7 +111,8 @@ added_shown v w l after r class a sound shown aware wrote after_is k =
     })
 
 -- if there is room
-pub room_some : (class page : ℕ) (o : Option SuperPage) (a : SuperPage) → room_in class page o ≡ Some a → (o ≡ Some a) × (page + pages_of class ≤ 127)
+pub room_some : (class page : ℕ) (o : Option SuperPage) (a : SuperPage) → room_in class page o ≡ Some a → (o ≡ Some a) ×
+    (page + pages_of class ≤ 127)
 room_some class page None a e = let no : None ≡ Some a = e in absurd (cc)
 room_some class page (Some b) a e = elim (cases_Bool (nat_le (page + pages_of class) 127)) [
   | inl fits ↦ (sym (ap (λ c. if c then Some b else None) fits) ∙ e, leb-true _ _ fits)
@@ -122,7 +126,8 @@ found_some class r (Some b) a e = elim (cases_Bool (nat_le (r.page + pages_of cl
   | inl fits ↦
       let same : Some b ≡ Some a = sym (ap (λ c. if c then Some b else None) fits) ∙ e in
       ap (λ c. if c then Some (record { span = new_span class b r.page; root = with_span (new_span class b r.page) r }) else None) fits
-      ∙ ap (λ (x : SuperPage). Some (record { span = new_span class x r.page; root = with_span (new_span class x r.page) r })) (of_some b a same)
+      ∙ ap (λ (x : SuperPage). Some (record { span = new_span class x r.page; root = with_span (new_span class x r.page) r }))
+      (of_some b a same)
   | inr full ↦ let no : None ≡ Some a = sym (ap (λ c. if c then Some b else None) full) ∙ e in absurd (cc)
 ]
 
@@ -130,7 +135,8 @@ pub found_none : (class : ℕ) (r : Root) (o : Option SuperPage) → room_in cla
 found_none class r None e = refl
 found_none class r (Some b) e = elim (cases_Bool (nat_le (r.page + pages_of class) 127)) [
   | inl fits ↦ let no : Some b ≡ None = sym (ap (λ c. if c then Some b else None) fits) ∙ e in absurd (cc)
-  | inr full ↦ ap (λ c. if c then Some (record { span = new_span class b r.page; root = with_span (new_span class b r.page) r }) else None) full
+  | inr full ↦ ap (λ c. if c then Some (record { span = new_span class b r.page; root = with_span (new_span class b r.page) r }) else None)
+      full
 ]
 
 pub at_is : (a : SuperPage) (page here start : ℕ) → page ≡ here → start ≡ page_place a.number here → page_place a.number page ≡ start
@@ -168,7 +174,8 @@ page_found class r (Some a) = elim (cases_Bool (nat_le (r.page + pages_of class)
   | inr full ↦ rw full refl
 ]
 
-pub listed_found : (class : ℕ) (r : Root) (o : Option ℕ) → o ≡ start_of (listed class r.spans) → is_some o ≡ true → true ≡ is_some (span_for class r)
+pub listed_found : (class : ℕ) (r : Root) (o : Option ℕ) → o ≡ start_of (listed class r.spans) → is_some o ≡ true →
+    true ≡ is_some (span_for class r)
 listed_found class r o is some = some_found class r (listed class r.spans) (sym (ap is_some is) ∙ some)
 
 pub room_found : (v : View) (l : ShelfParts) (r : Root) (class : ℕ) (o : Option ℕ) (p : Option SuperPage) → RecordsRoot v l r →

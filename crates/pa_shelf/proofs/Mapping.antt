@@ -31,7 +31,8 @@ with_maps v l r ls rs same shown = let k = shown.kept in record {
   chains = shown.chains;
 }
 
-pub mapped_shown : (v : View) (l : ShelfParts) (r : Root) (t : Title) → ShowsRoot v l r → ShowsRoot v (record l { maps = l.maps ++ t ∷ [] }) (mapped t r)
+pub mapped_shown : (v : View) (l : ShelfParts) (r : Root) (t : Title) → ShowsRoot v l r →
+    ShowsRoot v (record l { maps = l.maps ++ t ∷ [] }) (mapped t r)
 mapped_shown v l r t shown = with_maps v l r (l.maps ++ t ∷ []) (r.maps ++ t ∷ []) (ap (λ ts. ts ++ t ∷ []) shown.kept.maps) shown
 
 pub unmapped_shown : (v : View) (l : ShelfParts) (r : Root) (name : SlotName) → ShowsRoot v l r →
@@ -50,7 +51,8 @@ later_places name n k (t ∷ ts) less e = elim (cases_Bool (is_named name t)) [
   | inr miss ↦ later_places name (n + 1) k ts (omega arith) (rw miss at e)
 ]
 
-removed_from : (name : SlotName) (n k : ℕ) (ts : List Title) → position_from (is_named name) n ts ≡ Some (n + k) → remove ts k ≡ without_map name ts
+removed_from : (name : SlotName) (n k : ℕ) (ts : List Title) → position_from (is_named name) n ts ≡ Some (n + k) →
+    remove ts k ≡ without_map name ts
 removed_from name n k [] e = absurd (not_some (n + k) e)
 removed_from name n zero (t ∷ ts) e = elim (cases_Bool (is_named name t)) [
   | inl hit ↦ rw hit refl

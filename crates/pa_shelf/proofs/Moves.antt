@@ -52,7 +52,8 @@ elsewhere_is u at y x other = elim (eqb_tells u at) [
 ]
 
 -- what a store has once it is put in the place
-first_stored : (spans mid : ℕ → SpanRecord) (has : ℕ → Type 0) (ss : List Span) (s t : Span) (at : ℕ) (x : SpanRecord) → AreStored spans has ss →
+first_stored : (spans mid : ℕ → SpanRecord) (has : ℕ → Type 0) (ss : List Span) (s t : Span) (at : ℕ) (x : SpanRecord) →
+    AreStored spans has ss →
     Contains ss s → IsRecordFor at x s t → ((u : ℕ) → mid u ≡ (if u == at then x else spans u)) → AreStored mid has (put t ss)
 first_stored spans mid has ss s t at x st among is_for put_in =
     put_is_stored spans mid has ss s t st among (record {
@@ -63,27 +64,32 @@ first_stored spans mid has ss s t at x st among is_for put_in =
     })
 
 -- records that aren't in use are as before
-pub change_unused : (l : SpanListParts) (spans mid after : ℕ → SpanRecord) (has : ℕ → Type 0) (ss : List Span) (s t : Span) (at : ℕ) (x : SpanRecord) (to : State) →
+pub change_unused : (l : SpanListParts) (spans mid after : ℕ → SpanRecord) (has : ℕ → Type 0) (ss : List Span) (s t : Span) (at : ℕ)
+    (x : SpanRecord) (to : State) →
     AreStored spans has ss → Contains ss s → IsRecordFor at x s t → ((u : ℕ) → mid u ≡ (if u == at then x else spans u)) →
-    ((u : ℕ) → after u ≡ spans_entered at to l mid u) → (to ≡ state.None → ⊥) → ((u : ℕ) → has u → StartsAtZero (spans u)) → (u : ℕ) → has u →
+    ((u : ℕ) → after u ≡ spans_entered at to l mid u) → (to ≡ state.None → ⊥) → ((u : ℕ) → has u → StartsAtZero (spans u)) → (u : ℕ) →
+    has u →
     StartsAtZero (after u)
 change_unused l spans mid after has ss s t at x to st among is_for put_in moved used unused u h none =
     let there : Contains (put t ss) t = put_there t s ss among (place_from s t (sym is_for.place) (sym is_for.born)) in
     let at_is : t.place ≡ at = is_for.place ∙ is_for.here in
     let first = first_stored spans mid has ss s t at x st among is_for put_in in
-    let e = entered_is_stored l mid after t to (first.numbers t there) (subst (λ p. (v : ℕ) → after v ≡ spans_entered p to l mid v) (sym at_is) moved) in
+    let e = entered_is_stored l mid after t to (first.numbers t there)
+    (subst (λ p. (v : ℕ) → after v ≡ spans_entered p to l mid v) (sym at_is) moved) in
     elim (eqb_tells u at) [
       | inl w ↦
           let is : (after u).state ≡ (in_state to l.turn t).state =
           ap (λ p. (after p).state) (w.1 ∙ sym at_is) ∙ ap (λ (y : SpanRecord). y.state) e.is in
           absurd (used (sym (in_state_is to l.turn t) ∙ (sym is ∙ none)))
       | inr w ↦
-          let same : alone (after u) ≡ alone (spans u) = e.others u (λ p. w.1 (p ∙ at_is)) ∙ ap alone (put_in u ∙ elsewhere_is u at (spans u) x w.1) in
+          let same : alone (after u) ≡ alone (spans u) = e.others u (λ p. w.1 (p ∙ at_is)) ∙
+          ap alone (put_in u ∙ elsewhere_is u at (spans u) x w.1) in
           ap (λ (y : SpanRecord). y.turn) same ∙ unused u h (sym (ap (λ (y : SpanRecord). y.state) same) ∙ none)
     ]
 
 -- what a store has after it
-pub change_stored : (l : SpanListParts) (spans mid after : ℕ → SpanRecord) (has : ℕ → Type 0) (ss : List Span) (s t : Span) (at : ℕ) (x : SpanRecord) (to : State) →
+pub change_stored : (l : SpanListParts) (spans mid after : ℕ → SpanRecord) (has : ℕ → Type 0) (ss : List Span) (s t : Span) (at : ℕ)
+    (x : SpanRecord) (to : State) →
     AreStored spans has ss → Contains ss s → IsRecordFor at x s t → ((u : ℕ) → mid u ≡ (if u == at then x else spans u)) →
     ((u : ℕ) → after u ≡ spans_entered at to l mid u) → AreStored after has (put (in_state to l.turn t) ss)
 change_stored l spans mid after has ss s t at x to st among is_for put_in moved =
@@ -91,7 +97,8 @@ change_stored l spans mid after has ss s t at x to st among is_for put_in moved 
     let at_is : t.place ≡ at = is_for.place ∙ is_for.here in
     let first : AreStored mid has (put t ss) = first_stored spans mid has ss s t at x st among is_for put_in in
     let second : AreStored after has (put (in_state to l.turn t) (put t ss)) =
-    enters_stored l mid after has (put t ss) t to first there (subst (λ p. (u : ℕ) → after u ≡ spans_entered p to l mid u) (sym at_is) moved) in
+    enters_stored l mid after has (put t ss) t to first there
+    (subst (λ p. (u : ℕ) → after u ≡ spans_entered p to l mid u) (sym at_is) moved) in
     subst (AreStored after has) (put_twice (in_state to l.turn t) t ss (enters_same_place to l.turn t)) second
 
 -- the turn after it
@@ -102,17 +109,21 @@ turn_left s l = either (s.previous == 0)
     either true = turn_alike l s.class s.state s.next
     either false = refl
 
-turn_enters : (at : ℕ) (to : State) (l : SpanListParts) (x : SpanRecord) (t : Span) → x.state ≡ t.state → turn_after to l.turn t ≡ (lists_entered at to l x).turn
+turn_enters : (at : ℕ) (to : State) (l : SpanListParts) (x : SpanRecord) (t : Span) → x.state ≡ t.state →
+    turn_after to l.turn t ≡ (lists_entered at to l x).turn
 turn_enters at to l x t same = elim (cases_Bool (same_state t.state to)) [
   | inl stays ↦ ap (λ (b : Bool). if b then l.turn else l.turn + 1) stays
-      ∙ sym (ap (λ (b : Bool). (if b then l else lists_with at x.class to (lists_without at x l)).turn) (ap (λ (a : State). same_state a to) same ∙ stays))
+      ∙ sym (ap (λ (b : Bool). (if b then l else lists_with at x.class to (lists_without at x l)).turn)
+      (ap (λ (a : State). same_state a to) same ∙ stays))
   | inr moves ↦ ap (λ (b : Bool). if b then l.turn else l.turn + 1) moves
       ∙ (sym (ap (λ n. n + 1) (turn_left x l))
-      ∙ sym (ap (λ (b : Bool). (if b then l else lists_with at x.class to (lists_without at x l)).turn) (ap (λ (a : State). same_state a to) same ∙ moves)))
+      ∙ sym (ap (λ (b : Bool). (if b then l else lists_with at x.class to (lists_without at x l)).turn)
+      (ap (λ (a : State). same_state a to) same ∙ moves)))
 ]
 
 -- what the records keep after it
-pub change_kept : (v w : View) (l : ShelfParts) (x : SpanRecord) (at : ℕ) (to : State) (r : Root) (s t : Span) → RecordsRoot v l r → IsRecordFor at x s t →
+pub change_kept : (v w : View) (l : ShelfParts) (x : SpanRecord) (at : ℕ) (to : State) (r : Root) (s t : Span) → RecordsRoot v l r →
+    IsRecordFor at x s t →
     ((u : ℕ) → HasSpanAt w l.supers u ↔ HasSpanAt v l.supers u) → ((u : ℕ) → HasSpanAt w l.supers u → StartsAtZero (spans_in w.words u)) →
     Stand (lists_entered at to l.lists x) (spans_in w.words) (HasSpanAt w l.supers) → length (lists_entered at to l.lists x).ring ≤ 17 →
     AreStored (spans_in w.words) (HasSpanAt w l.supers) (put (in_state to l.lists.turn t) r.spans) →

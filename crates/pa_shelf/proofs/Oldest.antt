@@ -17,19 +17,23 @@ use Rattle.pa_records.specs.Stored.{AreStored}
 empty_used : (x : SpanRecord) → x.state ≡ state.Empty → IsInUse x
 empty_used x is none = let no : state.Empty ≡ state.None = sym is ∙ none in absurd (cc)
 
-pub state_at : (spans : ℕ → SpanRecord) (has : ℕ → Type 0) (ss : List Span) (s : Span) → AreStored spans has ss → Contains ss s → (spans s.place).state ≡ s.state
+pub state_at : (spans : ℕ → SpanRecord) (has : ℕ → Type 0) (ss : List Span) (s : Span) → AreStored spans has ss → Contains ss s →
+    (spans s.place).state ≡ s.state
 state_at spans has ss s st among = ap (λ (x : SpanRecord). x.state) (st.numbers s among)
 
-pub turn_at : (spans : ℕ → SpanRecord) (has : ℕ → Type 0) (ss : List Span) (s : Span) → AreStored spans has ss → Contains ss s → (spans s.place).turn ≡ s.turn
+pub turn_at : (spans : ℕ → SpanRecord) (has : ℕ → Type 0) (ss : List Span) (s : Span) → AreStored spans has ss → Contains ss s →
+    (spans s.place).turn ≡ s.turn
 turn_at spans has ss s st among = ap (λ (x : SpanRecord). x.turn) (st.numbers s among)
 
 -- an empty span is in the ring
-pub in_ring : (l : SpanListParts) (spans : ℕ → SpanRecord) (has : ℕ → Type 0) (ss : List Span) (s : Span) → Stand l spans has → AreStored spans has ss → Contains ss s →
+pub in_ring : (l : SpanListParts) (spans : ℕ → SpanRecord) (has : ℕ → Type 0) (ss : List Span) (s : Span) → Stand l spans has →
+    AreStored spans has ss → Contains ss s →
     is_in state.Empty s ≡ true → Contains l.ring s.place
 in_ring l spans has ss s stand st among is =
     stand.empty s.place (st.had s among) (state_at spans has ss s st among ∙ same_state-true s.state state.Empty is)
 
-pub none_empty : (l : SpanListParts) (spans : ℕ → SpanRecord) (has : ℕ → Type 0) (ss : List Span) (o : Option Span) → Stand l spans has → AreStored spans has ss →
+pub none_empty : (l : SpanListParts) (spans : ℕ → SpanRecord) (has : ℕ → Type 0) (ss : List Span) (o : Option Span) → Stand l spans has →
+    AreStored spans has ss →
     l.ring ≡ [] → earliest (is_in state.Empty) ss ≡ o → o ≡ None
 none_empty l spans has ss None stand st none e = refl
 none_empty l spans has ss (Some s) stand st none e =
@@ -43,7 +47,8 @@ pub record IsOldest (r : Root) (at : ℕ) (s : Span) : Type 0 where
   pub empty : s.state ≡ state.Empty
   pub is : earliest (is_in state.Empty) r.spans ≡ Some s
 
-pub oldest : (l : SpanListParts) (spans : ℕ → SpanRecord) (has : ℕ → Type 0) (r : Root) (at : ℕ) (rest : List ℕ) → IsSound r → Stand l spans has →
+pub oldest : (l : SpanListParts) (spans : ℕ → SpanRecord) (has : ℕ → Type 0) (r : Root) (at : ℕ) (rest : List ℕ) → IsSound r →
+    Stand l spans has →
     AreStored spans has r.spans → l.ring ≡ at ∷ rest → (s : Span) × IsOldest r at s
 oldest l spans has r at rest sound stand st ring_is =
     let R : ℕ → ℕ → Type 0 = λ u v. (spans u).turn < (spans v).turn in

@@ -21,7 +21,8 @@ pub record HasSlot (f : Found) : Type 0 where
   pub among : Contains f.root.spans f.span
   pub less : f.span.allocated < slots_of f.span.class
 
-in_new : (class : ℕ) (r : Root) (o : Option SuperPage) (f : Found) → IsSound r → class < 170 → current r ≡ o → at_page class r o ≡ Some f → HasSlot f
+in_new : (class : ℕ) (r : Root) (o : Option SuperPage) (f : Found) → IsSound r → class < 170 → current r ≡ o → at_page class r o ≡ Some f →
+    HasSlot f
 in_new class r None f sound real now e = absurd (not_some f e)
 in_new class r (Some a) f sound real now e = elim (cases_Bool (nat_le (r.page + pages_of class) 127)) [
   | inl fits ↦
@@ -39,7 +40,8 @@ in_new class r (Some a) f sound real now e = elim (cases_Bool (nat_le (r.page + 
       absurd (not_some f (sym (ap (λ (b : Bool). if b then Some g else None) full) ∙ e))
 ]
 
-in_found : (class : ℕ) (r : Root) (o : Option Span) (f : Found) → IsSound r → class < 170 → listed class r.spans ≡ o → found_or_new class r o ≡ Some f → HasSlot f
+in_found : (class : ℕ) (r : Root) (o : Option Span) (f : Found) → IsSound r → class < 170 → listed class r.spans ≡ o →
+    found_or_new class r o ≡ Some f → HasSlot f
 in_found class r None f sound real is e = in_new class r (current r) f sound real refl e
 in_found class r (Some s) f sound real is e =
     let u = listed_is class r.spans s is in
@@ -50,7 +52,8 @@ pub found_ready : (class : ℕ) (r : Root) (f : Found) → IsSound r → class <
 found_ready class r f sound real is = in_found class r (listed class r.spans) f sound real refl is
 
 -- a slot is taken from the span that was found, at its start
-taken_at : (v : View) (l : ShelfParts) (at : ℕ) (r : Root) (o : Option Found) → ((f : Found) → o ≡ Some f → HasSlot f) → found_start o ≡ Some at →
+taken_at : (v : View) (l : ShelfParts) (at : ℕ) (r : Root) (o : Option Found) → ((f : Found) → o ≡ Some f → HasSlot f) →
+    found_start o ≡ Some at →
     ShowsRoot v l (found_root o r) → (s : Span) × HasSlotAt v l at (found_root o r) s × (take_of s (found_root o r) ≡ taken_from o r)
 taken_at v l at r None ready e shown = absurd (not_some at e)
 taken_at v l at r (Some f) ready e shown =

@@ -39,21 +39,26 @@ pub more_blank : (words : List ℕ) (number page : ℕ) → AreBlankBelow words 
     AreBlankBelow (with_record words (record_word (page_place number page)) unused_span) number (page + 1)
 more_blank words number page blank reads p first below = elim (cases_lt p page) [
   | inl less ↦
-      same_record words (with_record words (record_word (page_place number page)) unused_span) (record_word (page_place number p)) unused_span
+      same_record words (with_record words (record_word (page_place number page)) unused_span)
+      (record_word (page_place number p)) unused_span
       (four_kept words unused_span (page_place number p) (page_place number page) (omega arith) (omega arith) (λ e. omega arith))
       (blank p first less)
   | inr not ↦
       let e : page ≡ p = omega arith in
-      subst (λ k. IsRecordAt (with_record words (record_word (page_place number page)) unused_span) (record_word (page_place number k)) unused_span) e reads
+      subst (λ k. IsRecordAt (with_record words (record_word (page_place number page)) unused_span)
+      (record_word (page_place number k)) unused_span) e reads
 ]
 
 -- a step of the loop that clears keeps what the loop keeps
-pub clear_step : (at : SuperPage) (page place : ℕ) (x : SpanRecord) (v u w : View) → 1 ≤ page → page ≤ 126 → place ≡ page_place at.number page → x ≡ unused_span →
-    w ≡ after_record place x u → IsRecordAt w.words (record_word place) x → Rerecorded (at ∷ []) v u → AreBlankBelow u.words at.number page →
+pub clear_step : (at : SuperPage) (page place : ℕ) (x : SpanRecord) (v u w : View) → 1 ≤ page → page ≤ 126 →
+    place ≡ page_place at.number page → x ≡ unused_span →
+    w ≡ after_record place x u → IsRecordAt w.words (record_word place) x → Rerecorded (at ∷ []) v u →
+    AreBlankBelow u.words at.number page →
     Rerecorded (at ∷ []) v w × AreBlankBelow w.words at.number (page + 1)
 clear_step at page place x v u w first last is none written reads wrote blank =
     let here = page_place at.number page in
-    let written' : w ≡ after_record here unused_span u = written ∙ (ap (λ p. after_record p x u) is ∙ ap (λ y. after_record here y u) none) in
+    let written' : w ≡ after_record here unused_span u = written ∙
+    (ap (λ p. after_record p x u) is ∙ ap (λ y. after_record here y u) none) in
     let reads' : IsRecordAt (after_record here unused_span u).words (record_word here) unused_span =
     subst (λ (z : View). IsRecordAt z.words (record_word here) unused_span) written'
     (subst (λ y. IsRecordAt w.words (record_word here) y) none (subst (λ p. IsRecordAt w.words (record_word p) x) is reads)) in
@@ -68,7 +73,8 @@ clear_step at page place x v u w first last is none written reads wrote blank =
     )
 
 -- a payload page of a super page, by its number
-pub page_of_one : (at : SuperPage) (u : ℕ) → IsPayloadOf (at ∷ []) u → (u ≡ page_place at.number (page_at u)) × (super_page_at u ≡ at.number)
+pub page_of_one : (at : SuperPage) (u : ℕ) → IsPayloadOf (at ∷ []) u → (u ≡ page_place at.number (page_at u)) ×
+    (super_page_at u ≡ at.number)
 page_of_one at u payload =
     let (other, among, is) = payload.super in
     let e : at.number ≡ other.number = ap (λ (z : SuperPage). z.number) (in_one at other among) in
@@ -85,7 +91,8 @@ apart_supers : (u place q : ℕ) → record_word u ≤ q → q < record_word u +
 apart_supers u place q low high from to = omega arith
 
 -- the records of the other super pages stay
-pub others_keep : (v w : View) (supers : List SuperPage) (at : SuperPage) → IsNewNumber at.number supers → Rerecorded (at ∷ []) v w → KeepsRecords supers v w
+pub others_keep : (v w : View) (supers : List SuperPage) (at : SuperPage) → IsNewNumber at.number supers → Rerecorded (at ∷ []) v w →
+    KeepsRecords supers v w
 others_keep v w supers at new wrote = record {
   words = λ u q payload low high. wrote.others q (λ place of_one from to.
       let (other, among, is) = payload.super in
@@ -97,18 +104,28 @@ others_keep v w supers at new wrote = record {
 more_payload : (supers : List SuperPage) (at : SuperPage) (u : ℕ) → IsPayloadOf supers u → IsPayloadOf (supers ++ at ∷ []) u
 more_payload supers at u payload =
     let (other, among, is) = payload.super in
-    record { aligned = payload.aligned; super = (other, in_front supers (at ∷ []) (supers ++ at ∷ []) other refl among, is); page = payload.page }
+    record {
+      aligned = payload.aligned;
+      super = (other, in_front supers (at ∷ []) (supers ++ at ∷ []) other refl among, is);
+      page = payload.page;
+    }
 
-payload_cases : (supers : List SuperPage) (at : SuperPage) (u : ℕ) → IsPayloadOf (supers ++ at ∷ []) u → IsPayloadOf supers u ⊎ IsPayloadOf (at ∷ []) u
+payload_cases : (supers : List SuperPage) (at : SuperPage) (u : ℕ) → IsPayloadOf (supers ++ at ∷ []) u → IsPayloadOf supers u ⊎
+    IsPayloadOf (at ∷ []) u
 payload_cases supers at u payload =
     let (other, among, is) = payload.super in
     elim (Contains-push_cases supers at other among) [
       | inl old ↦ inl (record { aligned = payload.aligned; super = (other, old, is); page = payload.page })
-      | inr e ↦ inr (record { aligned = payload.aligned; super = (other, subst (Contains (at ∷ [])) e (Contains-push [] at), is); page = payload.page })
+      | inr e ↦ inr (record {
+        aligned = payload.aligned;
+        super = (other, subst (Contains (at ∷ [])) e (Contains-push [] at), is);
+        page = payload.page;
+      })
     ]
 
 -- what the records keep then
-pub opened_kept : (v w : View) (l : ShelfParts) (r : Root) (at : SuperPage) → RecordsRoot v l r → at.number < region_supers → IsNewNumber at.number l.supers →
+pub opened_kept : (v w : View) (l : ShelfParts) (r : Root) (at : SuperPage) → RecordsRoot v l r → at.number < region_supers →
+    IsNewNumber at.number l.supers →
     Rerecorded (at ∷ []) v w → HasRawRecords v at.number → AreBlankBelow w.words at.number 127 →
     RecordsRoot w (with_super at l) (opened at.number at.born r)
 opened_kept v w l r at k low new wrote raw blank =
@@ -121,8 +138,10 @@ opened_kept v w l r at k low new wrote raw blank =
       span = (has_kept l.supers v w u keeps h).span;
       recorded = (has_kept l.supers v w u keeps h).recorded;
     } in
-    let none : (u : ℕ) → IsPayloadOf (at ∷ []) u → IsRecordAt w.words (record_word u) unused_span = λ u payload. let last = payload.page.1 in
-    subst (λ p. IsRecordAt w.words (record_word p) unused_span) (sym (page_of_one at u payload).0) (blank (page_at u) payload.page.0 (omega arith)) in
+    let none : (u : ℕ) → IsPayloadOf (at ∷ []) u → IsRecordAt w.words (record_word u) unused_span = λ u payload. let last =
+    payload.page.1 in
+    subst (λ p. IsRecordAt w.words (record_word p) unused_span) (sym (page_of_one at u payload).0)
+    (blank (page_at u) payload.page.0 (omega arith)) in
     let added : (u : ℕ) → IsPayloadOf more u → IsPayloadOf (at ∷ []) u → HasSpanAt w more u = λ u payload of_one. record {
       payload = payload;
       raw = raw_stays (at ∷ []) v w u wrote (raw_of_one v at raw u of_one);
@@ -172,7 +191,8 @@ opened_kept v w l r at k low new wrote raw blank =
     }
 
 -- the root is shown with the super page
-pub opened_shown : (v w : View) (l : ShelfParts) (r : Root) (at : SuperPage) → IsAware v → IsSound r → ShowsRoot v l r → at.number < region_supers →
+pub opened_shown : (v w : View) (l : ShelfParts) (r : Root) (at : SuperPage) → IsAware v → IsSound r → ShowsRoot v l r →
+    at.number < region_supers →
     IsNewNumber at.number l.supers →
     Rerecorded (at ∷ []) v w → HasRawRecords v at.number → AreBlankBelow w.words at.number 127 →
     ShowsRoot w (with_super at l) (opened at.number at.born r)

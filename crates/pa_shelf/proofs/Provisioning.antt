@@ -47,8 +47,8 @@ pub record IsUsedUp (x : SpanRecord) (s : Span) : Type 0 where
   pub none : s.free ≡ []
   pub more : s.provisioned + 1 ≤ more_slots s
 
-pub used_up : (v : View) (l : ShelfParts) (x : SpanRecord) (t : Title) (r : Root) (s : Span) → HasSlotOf v l x t r s → x.provisioned ≤ x.allocated →
-    IsUsedUp x s
+pub used_up : (v : View) (l : ShelfParts) (x : SpanRecord) (t : Title) (r : Root) (s : Span) → HasSlotOf v l x t r s →
+    x.provisioned ≤ x.allocated → IsUsedUp x s
 used_up v l x t r s b all =
     let e = record_is v l r s t.start x b.at.shown.kept b.at.among b.at.here b.read in
     let a : x.allocated ≡ s.allocated = ap (λ (y : SpanRecord). y.allocated) e in
@@ -73,7 +73,8 @@ pub more_is : (x : SpanRecord) (s : Span) → alone x ≡ record_with s 0 0 → 
 more_is x s e = ap slots_more e
 
 -- the record with them
-head_is : (s : Span) (count : ℕ) → 1 ≤ count → front_start (provisioned_more s) (numbers s.provisioned count) ≡ s.place + slot_of s.class * s.provisioned
+head_is : (s : Span) (count : ℕ) → 1 ≤ count →
+    front_start (provisioned_more s) (numbers s.provisioned count) ≡ s.place + slot_of s.class * s.provisioned
 head_is s zero some = absurd (omega arith)
 head_is s (suc count) some = refl
 
@@ -98,13 +99,15 @@ same_start a b p q e = omega arith
 
 pub never_listed : (v : View) (l : ShelfParts) (r : Root) (s z : Span) (n m : ℕ) → IsAware v → ShowsRoot v l r →
     s.class < 170 → z.class < 170 → Contains r.spans s → Contains r.spans z →
-    0 < free_of v (title_at s n) → 0 < free_of v (title_at z m) → (title_at s n).start / 8 ≡ (title_at z m).start / 8 → title_at s n ≡ title_at z m
+    0 < free_of v (title_at s n) → 0 < free_of v (title_at z m) → (title_at s n).start / 8 ≡ (title_at z m).start / 8 →
+    title_at s n ≡ title_at z m
 never_listed v l r s z n m aware shown real real' among member free free' e =
     let a = start_whole v l r s n shown among real in
     let b = start_whole v l r z m shown member real' in
     let same = same_start (title_at s n).start (title_at z m).start a b e in
     let some = size_some s.class real in let some' = size_some z.class real' in
-    aware.apart (title_at s n) (title_at z m) (title_at s n).start (omega arith) (omega arith) (omega arith, omega arith) (omega arith, omega arith)
+    aware.apart (title_at s n) (title_at z m) (title_at s n).start (omega arith) (omega arith) (omega arith, omega arith)
+    (omega arith, omega arith)
 
 -- what stays when they are pushed
 pub record IsPushed (v w : View) (l : ShelfParts) (s : Span) (from count : ℕ) : Type 0 where
@@ -115,13 +118,15 @@ pub record IsPushed (v w : View) (l : ShelfParts) (s : Span) (from count : ℕ) 
   pub held : (n : ℕ) → from ≤ n → n < from + count → 0 < free_of v (title_at s n)
   pub beside : SameBeside (map (title_at s) (numbers from count)) v.words w.words
 
-pushed_in : (s : Span) (from count : ℕ) (t : Title) → Contains (map (title_at s) (numbers from count)) t → (n : ℕ) × (from ≤ n) × (n < from + count) × (title_at s n ≡ t)
+pushed_in : (s : Span) (from count : ℕ) (t : Title) → Contains (map (title_at s) (numbers from count)) t → (n : ℕ) × (from ≤ n) ×
+    (n < from + count) × (title_at s n ≡ t)
 pushed_in s from count t inside =
     let (n, among, is) = map_cases (title_at s) (numbers from count) t inside in
     let (low, high) = numbers_in from count n among in
     (n, low, high, is)
 
-pub push_keeps : (v w : View) (l : ShelfParts) (r : Root) (s : Span) (from count : ℕ) → ShowsRoot v l r → s.class < 170 → IsPushed v w l s from count →
+pub push_keeps : (v w : View) (l : ShelfParts) (r : Root) (s : Span) (from count : ℕ) → ShowsRoot v l r → s.class < 170 →
+    IsPushed v w l s from count →
     KeepsRecords l.supers v w
 push_keeps v w l r s from count shown real p = record {
   words = λ u q payload low high. p.beside q (λ t inside same.
@@ -134,8 +139,10 @@ push_keeps v w l r s from count shown real p = record {
 }
 
 pub push_chains : (v w : View) (l : ShelfParts) (r : Root) (s : Span) (from count : ℕ) → ShowsRoot v l r → Contains r.spans s →
-    ((z : Span) → Contains r.spans z → z.class < 170) → ((z : Span) → Contains r.spans z → (m : ℕ) → Contains z.free m → m < z.provisioned) →
-    ((z : Span) → Contains r.spans z → (n m : ℕ) → n < slots_of s.class → Contains z.free m → title_at s n ≡ title_at z m → (s ≡ z) × (n ≡ m)) →
+    ((z : Span) → Contains r.spans z → z.class < 170) →
+    ((z : Span) → Contains r.spans z → (m : ℕ) → Contains z.free m → m < z.provisioned) →
+    ((z : Span) → Contains r.spans z → (n m : ℕ) → n < slots_of s.class → Contains z.free m → title_at s n ≡ title_at z m → (s ≡ z) ×
+    (n ≡ m)) →
     IsPushed v w l s from count → KeepsChains v w r.spans
 push_chains v w l r s from count shown among real listed one p z member y inside =
     let (m, numbered, is) = map_cases (title_at z) z.free y inside in
@@ -148,7 +155,8 @@ push_chains v w l r s from count shown among real listed one p z member y inside
           let (n, least, most, t_is) = pushed_in s from count t pushed in
           let starts : (title_at s n).start / 8 ≡ (title_at z m).start / 8 =
           ap (λ (u : Title). u.start / 8) t_is ∙ (e ∙ sym (ap (λ (u : Title). u.start / 8) is)) in
-          let both = never_listed v l r s z n m p.aware shown (real s among) (real z member) among member (p.held n least most) free_at starts in
+          let both = never_listed v l r s z n m p.aware shown (real s among) (real z member) among member
+          (p.held n least most) free_at starts in
           let high = p.high in let low = p.low in
           let (span, number) = one z member n m (omega arith) numbered both in
           let below = listed z member m numbered in
@@ -157,7 +165,8 @@ push_chains v w l r s from count shown among real listed one p z member y inside
     )
 
 -- after more slots were provisioned the root is shown, and a slot can be taken
-pub ready_more : (v w : View) (l : ShelfParts) (x y : SpanRecord) (t : Title) (r : Root) (s : Span) → IsTakeOf v l x t r s → x.provisioned ≤ x.allocated →
+pub ready_more : (v w : View) (l : ShelfParts) (x y : SpanRecord) (t : Title) (r : Root) (s : Span) → IsTakeOf v l x t r s →
+    x.provisioned ≤ x.allocated →
     IsAware v → y ≡ with_more t.start x → Relinked v w →
     SameBeside (slots_beside t x.provisioned (y.provisioned - x.provisioned)) v.words w.words →
     IsChain w (record {
@@ -189,18 +198,22 @@ ready_more v w l x y t r s b all aware y_is relinked beside chain =
     let chains = push_chains v w l r s s.provisioned count shown take.among real (λ z member. (take.sound.spans z member).counted.numbers)
     (λ z member n m below numbered same.
     let d = (take.sound.spans z member).counted in let made = d.made in let fits = d.most in let low = d.numbers m numbered in
-    let one = one_slot r s z n m take.sound take.among member below (omega arith) (ap (λ (q : Title). q.born) same) (ap (λ (q : Title). q.start) same) in
+    let one = one_slot r s z n m take.sound take.among member below (omega arith) (ap (λ (q : Title). q.born) same)
+    (ap (λ (q : Title). q.start) same) in
     (one.span, one.number)) p in
     let had : HasSpanAt v l.supers t.start = subst (HasSpanAt v l.supers) take.here (k.stored.had s take.among) in
     let kept : spans_in w.words t.start ≡ x = spans_kept l.supers v w t.start keeps had ∙ sym b.slot.read in
     let len_is : y.provisioned - x.provisioned ≡ length (numbers s.provisioned count) =
     ap (λ (z : SpanRecord). z.provisioned - x.provisioned) y_is
-    ∙ (ap (λ n. n - x.provisioned) (more_is x s u.is) ∙ (ap (λ n. more_slots s - n) u.provisioned ∙ sym (numbers_length s.provisioned count))) in
+    ∙ (ap (λ n. n - x.provisioned) (more_is x s u.is) ∙
+    (ap (λ n. more_slots s - n) u.provisioned ∙ sym (numbers_length s.provisioned count))) in
     let own : IsChain w (chain_of pm) (titles_free pm) =
     subst (λ (d : ChainParts). IsChain w d (titles_free pm))
-    (parts_alike (record { slot_len = t.len; head = front_of (slot_names (titles_free pm)); len = y.provisioned - x.provisioned }) (chain_of pm)
+    (parts_alike (record { slot_len = t.len; head = front_of (slot_names (titles_free pm)); len = y.provisioned - x.provisioned })
+    (chain_of pm)
     (ap (λ (z : Title). z.len) b.slot.first) refl len_is)
-    (subst (λ ts. IsChain w (record { slot_len = t.len; head = front_of (slot_names ts); len = y.provisioned - x.provisioned }) ts) pushed chain) in
+    (subst (λ ts. IsChain w (record { slot_len = t.len; head = front_of (slot_names ts); len = y.provisioned - x.provisioned }) ts) pushed
+    chain) in
     record {
       sound = take.sound;
       shown = shown_stays v w l r keeps chains shown;
@@ -229,7 +242,8 @@ span_inside v l x t r s b small =
     let here = b.at.here in let first = place.first in let last = place.last in let at = place.place in
     omega arith
 
-pub room_for : (v : View) (l : ShelfParts) (x : SpanRecord) (t : Title) (r : Root) (s : Span) → HasSlotOf v l x t r s → x.provisioned ≤ x.allocated →
+pub room_for : (v : View) (l : ShelfParts) (x : SpanRecord) (t : Title) (r : Root) (s : Span) → HasSlotOf v l x t r s →
+    x.provisioned ≤ x.allocated →
     t.start < 2097152 * 2048 → HasRoomFor x t
 room_for v l x t r s b all small =
     let u = used_up v l x t r s b all in
@@ -251,7 +265,8 @@ room_for v l x t r s b all small =
 -- the first slot of the span
 pub first_is : (v : View) (l : ShelfParts) (at : ℕ) (r : Root) (s : Span) (x : SpanRecord) (t : Title) (number : ℕ) → HasSlotAt v l at r s →
     x ≡ spans_in v.words at → t.start ≡ at → t.len ≡ slot_of x.class → number ≡ super_page_at at →
-    ((a : SuperPage) → AllPairs (λ (b c : SuperPage). b.number ≢ c.number) l.supers → Contains l.supers a → a.number ≡ number → t.born ≡ a.born) →
+    ((a : SuperPage) → AllPairs (λ (b c : SuperPage). b.number ≢ c.number) l.supers → Contains l.supers a → a.number ≡ number →
+    t.born ≡ a.born) →
     t ≡ first_title s
 first_is v l at r s x t number b read start len number_is born =
     let k = b.shown.kept in
@@ -264,15 +279,18 @@ first_is v l at r s x t number b read start len number_is born =
     title_is t (first_title s) (start ∙ sym here) (len ∙ ap slot_of class)
     (born a k.apart (subst (λ zs. Contains zs a) k.supers p.among) same ∙ sym p.born)
   where
-    in_super : (number page pages at n : ℕ) → at ≡ 2097152 * number + 16384 * page → page + pages ≤ 127 → 1 ≤ pages → n ≡ at / 2097152 → number ≡ n
+    in_super : (number page pages at n : ℕ) → at ≡ 2097152 * number + 16384 * page → page + pages ≤ 127 → 1 ≤ pages → n ≡ at / 2097152 →
+        number ≡ n
     in_super number page pages at n is last some n_is = omega arith
 
 pub take_had : (v : View) (l : ShelfParts) (at : ℕ) (r : Root) (s : Span) → HasSlotAt v l at r s → HasSpanAt v l.supers at
 take_had v l at r s b = subst (HasSpanAt v l.supers) b.here (b.shown.kept.stored.had s b.among)
 
 -- the record that was read is that of the span, with its first slot
-pub slot_is : (y z : Share) (l : ShelfParts) (at : ℕ) (r : Root) (s : Span) (x : SpanRecord) (t : Title) → HasSlotAt z.view l at r s → y ≡ z →
-    ((a : SpanRecord) → IsRecordAt z.view.words (record_word at) a → x ≡ a) → (x ≡ spans_in z.view.words at → t ≡ first_title s) → HasSlotOf y.view l x t r s
+pub slot_is : (y z : Share) (l : ShelfParts) (at : ℕ) (r : Root) (s : Span) (x : SpanRecord) (t : Title) → HasSlotAt z.view l at r s →
+    y ≡ z →
+    ((a : SpanRecord) → IsRecordAt z.view.words (record_word at) a → x ≡ a) → (x ≡ spans_in z.view.words at → t ≡ first_title s) →
+    HasSlotOf y.view l x t r s
 slot_is y z l at r s x t b seat read first_if =
     let x_is = read_is z.view l.supers at x (take_had z.view l at r s b) read in
     let first = first_if x_is in
@@ -283,7 +301,8 @@ slot_is y z l at r s x t b seat read first_if =
       first = first;
     })
 
-pub take_is : (y z : Share) (l : ShelfParts) (x : SpanRecord) (t : Title) (r : Root) (s : Span) → y ≡ z → HoldsMore z.view s → HasSlotOf y.view l x t r s →
+pub take_is : (y z : Share) (l : ShelfParts) (x : SpanRecord) (t : Title) (r : Root) (s : Span) → y ≡ z → HoldsMore z.view s →
+    HasSlotOf y.view l x t r s →
     IsTakeOf y.view l x t r s
 take_is y z l x t r s seat held slot = record { slot = slot; held = subst (λ (q : Share). HoldsMore q.view s) (sym seat) held }
 
@@ -311,13 +330,15 @@ can_push v l x y t r s from count b all y_is small from_is end_is =
     ap (λ n. n * slots_of s.class) size ∙ sym (ap (λ k. slot_of k * slots_of k) class) in
     let inside = room.inside in
     record {
-      able = λ n low high. subst (λ (z : Title). 0 < free_of v (slot_beside z n)) (sym b.slot.first) (b.held u.none n (omega arith) (omega arith));
+      able = λ n low high. subst (λ (z : Title). 0 < free_of v (slot_beside z n)) (sym b.slot.first)
+          (b.held u.none n (omega arith) (omega arith));
       some = omega arith;
       inside = omega arith;
     }
 
 -- this many more than before
-pub more_left : (v : View) (l : ShelfParts) (x y : SpanRecord) (t : Title) (r : Root) (s : Span) → IsTakeOf v l x t r s → x.provisioned ≤ x.allocated →
+pub more_left : (v : View) (l : ShelfParts) (x y : SpanRecord) (t : Title) (r : Root) (s : Span) → IsTakeOf v l x t r s →
+    x.provisioned ≤ x.allocated →
     y ≡ with_more t.start x → x.provisioned ≤ y.provisioned
 more_left v l x y t r s b all y_is =
     let u = used_up v l x t r s b.slot all in
@@ -325,12 +346,16 @@ more_left v l x y t r s b all y_is =
     let e = u.provisioned in let more = u.more in
     omega arith
 
-pub ready_pushed : (v w : View) (l : ShelfParts) (x y : SpanRecord) (t : Title) (r : Root) (s : Span) (from count : ℕ) → IsTakeOf v l x t r s →
-    x.provisioned ≤ x.allocated → IsAware v → y ≡ with_more t.start x → Relinked v w → SameBeside (slots_beside t from count) v.words w.words →
-    IsChain w (record { slot_len = t.len; head = front_of (slot_names (slots_beside t from count)); len = count }) (slots_beside t from count) →
+pub ready_pushed : (v w : View) (l : ShelfParts) (x y : SpanRecord) (t : Title) (r : Root) (s : Span) (from count : ℕ) →
+    IsTakeOf v l x t r s →
+    x.provisioned ≤ x.allocated → IsAware v → y ≡ with_more t.start x → Relinked v w →
+    SameBeside (slots_beside t from count) v.words w.words →
+    IsChain w (record { slot_len = t.len; head = front_of (slot_names (slots_beside t from count)); len = count })
+    (slots_beside t from count) →
     from ≡ x.provisioned → count ≡ y.provisioned - x.provisioned → IsReadyAt w l y t r s
 ready_pushed v w l x y t r s from count b all aware y_is relinked beside chain from_is count_is =
     let P : ℕ → ℕ → Type 0 = λ n m. SameBeside (slots_beside t n m) v.words w.words
     × IsChain w (record { slot_len = t.len; head = front_of (slot_names (slots_beside t n m)); len = m }) (slots_beside t n m) in
-    let both : P x.provisioned (y.provisioned - x.provisioned) = subst (P x.provisioned) count_is (subst (λ n. P n count) from_is (beside, chain)) in
+    let both : P x.provisioned (y.provisioned - x.provisioned) =
+    subst (P x.provisioned) count_is (subst (λ n. P n count) from_is (beside, chain)) in
     ready_more v w l x y t r s b all aware y_is relinked both.0 both.1

@@ -33,7 +33,8 @@ one_before : (from count done : ℕ) → done < count →
 one_before from count done less = (omega arith, omega arith)
 
 pub beside_more : (first : Title) (from count done : ℕ) → done < count →
-    slots_beside first (from + count - (done + 1)) (done + 1) ≡ slot_beside first (from + (count - 1 - done)) ∷ slots_beside first (from + count - done) done
+    slots_beside first (from + count - (done + 1)) (done + 1) ≡ slot_beside first (from + (count - 1 - done)) ∷ slots_beside first
+    (from + count - done) done
 beside_more first from count done less =
     let n = from + count - (done + 1) in
     let (at, next) = one_before from count done less in
@@ -42,7 +43,8 @@ beside_more first from count done less =
     ∙ ap (λ k. slot_beside first (from + (count - 1 - done)) ∷ slots_beside first k done) next)
 
 -- the one before them isn't among them
-pub not_beside : (first : Title) (n from count : ℕ) → 0 < first.len → n < from → Contains (slots_beside first from count) (slot_beside first n) → ⊥
+pub not_beside : (first : Title) (n from count : ℕ) → 0 < first.len → n < from →
+    Contains (slots_beside first from count) (slot_beside first n) → ⊥
 not_beside first n from count some below inside =
     let (k, among, is) = map_cases (slot_beside first) (numbers from count) (slot_beside first n) inside in
     let low = (numbers_in from count k among).0 in
@@ -51,8 +53,10 @@ not_beside first n from count some below inside =
     omega arith
 
 -- one more is pushed
-pub pushed_one : (v w x : View) (first t : Title) (from count done : ℕ) (c d : ChainParts) (link : ℕ) → done < count → ArePushed v w first from count done c →
-    0 < free_of w t → x ≡ after_link t link w → t ≡ slot_beside first (from + (count - 1 - done)) → d.slot_len ≡ c.slot_len → d.len ≡ c.len + 1 →
+pub pushed_one : (v w x : View) (first t : Title) (from count done : ℕ) (c d : ChainParts) (link : ℕ) → done < count →
+    ArePushed v w first from count done c →
+    0 < free_of w t → x ≡ after_link t link w → t ≡ slot_beside first (from + (count - 1 - done)) → d.slot_len ≡ c.slot_len →
+    d.len ≡ c.len + 1 →
     IsChain x d (t ∷ slots_beside first (from + count - done) done) → ArePushed v x first from count (done + 1) d
 pushed_one v w x first t from count done c d link less p free x_is t_is size many chain =
     let ts = slots_beside first (from + count - done) done in
@@ -74,7 +78,8 @@ pushed_one v w x first t from count done c d link less p free x_is t_is size man
     only t u ts inside = subst (Contains (t ∷ ts)) (in_one t u inside) (first_in t ts)
 
 -- what came off a list
-pub first_off : (o : Option Title) (t : Title) (ts rest : List Title) → (IsNone o → ⊥) → t ∷ ts ≡ option_to_list o ++ rest → (o ≡ Some t) × (ts ≡ rest)
+pub first_off : (o : Option Title) (t : Title) (ts rest : List Title) → (IsNone o → ⊥) → t ∷ ts ≡ option_to_list o ++ rest → (o ≡ Some t) ×
+    (ts ≡ rest)
 first_off None t ts rest some e = absurd (some refl)
 first_off (Some u) t ts rest some e = (
   ap Some (ap (λ (us : List Title). elim us as (λ p. Title) [ [] ↦ u | x ∷ xs ↦ x ]) (sym e)),
@@ -102,12 +107,14 @@ none_pushed v first from count c is = record {
 
 -- all are pushed
 pub all_pushed : (v w : View) (first : Title) (from count : ℕ) (c : ChainParts) → ArePushed v w first from count count c →
-    IsChain w (record { slot_len = first.len; head = front_of (slot_names (slots_beside first from count)); len = count }) (slots_beside first from count)
+    IsChain w (record { slot_len = first.len; head = front_of (slot_names (slots_beside first from count)); len = count })
+    (slots_beside first from count)
     × SameBeside (slots_beside first from count) v.words w.words
 all_pushed v w first from count c p =
     let at : from + count - count ≡ from = omega arith in
     let chain : IsChain w c (slots_beside first from count) = subst (λ n. IsChain w c (slots_beside first n count)) at p.chain in (
       subst (λ (d : ChainParts). IsChain w d (slots_beside first from count))
-          (parts_alike c (record { slot_len = first.len; head = front_of (slot_names (slots_beside first from count)); len = count }) p.size chain.head p.many) chain,
+          (parts_alike c (record { slot_len = first.len; head = front_of (slot_names (slots_beside first from count)); len = count }) p.size
+          chain.head p.many) chain,
       subst (λ n. SameBeside (slots_beside first n count) v.words w.words) at p.beside,
     )

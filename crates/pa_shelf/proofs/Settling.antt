@@ -58,7 +58,8 @@ equally_long xs ys once too to from =
     length_is xs n once below
     ∙ (passing_same (λ k. has k xs) (λ k. has k ys) n same ∙ sym (length_is ys n too (λ k among. below k (from k among))))
 
-ring_counts : (l : SpanListParts) (spans : ℕ → SpanRecord) (had : ℕ → Type 0) (ss : List Span) → Stand l spans had → AreStored spans had ss →
+ring_counts : (l : SpanListParts) (spans : ℕ → SpanRecord) (had : ℕ → Type 0) (ss : List Span) → Stand l spans had →
+    AreStored spans had ss →
     length l.ring ≡ count_by (is_in state.Empty) ss
 ring_counts l spans had ss stand st =
     let test = is_in state.Empty in
@@ -88,7 +89,8 @@ pub empties_are : (v : View) (l : ShelfParts) (r : Root) → RecordsRoot v l r �
 empties_are v l r k = ring_counts l.lists (spans_in v.words) (HasSpanAt v l.supers) r.spans k.stand k.stored
 
 -- 17 are empty, or fewer
-pub settle_some : (v : View) (l : ShelfParts) (r : Root) (at : ℕ) → RecordsRoot v l r → oldest_of l.lists.ring ≡ Some at → settled r ≡ oldest_decommitted r
+pub settle_some : (v : View) (l : ShelfParts) (r : Root) (at : ℕ) → RecordsRoot v l r → oldest_of l.lists.ring ≡ Some at →
+    settled r ≡ oldest_decommitted r
 settle_some v l r at k is = elim (eqb_tells (length l.lists.ring) 17) [
   | inl w ↦
       let many = empties_are v l r k in let e = w.1 in

@@ -22,7 +22,8 @@ use Rattle.pa_link.proofs.Chains.{stay}
 use Rattle.pa_shelf.specs.Shelves.{ShelfParts, KeepsRecords, RecordsRoot, ShownStays, chain_of}
 use Rattle.pa_shelf.proofs.Chained.{apart}
 
-four : (supers : List SuperPage) (v w : View) (u : ℕ) → KeepsRecords supers v w → IsPayloadOf supers u → FourKept v.words w.words (record_word u)
+four : (supers : List SuperPage) (v w : View) (u : ℕ) → KeepsRecords supers v w → IsPayloadOf supers u →
+    FourKept v.words w.words (record_word u)
 four supers v w u keeps payload = let q = record_word u in record {
   first = keeps.words u q payload (omega arith) (omega arith);
   second = keeps.words u (q + 1) payload (omega arith) (omega arith);
@@ -38,9 +39,11 @@ has_kept supers v w u keeps h = record {
   recorded = same_record v.words w.words (record_word u) h.span (four supers v w u keeps h.payload) h.recorded;
 }
 
-pub spans_kept : (supers : List SuperPage) (v w : View) (u : ℕ) → KeepsRecords supers v w → HasSpanAt v supers u → spans_in w.words u ≡ spans_in v.words u
+pub spans_kept : (supers : List SuperPage) (v w : View) (u : ℕ) → KeepsRecords supers v w → HasSpanAt v supers u →
+    spans_in w.words u ≡ spans_in v.words u
 spans_kept supers v w u keeps h =
-    span_is w.words u h.span h.payload.aligned (same_record v.words w.words (record_word u) h.span (four supers v w u keeps h.payload) h.recorded)
+    span_is w.words u h.span h.payload.aligned
+    (same_record v.words w.words (record_word u) h.span (four supers v w u keeps h.payload) h.recorded)
     ∙ sym (span_is v.words u h.span h.payload.aligned h.recorded)
 
 pub records_stay : (v w : View) (l : ShelfParts) (r : Root) → KeepsRecords l.supers v w → RecordsRoot v l r → RecordsRoot w l r
@@ -83,7 +86,8 @@ shown_stays v w l r keeps chains shown = record {
 }
 
 -- a link that is stored in a free title leaves the records
-pub link_keeps : (v : View) (l : ShelfParts) (r : Root) (t : Title) (link : ℕ) → IsAware v → 0 < free_of v t → 0 < t.len → RecordsRoot v l r →
+pub link_keeps : (v : View) (l : ShelfParts) (r : Root) (t : Title) (link : ℕ) → IsAware v → 0 < free_of v t → 0 < t.len →
+    RecordsRoot v l r →
     KeepsRecords l.supers v (after_link t link v)
 link_keeps v l r t link aware free some k = record {
   words = λ u q payload low high.

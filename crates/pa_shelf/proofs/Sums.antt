@@ -66,7 +66,8 @@ pub record ArePlaced {S : Type 0} (place : S → ℕ) (g : S → ℕ) (h : ℕ �
   pub each : (p : ℕ) → Contains ps p → (h p ≡ 0) ⊎ ((s : S) × Contains ss s × (place s ≡ p))
 
 -- sums over members and over their places are equal
-pub sums_placed : {S : Type 0} (place : S → ℕ) (g : S → ℕ) (h : ℕ → ℕ) (ps : List ℕ) (ss : List S) → ArePlaced place g h ps ss → sum_by h ps ≡ sum_by g ss
+pub sums_placed : {S : Type 0} (place : S → ℕ) (g : S → ℕ) (h : ℕ → ℕ) (ps : List ℕ) (ss : List S) → ArePlaced place g h ps ss →
+    sum_by h ps ≡ sum_by g ss
 sums_placed place g h ps [] are = sum_none h ps (λ p among. elim (are.each p among) [
   | inl none ↦ none
   | inr some ↦ let (s, inside, is) = some in absurd (not_in_none s inside)

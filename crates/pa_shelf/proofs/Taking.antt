@@ -53,7 +53,8 @@ pub front : (v : View) (l : ShelfParts) (x : SpanRecord) (t : Title) (r : Root) 
 front v l x t r s b = with_free_front s (b.sound.spans s b.among).counted b.less
 
 -- if a list isn't empty, nothing has to be provisioned
-pub ready_listed : (v : View) (l : ShelfParts) (x : SpanRecord) (t : Title) (r : Root) (s : Span) → IsTakeOf v l x t r s → x.allocated < x.provisioned →
+pub ready_listed : (v : View) (l : ShelfParts) (x : SpanRecord) (t : Title) (r : Root) (s : Span) → IsTakeOf v l x t r s →
+    x.allocated < x.provisioned →
     IsReadyAt v l x t r s
 ready_listed v l x t r s b some =
     let k = b.slot.at.shown.kept in
@@ -156,7 +157,8 @@ front_listed x y z h st f = subst (StaysListed z) (sym f)
     (record { class = st.class; state = st.state; turn = st.turn; previous = st.previous; next = st.next })
 
 -- what is shown when the front was taken
-pub take_shown : (v w : View) (l after : ShelfParts) (x y : SpanRecord) (t : Title) (r : Root) (s : Span) (n h : ℕ) (rest : List ℕ) (to : State) →
+pub take_shown : (v w : View) (l after : ShelfParts) (x y : SpanRecord) (t : Title) (r : Root) (s : Span) (n h : ℕ) (rest : List ℕ)
+    (to : State) →
     IsReadyAt v l x t r s → IsAware v → Rerecorded l.supers v w → (with_free s).free ≡ n ∷ rest → y ≡ without_front_of h x →
     h ≡ name_start (front_of (slot_names (map (title_at (with_free s)) rest))) → to ≡ state_out y.class y.allocated →
     ((a b : Span) → RecordsRoot v l r → Contains r.spans a → IsRecordFor t.start y a b → RecordsRoot w after (entered to b r)) →
@@ -168,15 +170,18 @@ take_shown v w l after x y t r s n h rest to b aware wrote e y_is h_is to_is mov
     let some : 0 < slot_of u.class = size_some f.class (front v l x t r s b).counted.class in
     let is : alone y ≡ record_with u 0 0 = ap alone y_is ∙ (ap (without_front_of h) b.is
     ∙ ap (λ (m : ℕ). without_front_of m (record_with f 0 0)) (h_is ∙ name_front f rest rest)) in
-    let is_for : IsRecordFor t.start y s u = record { here = sym (ap (λ (z : Title). z.start) b.first); place = like.place; born = like.born; is = is } in
+    let is_for : IsRecordFor t.start y s u =
+    record { here = sym (ap (λ (z : Title). z.start) b.first); place = like.place; born = like.born; is = is } in
     let to_out : to ≡ state_in_use u = to_is ∙ ap (λ (z : SpanRecord). state_out z.class z.allocated) is in
     let raw : (p : ℕ) → IsPayloadOf l.supers p → HasRawRecord v p = λ p payload. (k.pages p payload).raw in
     let others : (z : Span) → Contains r.spans z → IsChain w (chain_of z) (titles_free z) = λ z member.
-    chain_stays v w l.supers (chain_of z) (titles_free z) aware wrote raw (size_some z.class (b.sound.spans z member).counted.class) (b.shown.chains z member) in
+    chain_stays v w l.supers (chain_of z) (titles_free z) aware wrote raw (size_some z.class (b.sound.spans z member).counted.class)
+    (b.shown.chains z member) in
     let own : IsChain w (chain_of u) (titles_free u) =
     chain_stays v w l.supers (chain_of u) (titles_free u) aware wrote raw some (tail_chain v f n rest e b.chain) in
     let shown : ShowsRoot w after (entered to u r) = record {
       kept = moved s u k b.among is_for;
       chains = chains_changed w r.spans (in_state to r.turn u) b.sound.places others (entered_chain w to r.turn u own);
     } in
-    subst (λ (xs : List ℕ). ShowsRoot w after (front_taken xs f r).root) (sym e) (subst (λ (a : State). ShowsRoot w after (entered a u r)) to_out shown)
+    subst (λ (xs : List ℕ). ShowsRoot w after (front_taken xs f r).root) (sym e)
+    (subst (λ (a : State). ShowsRoot w after (entered a u r)) to_out shown)

@@ -21,11 +21,13 @@ use Rattle.pa_shelf.specs.Shelves.{ShelfParts, RecordsRoot}
 use Rattle.pa_shelf.specs.Taking.{start_of, first_some}
 use Rattle.pa_shelf.proofs.Oldest.{state_at, turn_at}
 
-class_at : (spans : ℕ → SpanRecord) (has : ℕ → Type 0) (ss : List Span) (s : Span) → AreStored spans has ss → Contains ss s → (spans s.place).class ≡ s.class
+class_at : (spans : ℕ → SpanRecord) (has : ℕ → Type 0) (ss : List Span) (s : Span) → AreStored spans has ss → Contains ss s →
+    (spans s.place).class ≡ s.class
 class_at spans has ss s st among = ap (λ (x : SpanRecord). x.class) (st.numbers s among)
 
 -- a span of the class in the state is a member, and a member is one
-is_member : (spans : ℕ → SpanRecord) (has : ℕ → Type 0) (ss : List Span) (s : Span) (class : ℕ) (a : State) → AreStored spans has ss → Contains ss s →
+is_member : (spans : ℕ → SpanRecord) (has : ℕ → Type 0) (ss : List Span) (s : Span) (class : ℕ) (a : State) → AreStored spans has ss →
+    Contains ss s →
     is_of class a s ≡ true → IsMember spans has class a s.place
 is_member spans has ss s class a st among is =
     let (p, q) = and_parts _ _ is in
@@ -39,14 +41,16 @@ list_used : (a : State) → HasList a → a ≡ state.None → ⊥
 list_used a has none = subst HasList none has
 
 -- none is the head: no span passes
-none_passes : (spans : ℕ → SpanRecord) (has : ℕ → Type 0) (ss : List Span) (class : ℕ) (a : State) (o : Option Span) → AreStored spans has ss →
+none_passes : (spans : ℕ → SpanRecord) (has : ℕ → Type 0) (ss : List Span) (class : ℕ) (a : State) (o : Option Span) →
+    AreStored spans has ss →
     ((u : ℕ) → IsMember spans has class a u → ⊥) → latest (is_of class a) ss ≡ o → o ≡ None
 none_passes spans has ss class a None st none e = refl
 none_passes spans has ss class a (Some s) st none e =
     let k = latest_is (is_of class a) ss s e in
     absurd (none s.place (is_member spans has ss s class a st k.among k.passes))
 
-by_head : (spans : ℕ → SpanRecord) (has : ℕ → Type 0) (r : Root) (class h : ℕ) (a : State) → HasList a → IsSound r → AreStored spans has r.spans →
+by_head : (spans : ℕ → SpanRecord) (has : ℕ → Type 0) (r : Root) (class h : ℕ) (a : State) → HasList a → IsSound r →
+    AreStored spans has r.spans →
     (has 0 → ⊥) → IsHead (IsMember spans has class a) (λ u. (spans u).turn) h →
     (if h == 0 then None else Some h) ≡ start_of (latest (is_of class a) r.spans)
 by_head spans has r class h a list sound st some (inl (zero, none)) =

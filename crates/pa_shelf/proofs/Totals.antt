@@ -27,7 +27,8 @@ use Rattle.pa_shelf.proofs.Counting.{used_or_none}
 use Rattle.pa_shelf.proofs.Sums.{sum_none, numbers_parts}
 
 -- totals that come after others, and equal ones
-pub added_on : (t u w : (SpanRecord → ℕ) → ℕ) (a b c : Sums) → AreAdded t a b → AreAdded u b c → ((f : SpanRecord → ℕ) → w f ≡ t f + u f) → AreAdded w a c
+pub added_on : (t u w : (SpanRecord → ℕ) → ℕ) (a b c : Sums) → AreAdded t a b → AreAdded u b c → ((f : SpanRecord → ℕ) → w f ≡ t f + u f) →
+    AreAdded w a c
 added_on t u w a b c first second sum = record {
   slots = let d = first.slots in let e = second.slots in let s = sum kept_in in omega arith;
   bytes = let d = first.bytes in let e = second.bytes in let s = sum slot_bytes_in in omega arith;
@@ -74,7 +75,8 @@ sums_more n m a less are = record {
 
 -- the sum over the pages up to the next one that is looked at
 pages_more : (f : SpanRecord → ℕ) (words : List ℕ) (number page n : ℕ) → 1 ≤ page →
-    sum_of_pages f words number (page + n - 1) ≡ sum_of_pages f words number (page - 1) + sum_by (sum_of_page f words number) (numbers page n)
+    sum_of_pages f words number (page + n - 1) ≡ sum_of_pages f words number (page - 1) + sum_by (sum_of_page f words number)
+    (numbers page n)
 pages_more f words number page n some =
     let g = sum_of_page f words number in
     let before : page + n - 1 ≡ (page - 1) + n = omega arith in
@@ -106,7 +108,8 @@ pub past_span : (v : View) (number page : ℕ) (a b c : Sums) → HasPagesOf v n
 past_span v number page a b c had some last used long first second =
     let x = spans_in v.words (page_place number page) in
     let n = pages_of x.class in
-    added_on (λ f. sum_of_pages f v.words number (page - 1)) (λ f. f x) (λ f. sum_of_pages f v.words number (page + n - 1)) a b c first second (λ f.
+    added_on (λ f. sum_of_pages f v.words number (page - 1)) (λ f. f x)
+    (λ f. sum_of_pages f v.words number (page + n - 1)) a b c first second (λ f.
     let g = sum_of_page f v.words number in
     let here : g page ≡ f x = elim (used_or_none f x) [
       | inl is ↦ is.1
@@ -135,27 +138,35 @@ one_low a x = elim (cases_Bool (same_state x.state a)) [
 ]
 
 -- what a page's record is read as
-pub record_at : (v w : View) (number page place : ℕ) → HasPagesOf v number → w ≡ v → place ≡ page_place number page → 1 ≤ page → page ≤ 126 →
+pub record_at : (v w : View) (number page place : ℕ) → HasPagesOf v number → w ≡ v → place ≡ page_place number page → 1 ≤ page →
+    page ≤ 126 →
     (x : SpanRecord) × IsRecordAt w.words (record_word place) x
 record_at v w number page place had same is first last =
-    let (x, recorded) = had.readable page first last in
-    (x, subst (λ (z : View). IsRecordAt z.words (record_word place) x) (sym same) (subst (λ p. IsRecordAt v.words (record_word p) x) (sym is) recorded))
+    let (x, recorded) = had.readable page first last in (
+      x,
+      subst (λ (z : View). IsRecordAt z.words (record_word place) x) (sym same)
+          (subst (λ p. IsRecordAt v.words (record_word p) x) (sym is) recorded),
+    )
 
-pub read_at : (v w : View) (number page place : ℕ) (y : SpanRecord) → HasPagesOf v number → w ≡ v → place ≡ page_place number page → 1 ≤ page → page ≤ 126 →
+pub read_at : (v w : View) (number page place : ℕ) (y : SpanRecord) → HasPagesOf v number → w ≡ v → place ≡ page_place number page →
+    1 ≤ page → page ≤ 126 →
     ((x : SpanRecord) → IsRecordAt w.words (record_word place) x → y ≡ x) → y ≡ spans_in v.words (page_place number page)
 read_at v w number page place y had same is first last read =
     let (x, recorded) = had.readable page first last in
     let aligned : page_place number page % 16384 ≡ 0 = omega arith in
-    read x (subst (λ (z : View). IsRecordAt z.words (record_word place) x) (sym same) (subst (λ p. IsRecordAt v.words (record_word p) x) (sym is) recorded))
+    read x (subst (λ (z : View). IsRecordAt z.words (record_word place) x) (sym same)
+    (subst (λ p. IsRecordAt v.words (record_word p) x) (sym is) recorded))
     ∙ sym (span_is v.words (page_place number page) x aligned recorded)
 
-pub none_at : (v w : View) (number page place : ℕ) (test : Bool) → HasPagesOf v number → w ≡ v → place ≡ page_place number page → 1 ≤ page → page ≤ 126 →
+pub none_at : (v w : View) (number page place : ℕ) (test : Bool) → HasPagesOf v number → w ≡ v → place ≡ page_place number page → 1 ≤ page →
+    page ≤ 126 →
     ((x : SpanRecord) → IsRecordAt w.words (record_word place) x → test ≡ same_state x.state state.None) →
     test ≡ same_state (spans_in v.words (page_place number page)).state state.None
 none_at v w number page place test had same is first last read =
     let (x, recorded) = had.readable page first last in
     let aligned : page_place number page % 16384 ≡ 0 = omega arith in
-    read x (subst (λ (z : View). IsRecordAt z.words (record_word place) x) (sym same) (subst (λ p. IsRecordAt v.words (record_word p) x) (sym is) recorded))
+    read x (subst (λ (z : View). IsRecordAt z.words (record_word place) x) (sym same)
+    (subst (λ p. IsRecordAt v.words (record_word p) x) (sym is) recorded))
     ∙ ap (λ (z : SpanRecord). same_state z.state state.None) (sym (span_is v.words (page_place number page) x aligned recorded))
 
 -- a state that is one, or none
@@ -171,7 +182,8 @@ pub record IsPast (v : View) (number page n : ℕ) (y : SpanRecord) (a c : Sums)
   pub ends : page + n ≤ 127
   pub added : AreAdded (λ f. sum_of_pages f v.words number (page + n - 1)) a c
 
-pub span_pages : (v : View) (number page n : ℕ) (y : SpanRecord) → HasPagesOf v number → 1 ≤ page → page ≤ 126 → y ≡ spans_in v.words (page_place number page) →
+pub span_pages : (v : View) (number page n : ℕ) (y : SpanRecord) → HasPagesOf v number → 1 ≤ page → page ≤ 126 →
+    y ≡ spans_in v.words (page_place number page) →
     IsInUse (spans_in v.words (page_place number page)) → n ≡ pages_of y.class → page + n ≤ 127
 span_pages v number page n y had first last is used long =
     let end = had.ends page first last used in
@@ -179,7 +191,8 @@ span_pages v number page n y had first last is used long =
     omega arith
 
 pub step_span : (v : View) (number page n : ℕ) (y : SpanRecord) (a b c : Sums) → HasPagesOf v number → 1 ≤ page → page ≤ 126 →
-    y ≡ spans_in v.words (page_place number page) → IsInUse (spans_in v.words (page_place number page)) → y.class < 170 → n ≡ pages_of y.class →
+    y ≡ spans_in v.words (page_place number page) → IsInUse (spans_in v.words (page_place number page)) → y.class < 170 →
+    n ≡ pages_of y.class →
     AreAdded (λ f. sum_of_pages f v.words number (page - 1)) a b → AreAdded (λ f. f y) b c → IsPast v number page n y a c
 step_span v number page n y a b c had first last is used real long before more =
     let x = spans_in v.words (page_place number page) in
@@ -195,7 +208,8 @@ step_span v number page n y a b c had first last is used real long before more =
 
 -- with one more super page
 pub supers_more : (f : SpanRecord → ℕ) (words : List ℕ) (supers : List SuperPage) (i : ℕ) (d : SuperPage) → i < length supers →
-    sum_of_supers f words (take (i + 1) supers) ≡ sum_of_supers f words (take i supers) + sum_of_pages f words (slice_index_or supers i d).number 126
+    sum_of_supers f words (take (i + 1) supers) ≡ sum_of_supers f words (take i supers) + sum_of_pages f words
+    (slice_index_or supers i d).number 126
 supers_more f words supers i d inside =
     let g : SuperPage → ℕ = λ at. sum_of_pages f words at.number 126 in
     ap (λ k. sum_by g (take k supers)) (one_more i)

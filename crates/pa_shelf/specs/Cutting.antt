@@ -18,8 +18,8 @@ use Rattle.pa_shelf.specs.declared.cuts.NewSlots.{NewSlots}
 use Rattle.pa_shelf.specs.Shelves.{ShelfParts, KeepsRecords, ShowsRoot}
 use Rattle.pa_shelf.specs.Taking.{HasSlotAt, IsTakeAt}
 
--- How many slots are cut before one is taken from s. If its list is empty, those that are provisioned then and were never made are
--- cut, else none.
+-- How many slots are cut before one is taken from s. If its list is empty,
+-- those that are provisioned then and were never made are cut, else none.
 abbrev pub count_cut : List ℕ → Span → ℕ
 count_cut [] s = more_slots s - s.made
 count_cut (n ∷ rest) s = 0

@@ -40,8 +40,8 @@ abbrev pub StartsAtZero : SpanRecord → Type 0
 StartsAtZero x = x.state ≡ state.None → x.turn ≡ 0
 
 -- The records keep the root. It has these super pages, which lie in a region and differ in number, direct maps and turn. Each payload
--- page has a record of its own, of turn 0 if it isn't in use. The lists are those of the spans that the words have, and these are the
--- root's spans.
+-- page has a record of its own, of turn 0 if it isn't in use. The lists are those of the spans that the words have,
+-- and these are the root's spans.
 pub record RecordsRoot (v : View) (l : ShelfParts) (r : Root) : Type 0 where
   pub supers : r.supers ≡ l.supers
   pub maps : r.maps ≡ l.maps

@@ -61,13 +61,13 @@ state_out class allocated = if allocated == slots_of class then state.Full else 
 abbrev pub pages_more : SpanRecord → ℕ
 pages_more x = max (x.committed + 1) ((slot_of x.class * (x.provisioned + 1) + 4095) / 4096)
 
--- how many slots of a span with this record are provisioned then: as many as fit into its committed pages of 4096 bytes, and no more
--- than the class has
+-- how many slots of a span with this record are provisioned then: as many as fit into its committed pages of 4096 bytes,
+-- and no more than the class has
 abbrev pub slots_more : SpanRecord → ℕ
 slots_more x = min (4096 * pages_more x / slot_of x.class) (slots_of x.class)
 
--- the record of a span that starts at `at`, with more slots and pages: its list begins at the first slot that wasn't provisioned
--- before
+-- the record of a span that starts at `at`, with more slots and pages:
+-- its list begins at the first slot that wasn't provisioned before
 abbrev pub with_more : ℕ → SpanRecord → SpanRecord
 with_more at x = record x {
   provisioned = slots_more x;
@@ -84,8 +84,8 @@ pub record HasSlotAt (v : View) (l : ShelfParts) (at : ℕ) (r : Root) (s : Span
   pub here : s.place ≡ at
   pub less : s.allocated < slots_of s.class
 
--- A slot can be taken from the span s of a sound root that is shown. x is the record that the words have of s, and t is the first
--- slot of s.
+-- A slot can be taken from the span s of a sound root that is shown.
+-- x is the record that the words have of s, and t is the first slot of s.
 pub record HasSlotOf (v : View) (l : ShelfParts) (x : SpanRecord) (t : Title) (r : Root) (s : Span) : Type 0 where
   pub at : HasSlotAt v l t.start r s
   pub read : x ≡ spans_in v.words t.start
@@ -124,7 +124,8 @@ take_of s r = taken_from (Some (record { span = s; root = r })) r
 -- One take in parts: from the span that was found, or is new, a slot can be taken, and that is the root's one take. If none was
 -- found, the root has no slot to give.
 pub record TakesAreInParts : Type 0 where
-  pub found : (v : View) (l : ShelfParts) (class at : ℕ) (r : Root) → IsSound r → class < class_count → found_start (span_for class r) ≡ Some at →
+  pub found : (v : View) (l : ShelfParts) (class at : ℕ) (r : Root) → IsSound r → class < class_count →
+      found_start (span_for class r) ≡ Some at →
       ShowsRoot v l (found_root (span_for class r) r) →
       (s : Span) × HasSlotAt v l at (found_root (span_for class r) r) s × (take_of s (found_root (span_for class r) r) ≡ one_take class r)
   pub none : (class : ℕ) (r : Root) → found_start (span_for class r) ≡ None → one_take class r ≡ record { root = r; title = None }

@@ -87,7 +87,8 @@ impl Shelf {
     // Starts a span of the class on the next free page of the current super page, which has room for it.
     fn start_span(&mut self, region: &Region, own: &mut Seat, class: Class, at: SuperPage) -> u32
         requires region { own.old.region ≡ region.now }
-        requires able { (r : Root) × IsSound r × ShowsRoot own.old.view self.old r × (current r ≡ Some at) × (r.page + pages_of class ≤ 127) }
+        requires able { (r : Root) × IsSound r × ShowsRoot own.old.view self.old r × (current r ≡ Some at) ×
+            (r.page + pages_of class ≤ 127) }
         ensures region { own.new.region ≡ own.old.region }
         ensures start { result ≡ page_place at.number self.old.page }
         ensures shown { (r : Root) → IsSound r → ShowsRoot own.old.view self.old r → current r ≡ Some at → r.page + pages_of class ≤ 127 →

@@ -19,8 +19,8 @@ use pa_record::{Census, SuperPage, Tally, mapped_of};
 use pa_region::{Region, Seat};
 use pa_spans::Span;
 
-// How many slots of spans were made and aren't out, and their bytes, the committed system pages, and how many spans are in each
-// state.
+// How many slots of spans were made and aren't out, and their bytes, the committed system pages,
+// and how many spans are in each state.
 #[derive(Clone, Copy)]
 pub(crate) struct Sums {
     slots: u64,
@@ -33,8 +33,8 @@ pub(crate) struct Sums {
 }
 
 impl Shelf {
-    /// What the root has: its free slots, its bytes, and its spans by their states. It goes over the spans' records once, from each to
-    /// the page after its span.
+    /// What the root has: its free slots, its bytes, and its spans by their states. It goes over the spans' records once,
+    /// from each to the page after its span.
     pub fn census(&self, region: &Region, own: &mut Seat) -> Census
         requires region { own.old.region ≡ region.now }
         requires shown { (r : Root) × IsSound r × IsUsed r × ShowsRoot own.old.view self.now r }

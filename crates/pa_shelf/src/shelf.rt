@@ -25,8 +25,8 @@ use std::marker::Model;
 const SUPERS: usize = 64;
 
 /// The super pages of a root, its direct maps and the heads of its lists of spans. The spans' records are in the metadata
-/// pages, and their free slots in chains: the root's seat has both. Contracts see it as the record `ShelfParts`. Which root it
-/// shows, `ShowsRoot` says.
+/// pages, and their free slots in chains: the root's seat has both. Contracts see it as the record `ShelfParts`.
+/// Which root it shows, `ShowsRoot` says.
 #[derive(Drop)]
 pub struct Shelf {
     pub(crate) supers: Vec<SuperPage>,

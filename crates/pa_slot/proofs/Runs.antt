@@ -28,7 +28,10 @@ same_slot_cases s t = elim (cases_eq s.start t.start) [
 ]
 
 pub same_slot_yes : (s t : SlotName) → s ≡ t → same_slot s t ≡ true
-same_slot_yes s t e = rw (eq-eqb s.start t.start (ap (λ (x : SlotName). x.start) e), eq-eqb s.born t.born (ap (λ (x : SlotName). x.born) e)) refl
+same_slot_yes s t e = rw (
+  eq-eqb s.start t.start (ap (λ (x : SlotName). x.start) e),
+  eq-eqb s.born t.born (ap (λ (x : SlotName). x.born) e),
+) refl
 
 pub same_slot_eq : (s t : SlotName) → same_slot s t ≡ true → s ≡ t
 same_slot_eq s t h =
@@ -178,7 +181,13 @@ runs_step ms n p word next rising found step can here other h =
           | inl e ↦ omega (arith, h.counted m a i, up, ap (λ x. number_of (word x)) e, ap (λ x. number_of (next x)) e)
           | inr ne ↦ omega (arith, h.counted m a i, ap number_of (other m.slot ne))
         ]
-        | inr q ↦ omega (arith, up, ap (λ (x : Mark). number_of x.found) q, ap number_of found, ap (λ (x : Mark). number_of (next x.slot)) q)
+        | inr q ↦ omega (
+          arith,
+          up,
+          ap (λ (x : Mark). number_of x.found) q,
+          ap number_of found,
+          ap (λ (x : Mark). number_of (next x.slot)) q,
+        )
       ];
       used = λ m r c e. elim (Contains-push_cases ms n m c) [
         | inl a ↦ let k = h.used m r a e in (kept m.slot m.found m r k.0, k.1)

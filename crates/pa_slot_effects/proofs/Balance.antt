@@ -21,7 +21,8 @@ at_slot f s n = rw (same_slot_yes s s refl) refl
 pub at_other_slot : (f : SlotName → ℕ) (s : SlotName) (n : ℕ) (t : SlotName) → (t ≡ s → ⊥) → with_slot f s n t ≡ f t
 at_other_slot f s n t ne = rw (same_slot_no t s ne) refl
 
-pub steps_slot : (word : SlotName → ℕ) (s : SlotName) (p : Step) (w : ℕ) → w ≡ word s → CanStep p w → StepsTo s p w word (with_slot word s (stepped p w))
+pub steps_slot : (word : SlotName → ℕ) (s : SlotName) (p : Step) (w : ℕ) → w ≡ word s → CanStep p w →
+    StepsTo s p w word (with_slot word s (stepped p w))
 steps_slot word s p w found can = record {
   found = found;
   can = can;
@@ -42,11 +43,13 @@ used_reg word regs thread reg x named new t r = elim (cases_eq t thread) [
   | inl e ↦ elim (cases_eq r reg) [
     | inl f ↦
         let P : Reg → Type 0 = λ y. IsUsed word y in
-        let at : with_reg regs thread reg x t r ≡ x = ap (λ k. with_reg regs thread reg x k r) e ∙ ap (λ k. with_reg regs thread reg x thread k) f ∙ at_reg regs thread reg x in
+        let at : with_reg regs thread reg x t r ≡ x = ap (λ k. with_reg regs thread reg x k r) e ∙
+        ap (λ k. with_reg regs thread reg x thread k) f ∙ at_reg regs thread reg x in
         subst P (sym at) new
     | inr ne ↦
         let P : Reg → Type 0 = λ y. IsUsed word y in
-        let at : with_reg regs thread reg x t r ≡ regs thread r = ap (λ k. with_reg regs thread reg x k r) e ∙ at_other regs thread reg x r ne in
+        let at : with_reg regs thread reg x t r ≡ regs thread r = ap (λ k. with_reg regs thread reg x k r) e ∙
+        at_other regs thread reg x r ne in
         subst P (sym at) (named thread r)
   ]
   | inr ne ↦
@@ -54,7 +57,8 @@ used_reg word regs thread reg x named new t r = elim (cases_eq t thread) [
       subst P (sym (reg_there regs thread reg x t ne)) (named t r)
 ]
 
-pub handles_step : (threads : ℕ) (a : Shown) (after content : SlotName → ℕ) (thread reg : ℕ) (s : SlotName) (p : Step) (w : ℕ) (old new : Reg) → AreHandles threads a
+pub handles_step : (threads : ℕ) (a : Shown) (after content : SlotName → ℕ) (thread reg : ℕ) (s : SlotName) (p : Step) (w : ℕ)
+    (old new : Reg) → AreHandles threads a
     → thread < threads → reg < 64 → a.regs thread reg ≡ old → StepsTo s p w a.word after → Balances s p w old new → IsUsed after new
     → ((t : SlotName) → 0 < a.word t → 0 < after t)
     → AreHandles threads (record a { regs = with_reg a.regs thread reg new; word = after; content = content })
@@ -62,10 +66,13 @@ handles_step threads a after content thread reg s p w old new h ht hr was st b u
     let regs = with_reg a.regs thread reg new in
     let O : SlotName → Type 0 = λ t. held_of (after t) ≡ amount threads (owns t) regs a.held in
     let Q : SlotName → Type 0 = λ t. refs_of (after t) ≡ amount threads (points t) regs a.held in
-    let moved_owns : (t : SlotName) → amount threads (owns t) regs a.held + owns t old ≡ amount threads (owns t) a.regs a.held + owns t new = λ t.
+    let moved_owns : (t : SlotName) →
+    amount threads (owns t) regs a.held + owns t old ≡ amount threads (owns t) a.regs a.held + owns t new = λ t.
     ap (λ x. amount threads (owns t) regs a.held + owns t x) (sym was) ∙ amount_reg threads (owns t) a.regs a.held thread reg new ht hr in
-    let moved_points : (t : SlotName) → amount threads (points t) regs a.held + points t old ≡ amount threads (points t) a.regs a.held + points t new = λ t.
-    ap (λ x. amount threads (points t) regs a.held + points t x) (sym was) ∙ amount_reg threads (points t) a.regs a.held thread reg new ht hr in
+    let moved_points : (t : SlotName) →
+    amount threads (points t) regs a.held + points t old ≡ amount threads (points t) a.regs a.held + points t new = λ t.
+    ap (λ x. amount threads (points t) regs a.held + points t x) (sym was) ∙
+    amount_reg threads (points t) a.regs a.held thread reg new ht hr in
     let here_owns : O s = omega (arith, moved_owns s, b.owners, h.owners s, ap held_of st.next, ap held_of st.found) in
     let here_points : Q s = omega (arith, moved_points s, b.pointers, h.pointers s, ap refs_of st.next, ap refs_of st.found) in
     record {
@@ -99,7 +106,8 @@ none_points s Cleared h = refl
 apart : (s t : SlotName) → (t ≡ s → ⊥) → s ≡ t → ⊥
 apart s t ne e = ne (sym e)
 
-pub issue_balances : (s : SlotName) (w : ℕ) (old : Reg) → HoldsNone old → held_of w ≡ 0 → refs_of w ≡ 0 → Balances s steps.Issue w old (Own s)
+pub issue_balances : (s : SlotName) (w : ℕ) (old : Reg) → HoldsNone old → held_of w ≡ 0 → refs_of w ≡ 0 →
+    Balances s steps.Issue w old (Own s)
 issue_balances s w old none held refs = record {
   owners = omega (arith, none_owns s old none, owns_one s, held);
   pointers = omega (arith, none_points s old none, held);

@@ -11,7 +11,7 @@ use Rattle.pa_slot.proofs.Runs.{number_stepped, same_slot_cases, some_is}
 use Rattle.pa_trace.specs.declared.script.Op.TheVariants as ops
 use Rattle.pa_record.specs.declared.entry.Seen.{Seen}
 use Rattle.pa_record.specs.declared.entry.Answer.{Answer}
-use Rattle.pa_record.specs.declared.entry.Answer.TheVariants.{Made, Done, Value, Dangling, SecondFree, NotOwner, StaleReset, StaleUse, Nothing, Filled, NotRef, Shared, OutOfRange, TooLarge, Full, Swapped, Purged}
+use Rattle.pa_record.specs.declared.entry.Answer.TheVariants.{Made, Done, Value, Dangling, SecondFree, NotOwner, StaleReset, StaleUse, Nothing, Filled, NotRef, Shared, OutOfRange, TooLarge, Full, Swapped, Purged, Uncounted}
 use Rattle.pa_rules.specs.declared.played.Played.{Played}
 use Rattle.pa_rules.specs.Played.{mark_at, mark_of, mark_of_answer, marks_of}
 use Rattle.pa_rules.specs.Contents.{IsMadeAt, IsWrittenAt, IsWrittenFor, IsContent, IsReadExact, AreExactContents}
@@ -30,7 +30,8 @@ IsWrittenBy x s n value =
 made_kept : (ps : List Played) (x : Played) (s : SlotName) (n : ℕ) → IsMadeAt ps s n → IsMadeAt (ps ++ x ∷ []) s n
 made_kept ps x s n h = (h.0, h.1, h.2, Contains-append_left ps (x ∷ []) h.0 h.3, h.4, h.5, h.6)
 
-written_kept : (ps : List Played) (x : Played) (s : SlotName) (n value : ℕ) → IsWrittenAt ps s n value → IsWrittenAt (ps ++ x ∷ []) s n value
+written_kept : (ps : List Played) (x : Played) (s : SlotName) (n value : ℕ) → IsWrittenAt ps s n value →
+    IsWrittenAt (ps ++ x ∷ []) s n value
 written_kept ps x s n value h = (h.0, h.1, h.2, Contains-append_left ps (x ∷ []) h.0 h.3, h.4, h.5, h.6, h.7)
 
 made_cases : (ps : List Played) (x : Played) (s : SlotName) (n : ℕ) → IsMadeAt (ps ++ x ∷ []) s n → IsMadeAt ps s n ⊎ IsMadeBy x s n
@@ -50,11 +51,13 @@ written_cases ps x s n value h = elim (Contains-push_cases ps x h.0 h.3) [
 pub made_mark : (x : Played) (s : SlotName) (n : ℕ) → (h : IsMadeBy x s n) → mark_of x ≡ Some (mark_at x.line h.0 (Some steps.Issue))
 made_mark x s n h = ap (λ a. mark_of_answer x.line x.op a) h.2
 
-pub written_mark : (x : Played) (s : SlotName) (n value : ℕ) → (h : IsWrittenBy x s n value) → mark_of x ≡ Some (mark_at x.line h.0 (Some steps.Write))
+pub written_mark : (x : Played) (s : SlotName) (n value : ℕ) → (h : IsWrittenBy x s n value) →
+    mark_of x ≡ Some (mark_at x.line h.0 (Some steps.Write))
 written_mark x s n value h =
     ap (λ a. mark_of_answer x.line x.op a) h.3 ∙ ap (λ o. mark_of_answer x.line o (Done h.0)) h.2
 
-counted : (ps : List Played) (word : SlotName → ℕ) → HasRuns (marks_of ps) word → (x : Played) (seen : Seen) (step : Step) (s : SlotName) (n : ℕ) → Contains ps x
+counted : (ps : List Played) (word : SlotName → ℕ) → HasRuns (marks_of ps) word →
+    (x : Played) (seen : Seen) (step : Step) (s : SlotName) (n : ℕ) → Contains ps x
     → mark_of x ≡ Some (mark_at x.line seen (Some step)) → seen.slot ≡ s → number_of seen.found.0 ≡ n → n < number_of (word s)
 counted ps word runs x seen step s n c e at number =
     let m : Mark = mark_at x.line seen (Some step) in
@@ -62,11 +65,13 @@ counted ps word runs x seen step s n c e at number =
     let lt : number_of m.found < number_of (word s) = subst P at (runs.counted m (mark_in ps x m c e) (some_is step)) in
     omega (arith, lt, number)
 
-made_below : (ps : List Played) (word : SlotName → ℕ) → HasRuns (marks_of ps) word → (s : SlotName) (n : ℕ) → IsMadeAt ps s n → n < number_of (word s)
+made_below : (ps : List Played) (word : SlotName → ℕ) → HasRuns (marks_of ps) word → (s : SlotName) (n : ℕ) → IsMadeAt ps s n →
+    n < number_of (word s)
 made_below ps word runs s n h =
     counted ps word runs h.0 h.1 steps.Issue s n h.3 (made_mark h.0 s n (h.1, h.2, h.4, h.5, h.6)) h.5 h.6
 
-written_below : (ps : List Played) (word : SlotName → ℕ) → HasRuns (marks_of ps) word → (s : SlotName) (n value : ℕ) → IsWrittenAt ps s n value → n < number_of (word s)
+written_below : (ps : List Played) (word : SlotName → ℕ) → HasRuns (marks_of ps) word → (s : SlotName) (n value : ℕ) →
+    IsWrittenAt ps s n value → n < number_of (word s)
 written_below ps word runs s n value h =
     counted ps word runs h.0 h.1 steps.Write s n h.3 (written_mark h.0 s n value (h.1, h.2, h.4, h.5, h.6, h.7)) h.6 h.7
 
@@ -95,22 +100,27 @@ content_kept ps qs s k l value q h =
     ]
 
 -- a record more that finds no number of slot s below k
-still_quiet : (ps : List Played) (x : Played) (s : SlotName) (k : ℕ) → ((n : ℕ) → IsMadeBy x s n → k ≤ n) → ((n value : ℕ) → IsWrittenBy x s n value → k ≤ n)
+still_quiet : (ps : List Played) (x : Played) (s : SlotName) (k : ℕ) → ((n : ℕ) → IsMadeBy x s n → k ≤ n) →
+    ((n value : ℕ) → IsWrittenBy x s n value → k ≤ n)
     → IsQuiet ps (ps ++ x ∷ []) s k k
 still_quiet ps x s k made written = record {
   up = omega arith;
   made = made_kept ps x s;
   written = written_kept ps x s;
   made_back = λ n h lt. elim (made_cases ps x s n h) [ inl a ↦ (a, lt) | inr b ↦ absurd (omega (arith, made n b, lt)) ];
-  written_back = λ n value h lt. elim (written_cases ps x s n value h) [ inl a ↦ (a, lt) | inr b ↦ absurd (omega (arith, written n value b, lt)) ];
+  written_back = λ n value h lt. elim (written_cases ps x s n value h)
+      [ inl a ↦ (a, lt) | inr b ↦ absurd (omega (arith, written n value b, lt)) ];
 }
 
 -- what was read rightly stays so with a record more that finds no number below the slots'
-right_kept : (ps : List Played) (x : Played) (a : Answer) → ((seen : Seen) (value : ℕ) → a ≡ Value seen value → IsQuiet ps (ps ++ x ∷ []) seen.slot (number_of seen.found.0) (number_of seen.found.0))
+right_kept : (ps : List Played) (x : Played) (a : Answer) →
+    ((seen : Seen) (value : ℕ) → a ≡ Value seen value →
+    IsQuiet ps (ps ++ x ∷ []) seen.slot (number_of seen.found.0) (number_of seen.found.0))
     → IsReadExact ps a → IsReadExact (ps ++ x ∷ []) a
 right_kept ps x (Made seen usable) q h = tt
 right_kept ps x (Done seen) q h = tt
-right_kept ps x (Value seen value) q h = content_kept ps (ps ++ x ∷ []) seen.slot (number_of seen.found.0) (number_of seen.found.0) value (q seen value refl) h
+right_kept ps x (Value seen value) q h =
+    content_kept ps (ps ++ x ∷ []) seen.slot (number_of seen.found.0) (number_of seen.found.0) value (q seen value refl) h
 right_kept ps x (Dangling seen value) q h = h
 right_kept ps x (SecondFree seen) q h = tt
 right_kept ps x (NotOwner seen) q h = tt
@@ -125,6 +135,7 @@ right_kept ps x TooLarge q h = tt
 right_kept ps x (Full entry) q h = tt
 right_kept ps x (Swapped entry) q h = tt
 right_kept ps x (Purged slots) q h = tt
+right_kept ps x Uncounted q h = tt
 
 -- a record's mark has found the slot's word
 abbrev pub HasFound : (SlotName → ℕ) → Played → Type 0
@@ -143,7 +154,8 @@ made_late word x s n found h =
     let e : h.0.found.0 ≡ word h.0.slot = found m (made_mark x s n h) in
     ap (λ t. number_of (word t)) (sym h.3) ∙ ap number_of (sym e) ∙ h.4
 
-written_late : (word : SlotName → ℕ) (x : Played) (s : SlotName) (n value : ℕ) → HasFound word x → IsWrittenBy x s n value → number_of (word s) ≡ n
+written_late : (word : SlotName → ℕ) (x : Played) (s : SlotName) (n value : ℕ) → HasFound word x → IsWrittenBy x s n value →
+    number_of (word s) ≡ n
 written_late word x s n value found h =
     let m : Mark = mark_at x.line h.0 (Some steps.Write) in
     let e : h.0.found.0 ≡ word h.0.slot = found m (written_mark x s n value h) in
@@ -153,7 +165,8 @@ written_late word x s n value found h =
 quiet_upto : (ps : List Played) (x : Played) (word : SlotName → ℕ) (s : SlotName) (k : ℕ) → HasFound word x → k ≤ number_of (word s)
     → IsQuiet ps (ps ++ x ∷ []) s k k
 quiet_upto ps x word s k found le =
-    still_quiet ps x s k (λ n h. omega (arith, made_late word x s n found h, le)) (λ n value h. omega (arith, written_late word x s n value found h, le))
+    still_quiet ps x s k (λ n h. omega (arith, made_late word x s n found h, le))
+    (λ n value h. omega (arith, written_late word x s n value found h, le))
 
 -- the values read, with a record more
 read_push : (ps : List Played) (x : Played) (line : ℕ) (word : SlotName → ℕ) → HasNumbers (marks_of ps) line word
@@ -169,7 +182,8 @@ read_push ps x line word numbers found right here p c = elim (Contains-push_case
 ]
 
 -- the content of a slot that this record doesn't step
-pub content_same : (ps : List Played) (x : Played) (word content : SlotName → ℕ) (s : SlotName) → HasContents ps word content → HasFound word x
+pub content_same : (ps : List Played) (x : Played) (word content : SlotName → ℕ) (s : SlotName) → HasContents ps word content →
+    HasFound word x
     → held_of (word s) ≡ 1 → IsContent (ps ++ x ∷ []) s (number_of (word s)) (content s)
 content_same ps x word content s h found held =
     content_kept ps (ps ++ x ∷ []) s (number_of (word s)) (number_of (word s)) (content s)
@@ -192,7 +206,8 @@ contents_same ps x line word content numbers h found read = record {
 }
 
 -- a record that steps slot s
-pub contents_step : (ps : List Played) (x : Played) (line : ℕ) (word content next now : SlotName → ℕ) (s : SlotName) → HasNumbers (marks_of ps) line word
+pub contents_step : (ps : List Played) (x : Played) (line : ℕ) (word content next now : SlotName → ℕ) (s : SlotName) →
+    HasNumbers (marks_of ps) line word
     → HasContents ps word content → HasFound word x
     → ((t : SlotName) → (t ≡ s → ⊥) → next t ≡ word t) → ((t : SlotName) → (t ≡ s → ⊥) → now t ≡ content t)
     → (held_of (next s) ≡ 1 → IsContent (ps ++ x ∷ []) s (number_of (next s)) (now s))
@@ -227,7 +242,8 @@ content_made ps x word next seen usable runs e st =
       λ n other w. elim (written_cases ps x s n other w.0) [
         | inl a ↦
             let lt = written_below ps word runs s n other a in
-            w.2 (number_of seen.found.0) (x, seen, usable, Contains-push ps x, e, refl, refl) (omega (arith, lt, number)) (omega (arith, up))
+            w.2 (number_of seen.found.0) (x, seen, usable, Contains-push ps x, e, refl, refl) (omega (arith, lt, number))
+            (omega (arith, up))
         | inr b ↦
             let bad : Made seen usable ≡ Done b.0 = sym e ∙ b.3 in
             absurd cc
@@ -239,7 +255,8 @@ pub content_written : (ps : List Played) (x : Played) (word next : SlotName → 
     → x.op ≡ ops.Write reg value → x.answer ≡ Done seen
     → StepsTo seen.slot steps.Write seen.found.0 word next → IsContent (ps ++ x ∷ []) seen.slot (number_of (next seen.slot)) value
 content_written ps x word next seen reg value op e st =
-    let up : number_of (next seen.slot) ≡ number_of seen.found.0 + 1 = ap number_of st.next ∙ number_stepped steps.Write seen.found.0 st.can in
+    let up : number_of (next seen.slot) ≡ number_of seen.found.0 + 1 = ap number_of st.next ∙
+    number_stepped steps.Write seen.found.0 st.can in
     inl (
       number_of seen.found.0,
       ((x, seen, reg, Contains-push ps x, op, e, refl, refl), omega (arith, up), λ m made above below. omega (arith, up, above, below)),
@@ -255,7 +272,8 @@ pub content_stays : (ps : List Played) (x : Played) (word content next : SlotNam
     → HasRuns (marks_of ps) word → HasContents ps word content → IsNeither x → held_of (word s) ≡ 1
     → StepsTo s p w word next → IsContent (ps ++ x ∷ []) s (number_of (next s)) (content s)
 content_stays ps x word content next s w p runs h none held st =
-    let up : number_of (next s) ≡ number_of (word s) + 1 = ap number_of st.next ∙ number_stepped p w st.can ∙ ap (λ x. number_of x + 1) st.found in
+    let up : number_of (next s) ≡ number_of (word s) + 1 = ap number_of st.next ∙ number_stepped p w st.can ∙
+    ap (λ x. number_of x + 1) st.found in
     let quiet : IsQuiet ps (ps ++ x ∷ []) s (number_of (word s)) (number_of (next s)) = record {
       up = omega (arith, up);
       made = made_kept ps x s;

@@ -9,7 +9,7 @@ use Rattle.pa_slot.specs.Runs.{IsPath}
 use Rattle.pa_slot.proofs.Runs.{run_of_path, runs_end, slots_of_runs, same_slot_yes}
 use Rattle.pa_trace.specs.declared.script.Line.{Line}
 use Rattle.pa_record.specs.declared.entry.Answer.{Answer}
-use Rattle.pa_record.specs.declared.entry.Answer.TheVariants.{Made, Done, Value, Dangling, SecondFree, NotOwner, StaleReset, StaleUse, Nothing, Filled, NotRef, Shared, OutOfRange, TooLarge, Full, Swapped, Purged}
+use Rattle.pa_record.specs.declared.entry.Answer.TheVariants.{Made, Done, Value, Dangling, SecondFree, NotOwner, StaleReset, StaleUse, Nothing, Filled, NotRef, Shared, OutOfRange, TooLarge, Full, Swapped, Purged, Uncounted}
 use Rattle.pa_record.specs.declared.history.CellEntry.{CellEntry}
 use Rattle.pa_rules.specs.declared.played.Played.{Played}
 use Rattle.pa_rules.specs.Played.{AreLines, marks_of}
@@ -62,10 +62,12 @@ one_on s l k m le = elim (cases_lt m.line l) [
 
 one_step : (s : SlotName) (k : ℕ) (m : Mark) → m.line < k → m.slot ≡ s → is_some m.step ≡ true → one s k m ≡ 1
 one_step s k m lt at made =
-    one_is s k m true (and_from (same_slot m.slot s) _ (same_slot_yes m.slot s at) (and_from (ltb m.line k) (is_some m.step) (lt-ltb m.line k lt) made))
+    one_is s k m true (and_from (same_slot m.slot s) _ (same_slot_yes m.slot s at)
+    (and_from (ltb m.line k) (is_some m.step) (lt-ltb m.line k lt) made))
 
 -- if a step of slot s is on line l or later and before line k, more steps of s come before line k than before line l
-steps_past : (s : SlotName) (l k : ℕ) (ms : List Mark) (m : Mark) → l ≤ m.line → m.line < k → Contains ms m → m.slot ≡ s → is_some m.step ≡ true
+steps_past : (s : SlotName) (l k : ℕ) (ms : List Mark) (m : Mark) → l ≤ m.line → m.line < k → Contains ms m → m.slot ≡ s →
+    is_some m.step ≡ true
     → steps_before s l ms + 1 ≤ steps_before s k ms
 steps_past s l k [] m le lt c at made = absurd (omega (arith, c.1))
 steps_past s l k (n ∷ ms) m le lt (zero, c, same) at made =
@@ -73,10 +75,17 @@ steps_past s l k (n ∷ ms) m le lt (zero, c, same) at made =
     let high : one s k n ≡ 1 = ap (one s k) same ∙ one_step s k m lt at made in
     omega (arith, steps_cons s l n ms, steps_cons s k n ms, low, high, steps_rise s l k ms (omega arith))
 steps_past s l k (n ∷ ms) m le lt (suc i, c, same) at made =
-    omega (arith, steps_cons s l n ms, steps_cons s k n ms, one_on s l k n (omega arith), steps_past s l k ms m le lt (i, omega (arith, c), same) at made)
+    omega (
+      arith,
+      steps_cons s l n ms,
+      steps_cons s k n ms,
+      one_on s l k n (omega arith),
+      steps_past s l k ms m le lt (i, omega (arith, c), same) at made,
+    )
 
 -- a record that is before another has a smaller line
-module _ (ls : List Line) (ps : List Played) (a : Shown) (lines : AreLines a.rules ls ps) (h : HasExchanged a.cells a.held ps (length ls + 2)) where
+module _ (ls : List Line) (ps : List Played) (a : Shown) (lines : AreLines a.rules ls ps)
+    (h : HasExchanged a.cells a.held ps (length ls + 2)) where
   stands : (x y : Played) → Contains ps x → Contains ps y → StandsBefore x y → x.line < y.line
   stands x y c d (inl t) = t.1
   stands x y c d (inr p) = played_phases a.rules ls ps lines x y c d p
@@ -95,16 +104,24 @@ seen_in_file_order threads ls ps a h = record {
       let among : Contains (marks_of ps) m = mark_in ps x m c e in
       let first : number_of m.found ≡ steps_before m.slot m.line (marks_of ps) = h.numbers.order m among in
       let then' : number_of n.found ≡ steps_before n.slot n.line (marks_of ps) = h.numbers.order n (mark_in ps y n d f) in
-      let at : steps_before n.slot n.line (marks_of ps) ≡ steps_before m.slot n.line (marks_of ps) = ap (λ s. steps_before s n.line (marks_of ps)) (sym same) in
+      let at : steps_before n.slot n.line (marks_of ps) ≡ steps_before m.slot n.line (marks_of ps) =
+      ap (λ s. steps_before s n.line (marks_of ps)) (sym same) in
       let low : m.line < n.line = omega (arith, lt, mark_line x m e, mark_line y n f) in
       elim (cases_Bool (is_some m.step)) [
-        | inl made ↦ rw made (omega (arith, first, then', at, steps_past m.slot m.line n.line (marks_of ps) m (omega arith) low among refl made))
+        | inl made ↦ rw made (omega (
+          arith,
+          first,
+          then',
+          at,
+          steps_past m.slot m.line n.line (marks_of ps) m (omega arith) low among refl made,
+        ))
         | inr look ↦ rw look (omega (arith, first, then', at, steps_rise m.slot m.line n.line (marks_of ps) (omega (arith, low))))
       ];
 }
 
 -- what was read exactly is allowed
-allowed : (version : ℕ) (cells : ℕ → List CellEntry) (ps : List Played) (x : Played) (answer : Answer) → IsReadExact ps answer → IsReadAllowed (usable_of version) cells ps x answer
+allowed : (version : ℕ) (cells : ℕ → List CellEntry) (ps : List Played) (x : Played) (answer : Answer) → IsReadExact ps answer →
+    IsReadAllowed (usable_of version) cells ps x answer
 allowed version cells ps x (Made seen n) h = tt
 allowed version cells ps x (Done seen) h = tt
 allowed version cells ps x (Value seen value) h = inl h
@@ -122,12 +139,14 @@ allowed version cells ps x TooLarge h = tt
 allowed version cells ps x (Full entry) h = tt
 allowed version cells ps x (Swapped entry) h = tt
 allowed version cells ps x (Purged slots) h = tt
+allowed version cells ps x Uncounted h = tt
 
 path_last_word : (ms : List Mark) (s : SlotName) (u : ℕ) (vs : List ℕ) (w : ℕ) → IsPath ms s u vs w → last_word u vs ≡ w
 path_last_word ms s u [] w h = h
 path_last_word ms s u (v ∷ vs) w h = path_last_word ms s v vs w h.5
 
-word_at_end : (threads : ℕ) (ls : List Line) (ps : List Played) (a : Shown) → IsToldTo threads ls ps a → (s : SlotName) → HasWord ps s (a.word s)
+word_at_end : (threads : ℕ) (ls : List Line) (ps : List Played) (a : Shown) → IsToldTo threads ls ps a → (s : SlotName) →
+    HasWord ps s (a.word s)
 word_at_end threads ls ps a h s =
     let k = h.runs.path s in (
       k.0,
@@ -136,7 +155,8 @@ word_at_end threads ls ps a h s =
     )
 
 -- the rows lead from empty registers to these
-pub rows_told : (threads : ℕ) (ls : List Line) (ps : List Played) (a : Shown) → IsToldTo threads ls ps a → RowsTo (facts_of a.rules.version (usable_in ps) a.cells) no_regs ps a.regs
+pub rows_told : (threads : ℕ) (ls : List Line) (ps : List Played) (a : Shown) → IsToldTo threads ls ps a →
+    RowsTo (facts_of a.rules.version (usable_in ps) a.cells) no_regs ps a.regs
 rows_told threads ls ps a h = rows_end a.rules.version a.word a.word a.usable (usable_in ps) a.cells a.cells (record {
   used = λ s u. u;
   sizes = λ s up.

@@ -93,7 +93,12 @@ amount_part threads f regs held thread reg ht hr =
     omega (arith, over_part threads thread row ht, over_part 64 reg (λ r. f (regs thread r)) hr)
 
 -- all have no more than there are
-pub amount_few : (threads : ℕ) (f : Reg → ℕ) (regs : AllRegs) (held : ℕ → Held) → ((x : Reg) → f x ≤ 1) → amount threads f regs held ≤ 64 * threads + 64
+pub amount_few : (threads : ℕ) (f : Reg → ℕ) (regs : AllRegs) (held : ℕ → Held) → ((x : Reg) → f x ≤ 1) →
+    amount threads f regs held ≤ 64 * threads + 64
 amount_few threads f regs held h =
     let row : ℕ → ℕ = λ t. over 64 (λ r. f (regs t r)) in
-    omega (arith, over_many threads row (λ t. over_few 64 (λ r. f (regs t r)) (λ r. h (regs t r))), over_few 64 (λ k. f (reg_of (held k))) (λ k. h (reg_of (held k))))
+    omega (
+      arith,
+      over_many threads row (λ t. over_few 64 (λ r. f (regs t r)) (λ r. h (regs t r))),
+      over_few 64 (λ k. f (reg_of (held k))) (λ k. h (reg_of (held k))),
+    )

@@ -38,7 +38,8 @@ get_cases (z ∷ xs) y (suc j) x e = elim (get_cases xs y j x e) [
   | inr b ↦ inr (ap suc b.0, b.1)
 ]
 
-chain_push : (held : Held) (es : List CellEntry) (e : CellEntry) → IsChain held es → e.found ≡ chain_end held es → IsChain held (es ++ e ∷ [])
+chain_push : (held : Held) (es : List CellEntry) (e : CellEntry) → IsChain held es → e.found ≡ chain_end held es →
+    IsChain held (es ++ e ∷ [])
 chain_push held [] e h found = (found, tt)
 chain_push held (x ∷ es) e h found = (h.0, chain_push x.gave es e h.1 found)
 
@@ -128,7 +129,8 @@ grown_kept cell entry cells after g k j e x = elim (cases_eq k cell) [
 ]
 
 -- a record that is an exchange, which found what its cell held
-pub exchanged_more : (cells after : ℕ → List CellEntry) (held next : ℕ → Held) (ps : List Played) (line : ℕ) (x : Played) (cell reg : ℕ) (entry : CellEntry)
+pub exchanged_more : (cells after : ℕ → List CellEntry) (held next : ℕ → Held) (ps : List Played) (line : ℕ) (x : Played) (cell reg : ℕ)
+    (entry : CellEntry)
     → HasExchanged cells held ps line → GrowsBy cell entry cells after → entry.found ≡ held cell → next cell ≡ entry.gave
     → ((k : ℕ) → (k ≡ cell → ⊥) → next k ≡ held k)
     → entry.line ≡ line → x.line ≡ line → x.op ≡ Swap cell reg → x.answer ≡ Swapped (length (cells cell))
@@ -202,7 +204,8 @@ exchanged_order cells held ps line h k i lt =
     let high : i + 1 < length (cells k) = omega arith in
     let e1 = get_or-map (λ (e : CellEntry). e.line) (cells k) i d 0 low in
     let e2 = get_or-map (λ (e : CellEntry). e.line) (cells k) (i + 1) d 0 high in
-    let up = h.rising k i (i + 1) (get_or (cells k) i d) (get_or (cells k) (i + 1) d) (slice_get-get_or (cells k) i d low) (slice_get-get_or (cells k) (i + 1) d high) (omega arith) in
+    let up = h.rising k i (i + 1) (get_or (cells k) i d) (get_or (cells k) (i + 1) d) (slice_get-get_or (cells k) i d low)
+    (slice_get-get_or (cells k) (i + 1) d high) (omega arith) in
     omega (arith, e1, e2, up)
 
 -- all that the rules require of the exchanges, if records of earlier phases have smaller lines

@@ -13,10 +13,12 @@ use Rattle.pa_slot_effects.specs.Turns.{played_at}
 use Rattle.pa_rules.proofs.Lined.{lines_phases, lines_push, phases_are}
 
 op_line_among : (ps : List Played) (p : Played) → Contains ps p → Contains (map op_line_of ps) (op_line_of p)
-op_line_among ps p (i, lt, e) = (i, omega (arith, lt, length-map ps op_line_of), get_or-map op_line_of ps i p (op_line_of p) lt ∙ ap op_line_of e)
+op_line_among ps p (i, lt, e) =
+    (i, omega (arith, lt, length-map ps op_line_of), get_or-map op_line_of ps i p (op_line_of p) lt ∙ ap op_line_of e)
 
 -- a record of an earlier phase has a smaller line
-pub played_phases : (rules : Rules) (ls : List Line) (ps : List Played) → map op_line_of ps ≡ op_lines rules 2 1 ls → (p q : Played) → Contains ps p → Contains ps q
+pub played_phases : (rules : Rules) (ls : List Line) (ps : List Played) → map op_line_of ps ≡ op_lines rules 2 1 ls → (p q : Played) →
+    Contains ps p → Contains ps q
     → p.phase < q.phase → p.line < q.line
 played_phases rules ls ps e p q c d lt =
     let P : List OpLine → Type 0 = λ xs. Contains xs (op_line_of p) in

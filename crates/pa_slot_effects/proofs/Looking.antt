@@ -7,7 +7,7 @@ use Rattle.pa_trace.specs.declared.script.Op.TheVariants as ops
 use Rattle.pa_trace.specs.declared.script.Line.{Line}
 use Rattle.pa_record.specs.declared.entry.Seen.{Seen}
 use Rattle.pa_record.specs.declared.entry.Answer.{Answer}
-use Rattle.pa_record.specs.declared.entry.Answer.TheVariants.{Made, Done, Value, Dangling, SecondFree, NotOwner, StaleReset, StaleUse, Nothing, Filled, NotRef, Shared, OutOfRange, TooLarge, Full, Swapped, Purged}
+use Rattle.pa_record.specs.declared.entry.Answer.TheVariants.{Made, Done, Value, Dangling, SecondFree, NotOwner, StaleReset, StaleUse, Nothing, Filled, NotRef, Shared, OutOfRange, TooLarge, Full, Swapped, Purged, Uncounted}
 use Rattle.pa_rules.specs.declared.played.Played.{Played}
 use Rattle.pa_rules.specs.Played.{mark_at, mark_of, mark_of_answer}
 use Rattle.pa_rules.specs.Registers.{Row}
@@ -22,7 +22,8 @@ use Rattle.pa_slot_effects.proofs.Words.{in_use}
 use Rattle.pa_slot_effects.proofs.Turn.{Tells, turn_extends, same_regs}
 
 -- a turn that changes nothing
-still : (threads : ℕ) (ls : List Line) (ps : List Played) (a : Shown) (thread : ℕ) (op : Op) (answer : Answer) → CanPlay threads ls ps a thread
+still : (threads : ℕ) (ls : List Line) (ps : List Played) (a : Shown) (thread : ℕ) (op : Op) (answer : Answer) →
+    CanPlay threads ls ps a thread
     → ((cell r : ℕ) → op ≡ ops.Swap cell r → ⊥) → ((u : Seen) (n : ℕ) → answer ≡ Made u n → ⊥)
     → Tells (mark_of (played_at a.rules ls thread op answer)) a.word a.word → HasFound a.word (played_at a.rules ls thread op answer)
     → IsReadExact (ps ++ played_at a.rules ls thread op answer ∷ []) answer
@@ -62,6 +63,7 @@ none_mark line op TooLarge h = refl
 none_mark line op (Full entry) h = refl
 none_mark line op (Swapped entry) h = absurd h
 none_mark line op (Purged slots) h = refl
+none_mark line op Uncounted h = refl
 
 none_read : (ps : List Played) (answer : Answer) → TellsNone answer → IsReadExact ps answer
 none_read ps (Made seen n) h = tt
@@ -81,6 +83,7 @@ none_read ps TooLarge h = tt
 none_read ps (Full entry) h = tt
 none_read ps (Swapped entry) h = tt
 none_read ps (Purged slots) h = tt
+none_read ps Uncounted h = tt
 
 pub none_goes_on : NoneGoesOn
 none_goes_on threads ls ps a thread op answer can none other row =
@@ -92,7 +95,8 @@ none_goes_on threads ls ps a thread op answer can none other row =
     (λ m e. let bad : None ≡ Some m = sym silent ∙ e in absurd cc)
     (none_read (ps ++ x ∷ []) answer none) row
 
-pub look_mark : (line : ℕ) (op : Op) (a : Shown) (s : Seen) (answer : Answer) → Looks a s answer → mark_of_answer line op answer ≡ Some (mark_at line s None)
+pub look_mark : (line : ℕ) (op : Op) (a : Shown) (s : Seen) (answer : Answer) → Looks a s answer →
+    mark_of_answer line op answer ≡ Some (mark_at line s None)
 look_mark line op a s (Made seen n) h = absurd h
 look_mark line op a s (Done seen) h = absurd h
 look_mark line op a s (Value seen value) h = ap (λ z. Some (mark_at line z None)) h.0
@@ -112,6 +116,7 @@ look_mark line op a s TooLarge h = absurd h
 look_mark line op a s (Full entry) h = absurd h
 look_mark line op a s (Swapped entry) h = absurd h
 look_mark line op a s (Purged slots) h = absurd h
+look_mark line op a s Uncounted h = absurd h
 
 -- what a look read, if the slot's content is this
 look_read : (ps : List Played) (a : Shown) (s : Seen) (answer : Answer) → Looks a s answer
@@ -136,6 +141,7 @@ look_read ps a s TooLarge h is = absurd h
 look_read ps a s (Full entry) h is = absurd h
 look_read ps a s (Swapped entry) h is = absurd h
 look_read ps a s (Purged slots) h is = absurd h
+look_read ps a s Uncounted h is = absurd h
 
 pub look_goes_on : LookGoesOn
 look_goes_on threads ls ps a thread reg op answer seen can hr names found looks other row =
@@ -150,5 +156,6 @@ look_goes_on threads ls ps a thread reg op answer seen can hr names found looks 
     (λ u n e. let P : Answer → Type 0 = λ z. Looks a seen z in subst P e looks)
     (rw told (found, used, refl))
     finds
-    (look_read (ps ++ x ∷ []) a seen answer looks (subst W (sym found) (λ held. content_same ps x a.word a.content seen.slot can.told.contents finds held)))
+    (look_read (ps ++ x ∷ []) a seen answer looks
+    (subst W (sym found) (λ held. content_same ps x a.word a.content seen.slot can.told.contents finds held)))
     row

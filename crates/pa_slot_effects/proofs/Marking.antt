@@ -8,7 +8,7 @@ use Rattle.pa_slot.specs.Run.{Mark}
 use Rattle.pa_trace.specs.declared.script.Op.{Op}
 use Rattle.pa_record.specs.declared.entry.Seen.{Seen}
 use Rattle.pa_record.specs.declared.entry.Answer.{Answer}
-use Rattle.pa_record.specs.declared.entry.Answer.TheVariants.{Made, Done, Value, Dangling, SecondFree, NotOwner, StaleReset, StaleUse, Nothing, Filled, NotRef, Shared, OutOfRange, TooLarge, Full, Swapped, Purged}
+use Rattle.pa_record.specs.declared.entry.Answer.TheVariants.{Made, Done, Value, Dangling, SecondFree, NotOwner, StaleReset, StaleUse, Nothing, Filled, NotRef, Shared, OutOfRange, TooLarge, Full, Swapped, Purged, Uncounted}
 use Rattle.pa_rules.specs.declared.played.Played.{Played}
 use Rattle.pa_rules.specs.Played.{step_of, mark_at, look_at, mark_of, mark_of_answer, marks_of}
 use Rattle.pa_legal.proofs.owners.Using.{no_op_issues}
@@ -41,6 +41,7 @@ answer_line line op TooLarge = refl
 answer_line line op (Full entry) = refl
 answer_line line op (Swapped entry) = refl
 answer_line line op (Purged slots) = refl
+answer_line line op Uncounted = refl
 
 -- the marks with what one more record reports
 abbrev pub with_mark : List Mark → Option Mark → List Mark
@@ -98,7 +99,8 @@ look_issue line (Some seen) m e f = no_issue None (mark_at line seen None) m ref
 
 -- an issue is reported by an answer `made` alone
 pub issue_made : (line : ℕ) (op : Op) (a : Answer) (m : Mark) → mark_of_answer line op a ≡ Some m → m.step ≡ Some steps.Issue → IsMaking a m
-issue_made line op (Made seen usable) m e f = (seen, usable, refl, ap (λ (x : Mark). x.slot) (some_mark (mark_at line seen (Some steps.Issue)) m e))
+issue_made line op (Made seen usable) m e f =
+    (seen, usable, refl, ap (λ (x : Mark). x.slot) (some_mark (mark_at line seen (Some steps.Issue)) m e))
 issue_made line op (Done seen) m e f = absurd (no_issue (step_of op) (mark_at line seen (step_of op)) m refl (no_op_issues op) e f)
 issue_made line op (Value seen value) m e f = absurd (look_issue line (Some seen) m e f)
 issue_made line op (Dangling seen value) m e f = absurd (look_issue line (Some seen) m e f)
@@ -115,3 +117,4 @@ issue_made line op TooLarge m e f = absurd cc
 issue_made line op (Full entry) m e f = absurd cc
 issue_made line op (Swapped entry) m e f = absurd cc
 issue_made line op (Purged slots) m e f = absurd cc
+issue_made line op Uncounted m e f = absurd cc

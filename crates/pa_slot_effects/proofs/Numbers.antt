@@ -12,17 +12,20 @@ use Rattle.pa_rules.specs.FileOrder.{is_step_before, steps_before, AreNumbersInF
 use Rattle.pa_slot_effects.specs.Known.{HasNumbers}
 
 -- how many steps come before a line, with a mark more
-steps_push : (ms : List Mark) (n : Mark) (s : SlotName) (l : ℕ) → steps_before s l (ms ++ n ∷ []) ≡ steps_before s l ms + cond (is_step_before s l n) 1 0
+steps_push : (ms : List Mark) (n : Mark) (s : SlotName) (l : ℕ) →
+    steps_before s l (ms ++ n ∷ []) ≡ steps_before s l ms + cond (is_step_before s l n) 1 0
 steps_push ms n s l = sum_by_push (λ m. cond (is_step_before s l m) 1 0) ms n
 
 steps_late : (ms : List Mark) (n : Mark) (s : SlotName) (l : ℕ) → l ≤ n.line → steps_before s l (ms ++ n ∷ []) ≡ steps_before s l ms
 steps_late ms n s l le =
-    let none : is_step_before s l n ≡ false = and_right (same_slot n.slot s) _ (and_left (ltb n.line l) (is_some n.step) (le-ltb n.line l le)) in
+    let none : is_step_before s l n ≡ false =
+    and_right (same_slot n.slot s) _ (and_left (ltb n.line l) (is_some n.step) (le-ltb n.line l le)) in
     steps_push ms n s l ∙ (rw none (omega arith))
 
 steps_look : (ms : List Mark) (n : Mark) (s : SlotName) (l : ℕ) → n.step ≡ None → steps_before s l (ms ++ n ∷ []) ≡ steps_before s l ms
 steps_look ms n s l e =
-    let none : is_step_before s l n ≡ false = and_right (same_slot n.slot s) _ (and_right (ltb n.line l) (is_some n.step) (ap (λ (o : Option Step). is_some o) e)) in
+    let none : is_step_before s l n ≡ false =
+    and_right (same_slot n.slot s) _ (and_right (ltb n.line l) (is_some n.step) (ap (λ (o : Option Step). is_some o) e)) in
     steps_push ms n s l ∙ (rw none (omega arith))
 
 steps_other : (ms : List Mark) (n : Mark) (s : SlotName) (l : ℕ) → (n.slot ≡ s → ⊥) → steps_before s l (ms ++ n ∷ []) ≡ steps_before s l ms
@@ -30,7 +33,8 @@ steps_other ms n s l ne =
     let none : is_step_before s l n ≡ false = and_left (same_slot n.slot s) _ (same_slot_no n.slot s ne) in
     steps_push ms n s l ∙ (rw none (omega arith))
 
-steps_more : (ms : List Mark) (n : Mark) (p : Step) (l : ℕ) → n.line < l → n.step ≡ Some p → steps_before n.slot l (ms ++ n ∷ []) ≡ steps_before n.slot l ms + 1
+steps_more : (ms : List Mark) (n : Mark) (p : Step) (l : ℕ) → n.line < l → n.step ≡ Some p →
+    steps_before n.slot l (ms ++ n ∷ []) ≡ steps_before n.slot l ms + 1
 steps_more ms n p l lt e =
     let one : is_step_before n.slot l n ≡ true =
     and_from (same_slot n.slot n.slot) _ (same_slot_yes n.slot n.slot refl)
@@ -38,7 +42,8 @@ steps_more ms n p l lt e =
     steps_push ms n n.slot l ∙ (rw one refl)
 
 -- the order with one mark more
-order_more : (ms : List Mark) (n : Mark) (line : ℕ) → ((m : Mark) → Contains ms m → m.line < line) → n.line ≡ line → AreNumbersInFileOrder ms
+order_more : (ms : List Mark) (n : Mark) (line : ℕ) → ((m : Mark) → Contains ms m → m.line < line) → n.line ≡ line →
+    AreNumbersInFileOrder ms
     → number_of n.found ≡ steps_before n.slot line ms → AreNumbersInFileOrder (ms ++ n ∷ [])
 order_more ms n line rising at o number m c = elim (Contains-push_cases ms n m c) [
   | inl a ↦ o m a ∙ sym (steps_late ms n m.slot m.line (omega (arith, rising m a)))
@@ -91,7 +96,8 @@ numbers_look ms n line word h at none found = record {
 }
 
 -- a line that steps a slot
-pub numbers_step : (ms : List Mark) (n : Mark) (p : Step) (line : ℕ) (word next : SlotName → ℕ) → HasNumbers ms line word → n.line ≡ line → n.step ≡ Some p
+pub numbers_step : (ms : List Mark) (n : Mark) (p : Step) (line : ℕ) (word next : SlotName → ℕ) → HasNumbers ms line word → n.line ≡ line →
+    n.step ≡ Some p
     → n.found ≡ word n.slot → CanStep p n.found → next n.slot ≡ stepped p n.found → ((s : SlotName) → (s ≡ n.slot → ⊥) → next s ≡ word s)
     → HasNumbers (ms ++ n ∷ []) (line + 1) next
 numbers_step ms n p line word next h at step found can here other =

@@ -34,7 +34,8 @@ becomes : (regs : ℕ → Regs) (thread reg : ℕ) (x : Reg) → Becomes (with_r
 becomes regs thread reg x k = ap (λ (row : Regs). row k) (reg_here regs thread reg x)
 
 -- a turn that steps the slot that was seen, and changes one register
-step_turn : (threads : ℕ) (ls : List Line) (ps : List Played) (a : Shown) (thread reg : ℕ) (op : Op) (answer : Answer) (seen : Seen) (p : Step) (old new : Reg) (content : SlotName → ℕ)
+step_turn : (threads : ℕ) (ls : List Line) (ps : List Played) (a : Shown) (thread reg : ℕ) (op : Op) (answer : Answer) (seen : Seen)
+    (p : Step) (old new : Reg) (content : SlotName → ℕ)
     → CanPlay threads ls ps a thread → reg < 64 → a.regs thread reg ≡ old
     → mark_of (played_at a.rules ls thread op answer) ≡ Some (mark_at (length ls + 2) seen (Some p))
     → ((cell r : ℕ) → op ≡ ops.Swap cell r → ⊥)
@@ -43,7 +44,8 @@ step_turn : (threads : ℕ) (ls : List Line) (ps : List Played) (a : Shown) (thr
     → IsUsed (with_slot a.word seen.slot (stepped p seen.found.0)) new
     → Row (facts_of a.rules.version a.usable a.cells) op (a.regs thread) answer (with_reg a.regs thread reg new thread)
     → HasContents (ps ++ played_at a.rules ls thread op answer ∷ []) (with_slot a.word seen.slot (stepped p seen.found.0)) content
-    → LeadsTo threads ls ps thread op answer (record a { regs = with_reg a.regs thread reg new; word = with_slot a.word seen.slot (stepped p seen.found.0); content = content })
+    → LeadsTo threads ls ps thread op answer
+    (record a { regs = with_reg a.regs thread reg new; word = with_slot a.word seen.slot (stepped p seen.found.0); content = content })
 step_turn threads ls ps a thread reg op answer seen p old new content can hr was mark other sized found able balance used row contents =
     let after = with_slot a.word seen.slot (stepped p seen.found.0) in
     let b : Shown = record a { regs = with_reg a.regs thread reg new; word = after; content = content } in
@@ -61,7 +63,8 @@ step_turn threads ls ps a thread reg op answer seen p old new content can hr was
       exchanged = exchanged_other a.cells a.held ps (length ls + 2) x can.told.exchanged other;
       tells = rw mark st;
       contents = contents;
-      handles = handles_step threads a after content thread reg seen.slot p seen.found.0 old new can.told.handles can.among hr was st balance used up;
+      handles = handles_step threads a after content thread reg seen.slot p seen.found.0 old new can.told.handles can.among hr was st
+          balance used up;
     })
 
 -- the word of the slot after its step
@@ -69,15 +72,18 @@ stepped_up : (word : SlotName → ℕ) (s : SlotName) (p : Step) (w : ℕ) → C
 stepped_up word s p w can = omega (arith, at_slot word s (stepped p w), step_up p w can)
 
 -- a record that is no issue and no write
-neither : (x : Played) (op : Op) (seen : Seen) → x.answer ≡ Done seen → x.op ≡ op → ((reg value : ℕ) → op ≡ ops.Write reg value → ⊥) → IsNeither x
+neither : (x : Played) (op : Op) (seen : Seen) → x.answer ≡ Done seen → x.op ≡ op → ((reg value : ℕ) → op ≡ ops.Write reg value → ⊥) →
+    IsNeither x
 neither x op seen e o unwritten = (
   (λ s n h. let bad : Made h.0 h.1 ≡ Done seen = sym h.2 ∙ e in cc),
   (λ s n value h. unwritten h.1 value (sym o ∙ h.2)),
 )
 
 -- the contents over a step that leaves them
-contents_left : (threads : ℕ) (ls : List Line) (ps : List Played) (a : Shown) (thread : ℕ) (op : Op) (seen : Seen) (p : Step) → IsToldTo threads ls ps a
-    → mark_of (played_at a.rules ls thread op (Done seen)) ≡ Some (mark_at (length ls + 2) seen (Some p)) → ((reg value : ℕ) → op ≡ ops.Write reg value → ⊥)
+contents_left : (threads : ℕ) (ls : List Line) (ps : List Played) (a : Shown) (thread : ℕ) (op : Op) (seen : Seen) (p : Step) →
+    IsToldTo threads ls ps a
+    → mark_of (played_at a.rules ls thread op (Done seen)) ≡ Some (mark_at (length ls + 2) seen (Some p)) →
+    ((reg value : ℕ) → op ≡ ops.Write reg value → ⊥)
     → seen.found.0 ≡ a.word seen.slot → CanStep p seen.found.0 → (p ≡ steps.Issue → ⊥)
     → HasContents (ps ++ played_at a.rules ls thread op (Done seen) ∷ []) (with_slot a.word seen.slot (stepped p seen.found.0)) a.content
 contents_left threads ls ps a thread op seen p t mark unwritten found can issue =
@@ -88,7 +94,8 @@ contents_left threads ls ps a thread op seen p t mark unwritten found can issue 
     contents_step ps x (length ls + 2) a.word a.content after a.content seen.slot t.numbers t.contents (found_by a.word x m mark found)
     st.others (λ s ne. refl)
     (λ held.
-    let before : held_of (a.word seen.slot) ≡ 1 = ap held_of (sym found) ∙ held_before p seen.found.0 issue (ap held_of (sym st.next) ∙ held) can in
+    let before : held_of (a.word seen.slot) ≡ 1 = ap held_of (sym found) ∙
+    held_before p seen.found.0 issue (ap held_of (sym st.next) ∙ held) can in
     content_stays ps x a.word a.content after seen.slot seen.found.0 p t.runs t.contents (neither x op seen refl refl unwritten) before st)
     tt
 
@@ -134,7 +141,8 @@ made_goes_on threads ls ps a thread reg partition size seen can hr none le found
     let now = with_slot a.content s 0 in
     let lets = handle_lets threads ls ps a thread reg can hr in
     let c : CanStep steps.Issue seen.found.0 =
-    able threads ls ps a thread can steps.Issue seen found (lets.issues s (ap held_of (sym found) ∙ held) (ap refs_of (sym found) ∙ refs)) in
+    able threads ls ps a thread can steps.Issue seen found
+    (lets.issues s (ap held_of (sym found) ∙ held) (ap refs_of (sym found) ∙ refs)) in
     let st : StepsTo s steps.Issue seen.found.0 a.word after = steps_slot a.word s steps.Issue seen.found.0 found c in
     let m : Mark = mark_at (length ls + 2) seen (Some steps.Issue) in
     let V : ℕ → Type 0 = λ v. IsContent (ps ++ x ∷ []) s (number_of (after s)) v in
@@ -145,10 +153,12 @@ made_goes_on threads ls ps a thread reg partition size seen can hr none le found
     let two : usable_of a.rules.version size ≡ n = cc in
     sym two ∙ sym usable ∙ ap (λ (z : Seen). a.usable z.slot) one)
     found c (issue_balances s seen.found.0 (a.regs thread reg) none held refs) (stepped_up a.word s steps.Issue seen.found.0 c)
-    (alloc_row (a.regs thread reg) (facts_of a.rules.version a.usable a.cells) (a.regs thread) reg size seen (with_reg a.regs thread reg (Own s) thread) none le (becomes a.regs thread reg (Own s)))
+    (alloc_row (a.regs thread reg) (facts_of a.rules.version a.usable a.cells) (a.regs thread) reg size seen
+    (with_reg a.regs thread reg (Own s) thread) none le (becomes a.regs thread reg (Own s)))
     (contents_step ps x (length ls + 2) a.word a.content after now s can.told.numbers can.told.contents (found_by a.word x m refl found)
     st.others (λ t ne. at_other_slot a.content s 0 t ne)
-    (λ h. subst V (sym (at_slot a.content s 0)) (content_made ps x a.word after seen (usable_of a.rules.version size) can.told.runs refl st))
+    (λ h. subst V (sym (at_slot a.content s 0))
+    (content_made ps x a.word after seen (usable_of a.rules.version size) can.told.runs refl st))
     tt)
 
 pub copy_goes_on : CopyGoesOn
@@ -156,10 +166,12 @@ copy_goes_on threads ls ps a thread from to seen can hf ht names none found =
     let s = seen.slot in
     let lets = handle_lets threads ls ps a thread from can hf in
     let c : CanStep steps.Copy seen.found.0 = able threads ls ps a thread can steps.Copy seen found (lets.copies s names) in
-    step_turn threads ls ps a thread to (ops.Copy from to) (Done seen) seen steps.Copy (a.regs thread to) (Ref s) a.content can ht refl refl (λ k r e. cc)
+    step_turn threads ls ps a thread to (ops.Copy from to) (Done seen) seen steps.Copy (a.regs thread to) (Ref s) a.content can ht refl refl
+    (λ k r e. cc)
     (λ u n e. absurd cc)
     found c (copy_balances s seen.found.0 (a.regs thread to) none c.2) (stepped_up a.word s steps.Copy seen.found.0 c)
-    (copy_row (a.regs thread from) s (a.regs thread) to seen (with_reg a.regs thread to (Ref s) thread) names none refl (becomes a.regs thread to (Ref s)))
+    (copy_row (a.regs thread from) s (a.regs thread) to seen (with_reg a.regs thread to (Ref s) thread) names none refl
+    (becomes a.regs thread to (Ref s)))
     (contents_left threads ls ps a thread (ops.Copy from to) seen steps.Copy can.told refl (λ r v e. cc) found c (λ e. cc))
 
 pub reset_goes_on : ResetGoesOn
@@ -168,7 +180,8 @@ reset_goes_on threads ls ps a thread reg seen can hr was found =
     let lets = handle_lets threads ls ps a thread reg can hr in
     let c : CanStep steps.Reset seen.found.0 = able threads ls ps a thread can steps.Reset seen found (lets.resets s was) in
     let R : Reg → Type 0 = λ r. ResetRow r (a.regs thread) reg (Done seen) (with_reg a.regs thread reg Cleared thread) in
-    step_turn threads ls ps a thread reg (ops.Reset reg) (Done seen) seen steps.Reset (Ref s) Cleared a.content can hr was refl (λ k r e. cc)
+    step_turn threads ls ps a thread reg (ops.Reset reg) (Done seen) seen steps.Reset (Ref s) Cleared a.content can hr was refl
+    (λ k r e. cc)
     (λ u n e. absurd cc)
     found c (reset_balances s seen.found.0 c) tt
     (subst R (sym was) (seen, refl, refl, becomes a.regs thread reg Cleared))
@@ -189,10 +202,11 @@ free_goes_on threads ls ps a thread reg seen can hr was found =
 -- registers of which one is set to what it holds
 set_same : (regs : ℕ → Regs) (thread reg : ℕ) (x : Reg) → regs thread reg ≡ x → (t r : ℕ) → with_reg regs thread reg x t r ≡ regs t r
 set_same regs thread reg x was t r = elim (cases_eq t thread) [
-  | inl e ↦ ap (λ k. with_reg regs thread reg x k r) e ∙ elim (cases_eq r reg) as (λ h. with_reg regs thread reg x thread r ≡ regs thread r) [
-    | inl f ↦ ap (λ k. with_reg regs thread reg x thread k) f ∙ at_reg regs thread reg x ∙ sym was ∙ ap (regs thread) (sym f)
-    | inr ne ↦ at_other regs thread reg x r ne
-  ] ∙ ap (λ k. regs k r) (sym e)
+  | inl e ↦ ap (λ k. with_reg regs thread reg x k r) e ∙
+      elim (cases_eq r reg) as (λ h. with_reg regs thread reg x thread r ≡ regs thread r) [
+        | inl f ↦ ap (λ k. with_reg regs thread reg x thread k) f ∙ at_reg regs thread reg x ∙ sym was ∙ ap (regs thread) (sym f)
+        | inr ne ↦ at_other regs thread reg x r ne
+      ] ∙ ap (λ k. regs k r) (sym e)
   | inr ne ↦ ap (λ (row : Regs). row r) (reg_there regs thread reg x t ne)
 ]
 
@@ -210,7 +224,8 @@ write_goes_on threads ls ps a thread reg value seen can hr was found alone =
     let m : Mark = mark_at (length ls + 2) seen (Some steps.Write) in
     let V : ℕ → Type 0 = λ v. IsContent (ps ++ x ∷ []) s (number_of (after s)) v in
     let R : Reg → Type 0 = λ r. WriteRow r (a.regs thread) (Done seen) (with_reg a.regs thread reg (Own s) thread) in
-    let L : AllRegs → Type 0 = λ regs. LeadsTo threads ls ps thread op (Done seen) (record a { regs = regs; word = after; content = now }) in
+    let L : AllRegs → Type 0 =
+    λ regs. LeadsTo threads ls ps thread op (Done seen) (record a { regs = regs; word = after; content = now }) in
     let same : with_reg a.regs thread reg (Own s) ≡ a.regs = fun_ext (λ t. fun_ext (λ r. set_same a.regs thread reg (Own s) was t r)) in
     subst L same (step_turn threads ls ps a thread reg op (Done seen) seen steps.Write (Own s) (Own s) now can hr was refl (λ k r e. cc)
     (λ u n e. absurd cc)

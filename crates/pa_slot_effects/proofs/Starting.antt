@@ -32,7 +32,11 @@ over_none (suc n) f h = omega (arith, over_none n f h, h n)
 amount_none : (threads : ℕ) (f : Reg → ℕ) → f Empty ≡ 0 → amount threads f no_regs (λ k. Nothing) ≡ 0
 amount_none threads f e =
     let row : ℕ → ℕ = λ t. over 64 (λ r. f (no_regs t r)) in
-    omega (arith, over_none threads row (λ t. over_none 64 (λ r. f (no_regs t r)) (λ r. e)), over_none 64 (λ k. f (reg_of Nothing)) (λ k. e))
+    omega (
+      arith,
+      over_none threads row (λ t. over_none 64 (λ r. f (no_regs t r)) (λ r. e)),
+      over_none 64 (λ k. f (reg_of Nothing)) (λ k. e),
+    )
 
 pub starts_told : StartsTold
 starts_told threads rules = record {
@@ -75,7 +79,8 @@ changed : (threads : ℕ) (ls : List Line) (ps : List Played) (a : Shown) (conte
     → IsToldTo threads ls ps (record a { content = content; usable = usable })
 changed threads ls ps a content usable h same sizes = record {
   lines = h.lines;
-  rows = rows_on a.rules.version a.word a.word a.usable usable a.cells a.cells (record { used = λ s u. u; sizes = sizes; exchanges = λ k j e i. i }) no_regs ps a.regs h.rows;
+  rows = rows_on a.rules.version a.word a.word a.usable usable a.cells a.cells
+      (record { used = λ s u. u; sizes = sizes; exchanges = λ k j e i. i }) no_regs ps a.regs h.rows;
   sized = λ x seen n c e.
       let made : 0 < a.word seen.slot = made_used ps a.word x seen n h.runs c e in
       h.sized x seen n c e ∙ sym (sizes seen.slot made);
@@ -83,7 +88,8 @@ changed threads ls ps a content usable h same sizes = record {
   runs = h.runs;
   numbers = h.numbers;
   contents = record {
-    held = λ s held. let P : ℕ → Type 0 = λ v. IsContent ps s (number_of (a.word s)) v in subst P (sym (same s held)) (h.contents.held s held);
+    held = λ s held. let P : ℕ → Type 0 = λ v. IsContent ps s (number_of (a.word s)) v in
+        subst P (sym (same s held)) (h.contents.held s held);
     read = h.contents.read;
   };
   used = h.used;
@@ -96,10 +102,12 @@ like_is_told threads ls ps a b h like =
     let held : b.held ≡ a.held = fun_ext like.held in
     let cells : b.cells ≡ a.cells = fun_ext like.cells in
     let word : b.word ≡ a.word = fun_ext like.word in
-    let R : AllRegs → Type 0 = λ x. IsToldTo threads ls ps (record b { rules = a.rules; regs = x; held = a.held; cells = a.cells; word = a.word }) in
+    let R : AllRegs → Type 0 =
+    λ x. IsToldTo threads ls ps (record b { rules = a.rules; regs = x; held = a.held; cells = a.cells; word = a.word }) in
     let H : (ℕ → Held) → Type 0 = λ x. IsToldTo threads ls ps (record b { rules = a.rules; held = x; cells = a.cells; word = a.word }) in
     let C : (ℕ → List CellEntry) → Type 0 = λ x. IsToldTo threads ls ps (record b { rules = a.rules; cells = x; word = a.word }) in
     let W : (SlotName → ℕ) → Type 0 = λ x. IsToldTo threads ls ps (record b { rules = a.rules; word = x }) in
     let U : Rules → Type 0 = λ x. IsToldTo threads ls ps (record b { rules = x }) in
     subst U (sym like.rules)
-    (subst W (sym word) (subst C (sym cells) (subst H (sym held) (subst R (sym regs) (changed threads ls ps a b.content b.usable h like.content like.usable)))))
+    (subst W (sym word) (subst C (sym cells)
+    (subst H (sym held) (subst R (sym regs) (changed threads ls ps a b.content b.usable h like.content like.usable)))))

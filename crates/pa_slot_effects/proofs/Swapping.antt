@@ -41,7 +41,8 @@ moved_used word Cleared h = tt
 
 amount_swap : (threads : ℕ) (f : Reg → ℕ) (a : Shown) (thread cell reg : ℕ) → thread < threads → cell < 64 → reg < 64
     → f (reg_of (handle_of (a.regs thread reg))) ≡ f (a.regs thread reg)
-    → amount threads f (with_reg a.regs thread reg (reg_of (a.held cell))) (with_held a.held cell (handle_of (a.regs thread reg))) ≡ amount threads f a.regs a.held
+    → amount threads f (with_reg a.regs thread reg (reg_of (a.held cell)))
+    (with_held a.held cell (handle_of (a.regs thread reg))) ≡ amount threads f a.regs a.held
 amount_swap threads f a thread cell reg ht hk hr same =
     let one = amount_reg threads f a.regs a.held thread reg (reg_of (a.held cell)) ht hr in
     let two = amount_cell threads f (with_reg a.regs thread reg (reg_of (a.held cell))) a.held cell (handle_of (a.regs thread reg)) hk in
@@ -92,7 +93,8 @@ swap_goes_on threads ls ps a thread cell reg can hk hr =
       usable = refl;
       sized = λ u n f. absurd cc;
       stand = grown_kept cell e a.cells b.cells grows;
-      exchanged = exchanged_more a.cells b.cells a.held b.held ps line x cell reg e can.told.exchanged grows refl (at_held a.held cell (handle_of (a.regs thread reg)))
+      exchanged = exchanged_more a.cells b.cells a.held b.held ps line x cell reg e can.told.exchanged grows refl
+          (at_held a.held cell (handle_of (a.regs thread reg)))
           (λ k ne. at_held_other a.held cell (handle_of (a.regs thread reg)) k ne) refl refl refl refl;
       tells = refl;
       contents = contents_same ps x line a.word a.content can.told.numbers can.told.contents finds tt;

@@ -44,7 +44,8 @@ pub record HasWords (ms : List Mark) (line : ℕ) (word : SlotName → ℕ) : Ty
   pub runs : HasRuns ms word
   pub numbers : HasNumbers ms line word
 
-words_by : (o : Option Step) (m : Mark) (ms : List Mark) (line : ℕ) (word after : SlotName → ℕ) → m.step ≡ o → HasWords ms line word → m.line ≡ line
+words_by : (o : Option Step) (m : Mark) (ms : List Mark) (line : ℕ) (word after : SlotName → ℕ) → m.step ≡ o → HasWords ms line word →
+    m.line ≡ line
     → TellsBy o m word after → HasWords (ms ++ m ∷ []) (line + 1) after
 words_by None m ms line word after step h at (found, used, same) =
     let before : (k : Mark) → Contains ms k → k.line < m.line = λ k c. omega (arith, h.numbers.rising k c, at) in
@@ -84,11 +85,13 @@ pub stays_used : (o : Option Mark) (word after : SlotName → ℕ) → Tells o w
 stays_used None word after t s h = omega (arith, h, ap (λ (w : SlotName → ℕ). w s) t)
 stays_used (Some m) word after t s h = up_by m.step m word after t s h
 
-looks_by : (o : Option Step) (m : Mark) (word after : SlotName → ℕ) → TellsBy o m word after → o ≡ None → 0 < held_of m.found + refs_of m.found
+looks_by : (o : Option Step) (m : Mark) (word after : SlotName → ℕ) → TellsBy o m word after → o ≡ None →
+    0 < held_of m.found + refs_of m.found
 looks_by None m word after t e = t.1
 looks_by (Some p) m word after t e = absurd cc
 
-looks_used : (o : Option Mark) (word after : SlotName → ℕ) → Tells o word after → (m : Mark) → o ≡ Some m → m.step ≡ None → 0 < held_of m.found + refs_of m.found
+looks_used : (o : Option Mark) (word after : SlotName → ℕ) → Tells o word after → (m : Mark) → o ≡ Some m → m.step ≡ None →
+    0 < held_of m.found + refs_of m.found
 looks_used None word after t m e none = absurd cc
 looks_used (Some n) word after t m e none =
     let same : n ≡ m = cc in
@@ -108,7 +111,8 @@ pub record IsTurn (threads : ℕ) (ps : List Played) (x : Played) (a b : Shown) 
   pub contents : HasContents (ps ++ x ∷ []) b.word b.content
   pub handles : AreHandles threads b
 
-pub turn_extends : (threads : ℕ) (ls : List Line) (ps : List Played) (thread : ℕ) (op : Op) (answer : Answer) (a b : Shown) → IsToldTo threads ls ps a
+pub turn_extends : (threads : ℕ) (ls : List Line) (ps : List Played) (thread : ℕ) (op : Op) (answer : Answer) (a b : Shown) →
+    IsToldTo threads ls ps a
     → IsTurn threads ps (played_at b.rules ls thread op answer) a b → LeadsTo threads ls ps thread op answer b
 turn_extends threads ls ps thread op answer a b h t =
     let x = played_at b.rules ls thread op answer in
@@ -117,15 +121,18 @@ turn_extends threads ls ps thread op answer a b h t =
     let later : length (ls ++ Do thread op ∷ []) + 2 ≡ line + 1 = omega (arith, length-append ls (Do thread op ∷ [])) in
     let up = stays_used (mark_of x) a.word b.word t.tells in
     let words : HasWords (with_mark (marks_of ps) (mark_of x)) (line + 1) b.word =
-    words_more (mark_of x) (marks_of ps) line a.word b.word (record { runs = h.runs; numbers = h.numbers }) (answer_line line op answer) t.tells in
+    words_more (mark_of x) (marks_of ps) line a.word b.word (record { runs = h.runs; numbers = h.numbers })
+    (answer_line line op answer) t.tells in
     let W : List Mark → Type 0 = λ ms. HasWords ms (line + 1) b.word in
     let all : HasWords (marks_of qs) (line + 1) b.word = subst W (sym (marks_push ps x)) words in
     let rows : RowsNamed b.rules.version b.word a.usable b.cells no_regs ps a.regs =
     subst (λ (k : Rules). RowsNamed k.version b.word a.usable b.cells no_regs ps a.regs) (sym t.rules)
-    (rows_on a.rules.version a.word b.word a.usable a.usable a.cells b.cells (record { used = up; sizes = λ s u. refl; exchanges = t.stand }) no_regs ps a.regs h.rows) in
+    (rows_on a.rules.version a.word b.word a.usable a.usable a.cells b.cells
+    (record { used = up; sizes = λ s u. refl; exchanges = t.stand }) no_regs ps a.regs h.rows) in
     let R : AllRegs → Type 0 = λ end. RowsNamed b.rules.version b.word a.usable b.cells no_regs qs end in
     let more : R b.regs = subst R (sym t.regs)
-    (rows_push b.rules.version b.word a.usable b.cells no_regs ps a.regs x (b.regs thread) rows (λ r. used_on a.word b.word up (a.regs thread r) (h.handles.named thread r)) t.row) in
+    (rows_push b.rules.version b.word a.usable b.cells no_regs ps a.regs x (b.regs thread) rows
+    (λ r. used_on a.word b.word up (a.regs thread r) (h.handles.named thread r)) t.row) in
     let U : (SlotName → ℕ) → Type 0 = λ u. RowsNamed b.rules.version b.word u b.cells no_regs qs b.regs in
     let S : (SlotName → ℕ) → Type 0 = λ u. AreSized u qs in
     let X : ℕ → Type 0 = λ l. HasExchanged b.cells b.held qs l in

@@ -44,7 +44,8 @@ used_made ps word s runs up =
     let k = runs.path s in
     first_made ps s k.0 (word s) k.1 up
 
-pub made_used : (ps : List Played) (word : SlotName → ℕ) (x : Played) (seen : Seen) (n : ℕ) → HasRuns (marks_of ps) word → Contains ps x → x.answer ≡ Made seen n
+pub made_used : (ps : List Played) (word : SlotName → ℕ) (x : Played) (seen : Seen) (n : ℕ) → HasRuns (marks_of ps) word → Contains ps x →
+    x.answer ≡ Made seen n
     → 0 < word seen.slot
 made_used ps word x seen n runs c e =
     let m : Mark = mark_at x.line seen (Some steps.Issue) in
@@ -79,12 +80,14 @@ points_few s Cleared = omega arith
 module _ (threads : ℕ) (a : Shown) (h : AreHandles threads a) (thread reg : ℕ) (ht : thread < threads) (hr : reg < 64) where
   pub own_counts : (s : SlotName) → a.regs thread reg ≡ Own s → held_of (a.word s) ≡ 1
   own_counts s e =
-      let part : owns s (a.regs thread reg) ≤ amount threads (owns s) a.regs a.held = amount_part threads (owns s) a.regs a.held thread reg ht hr in
+      let part : owns s (a.regs thread reg) ≤ amount threads (owns s) a.regs a.held =
+      amount_part threads (owns s) a.regs a.held thread reg ht hr in
       omega (arith, part, ap (owns s) e, owns_one s, h.owners s)
 
   pub ref_counts : (s : SlotName) → a.regs thread reg ≡ Ref s → 0 < refs_of (a.word s)
   ref_counts s e =
-      let part : points s (a.regs thread reg) ≤ amount threads (points s) a.regs a.held = amount_part threads (points s) a.regs a.held thread reg ht hr in
+      let part : points s (a.regs thread reg) ≤ amount threads (points s) a.regs a.held =
+      amount_part threads (points s) a.regs a.held thread reg ht hr in
       omega (arith, part, ap (points s) e, points_one s, h.pointers s)
 
   handle_counts : (s : SlotName) (r : Reg) → a.regs thread reg ≡ r → Names s r → 0 < held_of (a.word s) + refs_of (a.word s)

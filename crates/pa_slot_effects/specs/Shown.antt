@@ -10,8 +10,8 @@ use Rattle.pa_trace.specs.Limits.{register_count, cell_count}
 use Rattle.pa_rules.specs.declared.register.Register.TheVariants.{Empty, Own, Ref, Freed, Cleared}
 use Rattle.pa_rules.specs.Registers.{Reg, AllRegs, reg_of, with, with_thread}
 
--- the rules by which the lines are played, the registers of all threads, what each cell holds, each cell's history, and what each
--- slot has
+-- the rules by which the lines are played, the registers of all threads, what each cell holds,
+-- each cell's history, and what each slot has
 pub record Shown : Type 0 where
   pub rules : Rules
   pub regs : AllRegs

@@ -10,7 +10,7 @@ use Rattle.pa_trace.specs.declared.script.Line.TheVariants.{Do}
 use Rattle.pa_trace.specs.declared.script.Rules.{Rules}
 use Rattle.pa_record.specs.declared.entry.Seen.{Seen}
 use Rattle.pa_record.specs.declared.entry.Answer.{Answer}
-use Rattle.pa_record.specs.declared.entry.Answer.TheVariants.{Made, Done, Value, Dangling, SecondFree, NotOwner, StaleReset, StaleUse, Nothing, Filled, NotRef, Shared, OutOfRange, TooLarge, Full, Swapped, Purged}
+use Rattle.pa_record.specs.declared.entry.Answer.TheVariants.{Made, Done, Value, Dangling, SecondFree, NotOwner, StaleReset, StaleUse, Nothing, Filled, NotRef, Shared, OutOfRange, TooLarge, Full, Swapped, Purged, Uncounted}
 use Rattle.pa_record.specs.declared.history.CellEntry.{CellEntry}
 use Rattle.pa_trace.specs.Limits.{most_threads}
 use Rattle.pa_rules.specs.declared.register.Register.TheVariants.{Empty, Own, Ref, Freed, Cleared}
@@ -122,6 +122,7 @@ TellsNone TooLarge = Unit {0}
 TellsNone (Full entry) = Unit {0}
 TellsNone (Swapped entry) = ⊥
 TellsNone (Purged slots) = Unit {0}
+TellsNone Uncounted = Unit {0}
 
 -- the answer looked at this slot and found this word, and what it says was read is the slot's content, or poison
 abbrev pub Looks : Shown → Seen → Answer → Type 0
@@ -144,3 +145,4 @@ Looks a s TooLarge = ⊥
 Looks a s (Full entry) = ⊥
 Looks a s (Swapped entry) = ⊥
 Looks a s (Purged slots) = ⊥
+Looks a s Uncounted = ⊥

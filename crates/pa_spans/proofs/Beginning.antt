@@ -15,7 +15,8 @@ new_head k state.Empty small = get_or-replicate class_count k 0 0 small
 new_head k state.Decommitted small = get_or-replicate class_count k 0 0 small
 new_head k state.Full small = refl
 
-pub new_lists_stand : (spans : ℕ → Span) (has : ℕ → Type 0) → (has 0 → ⊥) → ((u : ℕ) → has u → IsOutside (spans u)) → Stand no_lists spans has
+pub new_lists_stand : (spans : ℕ → Span) (has : ℕ → Type 0) → (has 0 → ⊥) → ((u : ℕ) → has u → IsOutside (spans u)) →
+    Stand no_lists spans has
 new_lists_stand spans has none outside =
     let empty : (k : ℕ) (e : State) → HasList e → (u : ℕ) → IsMember spans has k e u → ⊥ =
     λ k e listed u m. listed_used (spans u) e listed m.state_is (outside u m.is_had).0 in

@@ -26,7 +26,8 @@ no_head l class state.Decommitted never = absurd (never tt)
 no_head l class state.Full never = refl
 
 -- the head is none, or a member of a list
-pub head_is_member : (l : SpanListParts) (spans : ℕ → Span) (has : ℕ → Type 0) → Stand l spans has → (class : ℕ) (a : State) → class < class_count →
+pub head_is_member : (l : SpanListParts) (spans : ℕ → Span) (has : ℕ → Type 0) → Stand l spans has → (class : ℕ) (a : State) →
+    class < class_count →
     (list_head l class a ≡ 0) ⊎ (IsMember spans has class a (list_head l class a) × HasList a)
 head_is_member l spans has st class a small = elim (listed_or a) [
   | inl listed ↦ elim (st.heads class a small listed) [
@@ -44,12 +45,14 @@ record Enters (l : SpanListParts) (spans after : ℕ → Span) (has : ℕ → Ty
   none : has 0 → ⊥
   small : s.class < class_count
 
-turn_at : (l : SpanListParts) (spans after : ℕ → Span) (has : ℕ → Type 0) (x : ℕ) (s : Span) (to : State) → Enters l spans after has x s to →
+turn_at : (l : SpanListParts) (spans after : ℕ → Span) (has : ℕ → Type 0) (x : ℕ) (s : Span) (to : State) →
+    Enters l spans after has x s to →
     (u : ℕ) → u ≡ x → (after u).turn ≡ l.turn
 turn_at l spans after has x s to en u e = ap (λ v. (after v).turn) e ∙ ap (λ (t : Span). t.turn) en.fronted_is.is
 
 -- members of another list
-members_stay : (l : SpanListParts) (spans after : ℕ → Span) (has : ℕ → Type 0) (x : ℕ) (s : Span) (to : State) → Enters l spans after has x s to →
+members_stay : (l : SpanListParts) (spans after : ℕ → Span) (has : ℕ → Type 0) (x : ℕ) (s : Span) (to : State) →
+    Enters l spans after has x s to →
     (k : ℕ) (e : State) (u : ℕ) → IsMember spans (others has x) k e u → IsMember after has k e u
 members_stay l spans after has x s to en k e u m = record {
   is_had = m.is_had.0;
@@ -57,7 +60,8 @@ members_stay l spans after has x s to en k e u m = record {
   state_is = en.fronted_is.state u m.is_had.1 ∙ m.state_is;
 }
 
-members_were : (l : SpanListParts) (spans after : ℕ → Span) (has : ℕ → Type 0) (x : ℕ) (s : Span) (to : State) → Enters l spans after has x s to →
+members_were : (l : SpanListParts) (spans after : ℕ → Span) (has : ℕ → Type 0) (x : ℕ) (s : Span) (to : State) →
+    Enters l spans after has x s to →
     (k : ℕ) (e : State) (u : ℕ) → (u ≡ x → ⊥) → IsMember after has k e u → IsMember spans (others has x) k e u
 members_were l spans after has x s to en k e u never m = record {
   is_had = (m.is_had, never);
@@ -65,13 +69,18 @@ members_were l spans after has x s to en k e u never m = record {
   state_is = sym (en.fronted_is.state u never) ∙ m.state_is;
 }
 
-x_is_of : (l : SpanListParts) (spans after : ℕ → Span) (has : ℕ → Type 0) (x : ℕ) (s : Span) (to : State) → Enters l spans after has x s to →
+x_is_of : (l : SpanListParts) (spans after : ℕ → Span) (has : ℕ → Type 0) (x : ℕ) (s : Span) (to : State) →
+    Enters l spans after has x s to →
     (k : ℕ) (e : State) (u : ℕ) → u ≡ x → IsMember after has k e u → (k ≡ s.class) × (e ≡ to)
 x_is_of l spans after has x s to en k e u same m =
-    let f = en.fronted_is in
-    (sym m.class_is ∙ (ap (λ v. (after v).class) same ∙ ap (λ (t : Span). t.class) f.is), sym m.state_is ∙ (ap (λ v. (after v).state) same ∙ ap (λ (t : Span). t.state) f.is))
+    let f = en.fronted_is in (
+      sym m.class_is ∙ (ap (λ v. (after v).class) same ∙ ap (λ (t : Span). t.class) f.is),
+      sym m.state_is ∙
+          (ap (λ v. (after v).state) same ∙ ap (λ (t : Span). t.state) f.is),
+    )
 
-other_list : (l : SpanListParts) (spans after : ℕ → Span) (has : ℕ → Type 0) (x : ℕ) (s : Span) (to : State) → Enters l spans after has x s to →
+other_list : (l : SpanListParts) (spans after : ℕ → Span) (has : ℕ → Type 0) (x : ℕ) (s : Span) (to : State) →
+    Enters l spans after has x s to →
     (k : ℕ) (e : State) → HasList e → ((k ≡ s.class) × (e ≡ to) → ⊥) → AreInTurn (IsMember after has k e) after
 other_list l spans after has x s to en k e listed away =
     let st = en.stand in let f = en.fronted_is in let head = list_head l s.class to in
@@ -99,21 +108,30 @@ other_list l spans after has x s to en k e listed away =
     record {
       some = λ m. is.some (from 0 m);
       differ = λ u v a b same. is.differ u v (from u a) (from v b) (sym (f.turn_is u (apart u a)) ∙ (same ∙ f.turn_is v (apart v b)));
-      next = λ u m. near_same M N (λ v w. (spans v).turn < (spans w).turn) (λ v w. (after v).turn < (after w).turn) rising u (after u).next (from u m)
+      next = λ u m. near_same M N (λ v w. (spans v).turn < (spans w).turn) (λ v w. (after v).turn < (after w).turn) rising u (after u).next
+          (from u m)
           (subst (IsNextByTurn M (λ v. (spans v).turn) u) (sym (f.next u (apart u m))) (is.next u (from u m)));
-      previous = λ u m. near_same M N (λ v w. (spans w).turn < (spans v).turn) (λ v w. (after w).turn < (after v).turn) falling u (after u).previous (from u m)
-          (subst (IsPreviousByTurn M (λ v. (spans v).turn) u) (sym (f.previous_else u (apart u m) (not_head u (from u m)))) (is.previous u (from u m)));
+      previous = λ u m. near_same M N (λ v w. (spans w).turn < (spans v).turn) (λ v w. (after w).turn < (after v).turn) falling u
+          (after u).previous (from u m)
+          (subst (IsPreviousByTurn M (λ v. (spans v).turn) u) (sym (f.previous_else u (apart u m) (not_head u (from u m))))
+          (is.previous u (from u m)));
     }
 
 -- the list that x enters
-own_list : (l : SpanListParts) (spans after : ℕ → Span) (has : ℕ → Type 0) (x : ℕ) (s : Span) (to : State) → Enters l spans after has x s to →
+own_list : (l : SpanListParts) (spans after : ℕ → Span) (has : ℕ → Type 0) (x : ℕ) (s : Span) (to : State) →
+    Enters l spans after has x s to →
     HasList to → AreInTurn (IsMember after has s.class to) after
 own_list l spans after has x s to en listed =
     let st = en.stand in let f = en.fronted_is in let head = list_head l s.class to in
     let M = IsMember spans (others has x) s.class to in let N = IsMember after has s.class to in
     let P : ℕ → Type 0 = λ v. M v ⊎ (v ≡ x) in let turn : ℕ → ℕ = λ v. (after v).turn in
     let is = st.lists s.class to listed in
-    let x_is : N x = record { is_had = en.is_had; class_is = ap (λ (t : Span). t.class) f.is; state_is = ap (λ (t : Span). t.state) f.is } in
+    let x_is : N x = record {
+      is_had = en.is_had;
+      class_is = ap (λ (t : Span). t.class) f.is;
+      state_is =
+          ap (λ (t : Span). t.state) f.is;
+    } in
     let onto : (u : ℕ) → P u → N u = λ u m. elim m [
       | inl a ↦ members_stay l spans after has x s to en s.class to u a
       | inr same ↦ subst N (sym same) x_is
@@ -139,18 +157,25 @@ own_list l spans after has x s to en listed =
       before = λ u v a b c. let d = f.turn_is u a.is_had.1 in let g = f.turn_is v b.is_had.1 in omega arith;
       back = λ u v a b c. let d = f.turn_is u a.is_had.1 in let g = f.turn_is v b.is_had.1 in omega arith;
     } in
-    let top : IsHead M turn head = head_same M M (λ v. (spans v).turn) turn (λ u m. m) (λ u m. m) (λ u m. sym (f.turn_is u m.is_had.1)) head (st.heads s.class to en.small listed) in
+    let top : IsHead M turn head =
+    head_same M M (λ v. (spans v).turn) turn (λ u m. m) (λ u m. m) (λ u m. sym (f.turn_is u m.is_had.1)) head
+    (st.heads s.class to en.small listed) in
     let next_of : (u : ℕ) → P u → IsNextByTurn P turn u (after u).next = λ u m. elim m [
-      | inl a ↦ subst (IsNextByTurn P turn u) (sym (f.next u a.is_had.1)) (near_beyond M (λ v w. turn v < turn w) x (λ v b c. let d = greatest v b in omega arith)
-          u (spans u).next a (near_same M M (λ v w. (spans v).turn < (spans w).turn) (λ v w. turn v < turn w) rising u (spans u).next a (is.next u a)))
-      | inr same ↦ subst (λ v. IsNextByTurn P turn v (after v).next) (sym same) (subst (IsNextByTurn P turn x) (sym (ap (λ (t : Span). t.next) f.is)) (next_is_head M turn x head greatest top))
+      | inl a ↦ subst (IsNextByTurn P turn u) (sym (f.next u a.is_had.1))
+          (near_beyond M (λ v w. turn v < turn w) x (λ v b c. let d = greatest v b in omega arith)
+          u (spans u).next a (near_same M M (λ v w. (spans v).turn < (spans w).turn) (λ v w. turn v < turn w) rising u (spans u).next a
+          (is.next u a)))
+      | inr same ↦ subst (λ v. IsNextByTurn P turn v (after v).next) (sym same)
+          (subst (IsNextByTurn P turn x) (sym (ap (λ (t : Span). t.next) f.is)) (next_is_head M turn x head greatest top))
     ] in
     let previous_of : (u : ℕ) → P u → IsPreviousByTurn P turn u (after u).previous = λ u m. elim m [
       | inl a ↦ elim (eqb_tells u head) [
         | inl w ↦ subst (IsPreviousByTurn P turn u) (sym (f.previous_here u a.is_had.1 (λ z. is.some (subst M z a)) w.1))
             (subst (λ v. IsPreviousByTurn P turn v x) (sym w.1) (head_is_after M turn x head greatest top (subst M w.1 a)))
-        | inr w ↦ subst (IsPreviousByTurn P turn u) (sym (f.previous_else u a.is_had.1 w.1)) (previous_stays M turn x head greatest differ top u (spans u).previous a w.1
-            (near_same M M (λ v w. (spans w).turn < (spans v).turn) (λ v w. turn w < turn v) falling u (spans u).previous a (is.previous u a)))
+        | inr w ↦ subst (IsPreviousByTurn P turn u) (sym (f.previous_else u a.is_had.1 w.1))
+            (previous_stays M turn x head greatest differ top u (spans u).previous a w.1
+            (near_same M M (λ v w. (spans w).turn < (spans v).turn) (λ v w. turn w < turn v) falling u (spans u).previous a
+            (is.previous u a)))
       ]
       | inr same ↦ subst (λ v. IsPreviousByTurn P turn v (after v).previous) (sym same)
           (subst (IsPreviousByTurn P turn x) (sym (ap (λ (t : Span). t.previous) f.is)) (none_is_previous M turn x greatest))
@@ -168,30 +193,42 @@ own_list l spans after has x s to en listed =
         ]
       ];
       next = λ u m. near_same P N (λ v w. turn v < turn w) (λ v w. turn v < turn w)
-          (record { to = onto; from = from; before = λ v w a b c. c; back = λ v w a b c. c }) u (after u).next (from u m) (next_of u (from u m));
+          (record { to = onto; from = from; before = λ v w a b c. c; back = λ v w a b c. c }) u (after u).next (from u m)
+          (next_of u (from u m));
       previous = λ u m. near_same P N (λ v w. turn w < turn v) (λ v w. turn w < turn v)
-          (record { to = onto; from = from; before = λ v w a b c. c; back = λ v w a b c. c }) u (after u).previous (from u m) (previous_of u (from u m));
+          (record { to = onto; from = from; before = λ v w a b c. c; back = λ v w a b c. c }) u (after u).previous (from u m)
+          (previous_of u (from u m));
     }
 
-list_entered : (l : SpanListParts) (spans after : ℕ → Span) (has : ℕ → Type 0) (x : ℕ) (s : Span) (to : State) → Enters l spans after has x s to →
+list_entered : (l : SpanListParts) (spans after : ℕ → Span) (has : ℕ → Type 0) (x : ℕ) (s : Span) (to : State) →
+    Enters l spans after has x s to →
     (k : ℕ) (e : State) → HasList e → AreInTurn (IsMember after has k e) after
 list_entered l spans after has x s to en k e listed = elim (lists_tell k s.class e to) [
-  | inl w ↦ subst (λ c. AreInTurn (IsMember after has c e) after) (sym w.0) (subst (λ a. AreInTurn (IsMember after has s.class a) after) (sym w.1)
+  | inl w ↦ subst (λ c. AreInTurn (IsMember after has c e) after) (sym w.0)
+      (subst (λ a. AreInTurn (IsMember after has s.class a) after) (sym w.1)
       (own_list l spans after has x s to en (subst HasList w.1 listed)))
   | inr w ↦ other_list l spans after has x s to en k e listed w
 ]
 
 -- the head of each list
-head_entered : (l : SpanListParts) (spans after : ℕ → Span) (has : ℕ → Type 0) (x : ℕ) (s : Span) (to : State) → Enters l spans after has x s to →
-    (k : ℕ) (e : State) → k < class_count → HasList e → IsHead (IsMember after has k e) (λ v. (after v).turn) (list_head (with_head s.class to x l) k e)
+head_entered : (l : SpanListParts) (spans after : ℕ → Span) (has : ℕ → Type 0) (x : ℕ) (s : Span) (to : State) →
+    Enters l spans after has x s to →
+    (k : ℕ) (e : State) → k < class_count → HasList e →
+    IsHead (IsMember after has k e) (λ v. (after v).turn) (list_head (with_head s.class to x l) k e)
 head_entered l spans after has x s to en k e small listed =
     let st = en.stand in let f = en.fronted_is in
     let M = IsMember spans (others has x) k e in let N = IsMember after has k e in let turn : ℕ → ℕ = λ v. (after v).turn in
     elim (lists_tell k s.class e to) [
       | inl w ↦
           let is_x : list_head (with_head s.class to x l) k e ≡ x =
-          subst (λ c. list_head (with_head c to x l) k e ≡ x) w.0 (subst (λ a. list_head (with_head k a x l) k e ≡ x) w.1 (head_set l k e x st.long small listed)) in
-          let x_is : N x = record { is_had = en.is_had; class_is = ap (λ (t : Span). t.class) f.is ∙ sym w.0; state_is = ap (λ (t : Span). t.state) f.is ∙ sym w.1 } in
+          subst (λ c. list_head (with_head c to x l) k e ≡ x) w.0
+          (subst (λ a. list_head (with_head k a x l) k e ≡ x) w.1 (head_set l k e x st.long small listed)) in
+          let x_is : N x = record {
+            is_had = en.is_had;
+            class_is = ap (λ (t : Span). t.class) f.is ∙
+                sym w.0;
+            state_is = ap (λ (t : Span). t.state) f.is ∙ sym w.1;
+          } in
           subst (IsHead N turn) (sym is_x) (inr (
             x_is,
             λ v m. elim (eqb_tells v x) [
@@ -209,8 +246,10 @@ head_entered l spans after has x s to en k e small listed =
     ]
 
 -- the lists stand with x
-pub put_in_front : (l : SpanListParts) (spans : ℕ → Span) (has : ℕ → Type 0) (x : ℕ) (s : Span) (to : State) → Stand l spans (λ u. has u × (u ≡ x → ⊥)) →
-    has x → (has 0 → ⊥) → s.class < class_count → Stand (lists_with x s.class to l) (in_front x s to (list_head l s.class to) l.turn spans) has
+pub put_in_front : (l : SpanListParts) (spans : ℕ → Span) (has : ℕ → Type 0) (x : ℕ) (s : Span) (to : State) →
+    Stand l spans (λ u. has u × (u ≡ x → ⊥)) →
+    has x → (has 0 → ⊥) → s.class < class_count →
+    Stand (lists_with x s.class to l) (in_front x s to (list_head l s.class to) l.turn spans) has
 put_in_front l spans has x s to st isx none small =
     let head = list_head l s.class to in let after = in_front x s to head l.turn spans in
     let of_head = head_is_member l spans (others has x) st s.class to small in
@@ -242,7 +281,8 @@ put_in_front l spans has x s to st isx none small =
       ];
       alone = λ u a never. elim (eqb_tells u x) [
         | inl w ↦
-            let unlisted : HasList to → ⊥ = λ z. never (subst HasList (sym (ap (λ v. (after v).state) w.1 ∙ ap (λ (t : Span). t.state) f.is)) z) in (
+            let unlisted : HasList to →
+            ⊥ = λ z. never (subst HasList (sym (ap (λ v. (after v).state) w.1 ∙ ap (λ (t : Span). t.state) f.is)) z) in (
               ap (λ v. (after v).previous) w.1 ∙ ap (λ (t : Span). t.previous) f.is,
               ap (λ v. (after v).next) w.1 ∙ (ap (λ (t : Span). t.next) f.is ∙ no_head l s.class to unlisted),
             )
@@ -257,7 +297,8 @@ put_in_front l spans has x s to st isx none small =
       ];
       lists = list_entered l spans after has x s to en;
       heads = λ k e k_small listed.
-          subst (IsHead (IsMember after has k e) (λ v. (after v).turn)) (sym (head_alike (with_head s.class to x l) (ring_with x to l.ring) (l.turn + 1) k e))
+          subst (IsHead (IsMember after has k e) (λ v. (after v).turn))
+          (sym (head_alike (with_head s.class to x l) (ring_with x to l.ring) (l.turn + 1) k e))
           (head_entered l spans after has x s to en k e k_small listed);
       empty = λ u a is. elim (eqb_tells u x) [
         | inl w ↦ subst (Contains (ring_with x to l.ring)) (sym w.1)
@@ -274,6 +315,7 @@ put_in_front l spans has x s to st isx none small =
           let g = f.turn_is (slice_index_or l.ring i d) a.0.1 in let h = f.turn_is (slice_index_or l.ring j d) b.0.1 in
           let r = st.rise i j d less inside in omega arith)
           (All-weaker (λ u. (has u × (u ≡ x → ⊥)) × ((spans u).state ≡ state.Empty)) (λ u. (after u).turn < (after x).turn)
-          (λ u m. let a = st.below u m.0 (listed_used (spans u) state.Empty tt m.1) in let b = f.turn_is u m.0.1 in let c = at x refl in omega arith) l.ring st.in_ring);
+          (λ u m. let a = st.below u m.0 (listed_used (spans u) state.Empty tt m.1) in let b = f.turn_is u m.0.1 in let c = at x refl in
+          omega arith) l.ring st.in_ring);
       long = let h = heads_stay l s.class to x st.long in record { active = h.active; empty = h.empty; decommitted = h.decommitted };
     }

@@ -57,9 +57,12 @@ joined s spans =
     let tp : ℕ → Bool = λ u. nat_lt 0 p && (u == p) in let tn : ℕ → Bool = λ u. nat_lt 0 n && (u == n) in
     let ap_next : ℕ → Span = λ u. record (spans u) { next = n } in let ap_previous : ℕ → Span = λ u. record (step u) { previous = p } in
     record {
-      class = λ u. picked (λ (t : Span). t.class) (tn u) (ap_previous u) (step u) refl ∙ picked (λ (t : Span). t.class) (tp u) (ap_next u) (spans u) refl;
-      state = λ u. picked (λ (t : Span). t.state) (tn u) (ap_previous u) (step u) refl ∙ picked (λ (t : Span). t.state) (tp u) (ap_next u) (spans u) refl;
-      turn = λ u. picked (λ (t : Span). t.turn) (tn u) (ap_previous u) (step u) refl ∙ picked (λ (t : Span). t.turn) (tp u) (ap_next u) (spans u) refl;
+      class = λ u. picked (λ (t : Span). t.class) (tn u) (ap_previous u) (step u) refl ∙
+          picked (λ (t : Span). t.class) (tp u) (ap_next u) (spans u) refl;
+      state = λ u. picked (λ (t : Span). t.state) (tn u) (ap_previous u) (step u) refl ∙
+          picked (λ (t : Span). t.state) (tp u) (ap_next u) (spans u) refl;
+      turn = λ u. picked (λ (t : Span). t.turn) (tn u) (ap_previous u) (step u) refl ∙
+          picked (λ (t : Span). t.turn) (tp u) (ap_next u) (spans u) refl;
       next_here = λ u some e. picked (λ (t : Span). t.next) (tn u) (ap_previous u) (step u) refl
           ∙ ap (λ (t : Span). t.next) (chosen (tp u) (ap_next u) (spans u) (here u p some e));
       next_else = λ u never. picked (λ (t : Span). t.next) (tn u) (ap_previous u) (step u) refl
@@ -93,7 +96,8 @@ fronted x head s to turn spans apart =
       turn_is = λ u never. picked (λ (t : Span). t.turn) (th u) (behind u) (step u) refl ∙ ap (λ (t : Span). t.turn) (same u never);
       next = λ u never. picked (λ (t : Span). t.next) (th u) (behind u) (step u) refl ∙ ap (λ (t : Span). t.next) (same u never);
       previous_here = λ u never some e. ap (λ (t : Span). t.previous) (chosen (th u) (behind u) (step u) (here u head some e));
-      previous_else = λ u never more. ap (λ (t : Span). t.previous) (other (th u) (behind u) (step u) (elsewhere u head more)) ∙ ap (λ (t : Span). t.previous) (same u never);
+      previous_else = λ u never more. ap (λ (t : Span). t.previous) (other (th u) (behind u) (step u) (elsewhere u head more)) ∙
+          ap (λ (t : Span). t.previous) (same u never);
     }
 
 -- states are the same, or differ

@@ -14,14 +14,16 @@ head_set l class state.Empty at long small listed = get_or-set_same l.empty clas
 head_set l class state.Decommitted at long small listed = get_or-set_same l.decommitted class at 0 (let n = long.decommitted in omega arith)
 head_set l class state.Full at long small listed = absurd listed
 
-pub head_other : (l : SpanListParts) (k class : ℕ) (e a : State) (at : ℕ) → ((k ≡ class) × (e ≡ a) → ⊥) → list_head (with_head class a at l) k e ≡ list_head l k e
+pub head_other : (l : SpanListParts) (k class : ℕ) (e a : State) (at : ℕ) → ((k ≡ class) × (e ≡ a) → ⊥) →
+    list_head (with_head class a at l) k e ≡ list_head l k e
 head_other l k class state.Active state.Active at never = get_or-set_other l.active class k at 0 (λ f. never (f, refl))
 head_other l k class state.Empty state.Empty at never = get_or-set_other l.empty class k at 0 (λ f. never (f, refl))
 head_other l k class state.Decommitted state.Decommitted at never = get_or-set_other l.decommitted class k at 0 (λ f. never (f, refl))
 head_other l k class e a at never = refl
 
 -- neither the ring nor the turn has to do with heads
-pub head_alike : (l : SpanListParts) (ring : List ℕ) (turn : ℕ) (k : ℕ) (e : State) → list_head (record l { ring = ring; turn = turn }) k e ≡ list_head l k e
+pub head_alike : (l : SpanListParts) (ring : List ℕ) (turn : ℕ) (k : ℕ) (e : State) →
+    list_head (record l { ring = ring; turn = turn }) k e ≡ list_head l k e
 head_alike l ring turn k state.None = refl
 head_alike l ring turn k state.Active = refl
 head_alike l ring turn k state.Empty = refl
@@ -44,7 +46,25 @@ ring_alike l class state.Full at = refl
 
 pub heads_stay : (l : SpanListParts) (class : ℕ) (a : State) (at : ℕ) → HasHeads l → HasHeads (with_head class a at l)
 heads_stay l class state.None at long = long
-heads_stay l class state.Active at long = record { active = let n = length-set l.active class at in omega (arith, long.active); empty = long.empty; decommitted = long.decommitted }
-heads_stay l class state.Empty at long = record { active = long.active; empty = let n = length-set l.empty class at in omega (arith, long.empty); decommitted = long.decommitted }
-heads_stay l class state.Decommitted at long = record { active = long.active; empty = long.empty; decommitted = let n = length-set l.decommitted class at in omega (arith, long.decommitted) }
+heads_stay l class state.Active at long =
+    record {
+      active = let n = length-set l.active class at in
+          omega (arith, long.active);
+      empty = long.empty;
+      decommitted = long.decommitted;
+    }
+heads_stay l class state.Empty at long =
+    record {
+      active = long.active;
+      empty = let n = length-set l.empty class at in
+          omega (arith, long.empty);
+      decommitted = long.decommitted;
+    }
+heads_stay l class state.Decommitted at long =
+    record {
+      active = long.active;
+      empty = long.empty;
+      decommitted = let n = length-set l.decommitted class at in
+          omega (arith, long.decommitted);
+    }
 heads_stay l class state.Full at long = long

@@ -57,12 +57,14 @@ side M B order some x n p y z isx after before here rest u isu near = elim (eqb_
         | inl q ↦ absurd (filled (w.1 ∙ q.0))
         | inr q ↦ near_skips M B order x n p isx after q.0 q.1 q.2
       ] in
-      subst (λ k. IsNearest (λ v. M v × (v ≡ x → ⊥)) B k (z u)) (sym w.1) (subst (IsNearest (λ v. M v × (v ≡ x → ⊥)) B p) (sym (here u filled w.1)) skipped)
+      subst (λ k. IsNearest (λ v. M v × (v ≡ x → ⊥)) B k (z u)) (sym w.1)
+      (subst (IsNearest (λ v. M v × (v ≡ x → ⊥)) B p) (sym (here u filled w.1)) skipped)
   | inr w ↦ subst (IsNearest (λ v. M v × (v ≡ x → ⊥)) B u) (sym (rest u w.1)) (near_stays M B order x p isx before u (y u) isu w.1 near)
 ]
 
 -- members of two lists are two
-pub foreign : (spans : ℕ → Span) (has : ℕ → Type 0) (k c : ℕ) (e a : State) → ((k ≡ c) × (e ≡ a) → ⊥) → (u v : ℕ) → IsMember spans has k e u →
+pub foreign : (spans : ℕ → Span) (has : ℕ → Type 0) (k c : ℕ) (e a : State) → ((k ≡ c) × (e ≡ a) → ⊥) → (u v : ℕ) →
+    IsMember spans has k e u →
     IsMember spans has c a v → u ≡ v → ⊥
 foreign spans has k c e a never u v m n same =
     never (sym m.class_is ∙ (ap (λ w. (spans w).class) same ∙ n.class_is), sym m.state_is ∙ (ap (λ w. (spans w).state) same ∙ n.state_is))
@@ -70,7 +72,8 @@ foreign spans has k c e a never u v m n same =
 -- the neighbours of x are none, or members of its list
 pub record HasNeighbours (spans : ℕ → Span) (has : ℕ → Type 0) (x : ℕ) : Type 0 where
   pub next : ((spans x).next ≡ 0) ⊎ (IsMember spans has (spans x).class (spans x).state (spans x).next × HasList (spans x).state)
-  pub previous : ((spans x).previous ≡ 0) ⊎ (IsMember spans has (spans x).class (spans x).state (spans x).previous × HasList (spans x).state)
+  pub previous : ((spans x).previous ≡ 0) ⊎
+      (IsMember spans has (spans x).class (spans x).state (spans x).previous × HasList (spans x).state)
 
 pub neighbours : (l : SpanListParts) (spans : ℕ → Span) (has : ℕ → Type 0) (x : ℕ) → Stand l spans has → has x → HasNeighbours spans has x
 neighbours l spans has x st isx =
@@ -129,11 +132,13 @@ list_left l spans after has x st isx f k e listed =
       before = λ u v a b c. let d = f.turn u in let g = f.turn v in omega arith;
       back = λ u v a b c. let d = f.turn u in let g = f.turn v in omega arith;
     } in
-    let sides : (u : ℕ) → R u → IsNextByTurn R (λ v. (spans v).turn) u (after u).next × IsPreviousByTurn R (λ v. (spans v).turn) u (after u).previous =
+    let sides : (u : ℕ) → R u → IsNextByTurn R (λ v. (spans v).turn) u (after u).next ×
+    IsPreviousByTurn R (λ v. (spans v).turn) u (after u).previous =
     λ u m. elim (lists_tell k s.class e s.state) [
       | inl w ↦
           let mx : M x = record { is_had = isx; class_is = sym w.0; state_is = sym w.1 } in (
-            side M (λ v z. (spans v).turn < (spans z).turn) up is.some x n p (λ v. (spans v).next) (λ v. (after v).next) mx (is.next x mx) (is.previous x mx)
+            side M (λ v z. (spans v).turn < (spans z).turn) up is.some x n p (λ v. (spans v).next) (λ v. (after v).next) mx (is.next x mx)
+                (is.previous x mx)
                 f.next_here f.next_else u m.0 (is.next u m.0),
             side M (λ v z. (spans z).turn < (spans v).turn) (turned M (λ v z. (spans v).turn < (spans z).turn) up) is.some x p n
                 (λ v. (spans v).previous) (λ v. (after v).previous) mx (is.previous x mx) (is.next x mx)
@@ -141,7 +146,12 @@ list_left l spans after has x st isx f k e listed =
           )
       | inr w ↦
           let near = neighbours l spans has x st isx in
-          let alone : (v : ℕ) → M v → R v = λ v a. (a, foreign spans has k s.class e s.state w v x a (record { is_had = isx; class_is = refl; state_is = refl })) in
+          let alone : (v : ℕ) → M v →
+          R v = λ v a. (
+            a,
+            foreign spans has k s.class e s.state w v x a
+                (record { is_had = isx; class_is = refl; state_is = refl }),
+          ) in
           let not_p : u ≡ p → ⊥ = λ same. elim near.previous [
             | inl z ↦ is.some (subst M (same ∙ z) m.0)
             | inr z ↦ foreign spans has k s.class e s.state w u p m.0 z.0 same
@@ -155,7 +165,8 @@ list_left l spans after has x st isx f k e listed =
           (record { to = alone; from = λ v a. a.0; before = λ v z a b c. c; back = λ v z a b c. c }) u (spans u).next m.0 (is.next u m.0) in
           let there : IsPreviousByTurn R (λ v. (spans v).turn) u (spans u).previous =
           near_same M R (λ v z. (spans z).turn < (spans v).turn) (λ v z. (spans z).turn < (spans v).turn)
-          (record { to = alone; from = λ v a. a.0; before = λ v z a b c. c; back = λ v z a b c. c }) u (spans u).previous m.0 (is.previous u m.0) in (
+          (record { to = alone; from = λ v a. a.0; before = λ v z a b c. c; back = λ v z a b c. c }) u (spans u).previous m.0
+          (is.previous u m.0) in (
             subst (IsNextByTurn R (λ v. (spans v).turn) u) (sym (f.next_else u not_p)) here,
             subst (IsPreviousByTurn R (λ v. (spans v).turn) u) (sym (f.previous_else u not_n)) there,
           )
@@ -163,17 +174,22 @@ list_left l spans after has x st isx f k e listed =
     record {
       some = λ m. is.some (from 0 m).0;
       differ = λ u v a b same. is.differ u v (from u a).0 (from v b).0 (sym (f.turn u) ∙ (same ∙ f.turn v));
-      next = λ u m. near_same R N (λ v w. (spans v).turn < (spans w).turn) (λ v w. (after v).turn < (after w).turn) rising u (after u).next (from u m) (sides u (from u m)).0;
-      previous = λ u m. near_same R N (λ v w. (spans w).turn < (spans v).turn) (λ v w. (after w).turn < (after v).turn) falling u (after u).previous (from u m) (sides u (from u m)).1;
+      next = λ u m. near_same R N (λ v w. (spans v).turn < (spans w).turn) (λ v w. (after v).turn < (after w).turn) rising u (after u).next
+          (from u m) (sides u (from u m)).0;
+      previous = λ u m. near_same R N (λ v w. (spans w).turn < (spans v).turn) (λ v w. (after w).turn < (after v).turn) falling u
+          (after u).previous (from u m) (sides u (from u m)).1;
     }
 
 -- the heads without x
-unheaded_alike : (s : Span) (l : SpanListParts) → ((unheaded s l).turn ≡ l.turn) × ((unheaded s l).ring ≡ l.ring) × (HasHeads l → HasHeads (unheaded s l))
+unheaded_alike : (s : Span) (l : SpanListParts) → ((unheaded s l).turn ≡ l.turn) × ((unheaded s l).ring ≡ l.ring) ×
+    (HasHeads l → HasHeads (unheaded s l))
 unheaded_alike s l = elim (eqb_tells s.previous 0) [
-  | inl w ↦ subst (λ b. ((if b then with_head s.class s.state s.next l else l).turn ≡ l.turn) × ((if b then with_head s.class s.state s.next l else l).ring ≡ l.ring)
+  | inl w ↦ subst (λ b. ((if b then with_head s.class s.state s.next l else l).turn ≡ l.turn) ×
+      ((if b then with_head s.class s.state s.next l else l).ring ≡ l.ring)
       × (HasHeads l → HasHeads (if b then with_head s.class s.state s.next l else l))) (sym w.0)
       (turn_alike l s.class s.state s.next, ring_alike l s.class s.state s.next, heads_stay l s.class s.state s.next)
-  | inr w ↦ subst (λ b. ((if b then with_head s.class s.state s.next l else l).turn ≡ l.turn) × ((if b then with_head s.class s.state s.next l else l).ring ≡ l.ring)
+  | inr w ↦ subst (λ b. ((if b then with_head s.class s.state s.next l else l).turn ≡ l.turn) ×
+      ((if b then with_head s.class s.state s.next l else l).ring ≡ l.ring)
       × (HasHeads l → HasHeads (if b then with_head s.class s.state s.next l else l))) (sym w.0) (refl, refl, λ z. z)
 ]
 
@@ -181,7 +197,8 @@ pub turn_kept : (x : ℕ) (s : Span) (l : SpanListParts) → (lists_without x s 
 turn_kept x s l = (unheaded_alike s l).0
 
 -- the head of each list, once x is out of its own
-head_left : (l : SpanListParts) (spans : ℕ → Span) (has : ℕ → Type 0) (x : ℕ) → Stand l spans has → has x → (k : ℕ) (e : State) → k < class_count →
+head_left : (l : SpanListParts) (spans : ℕ → Span) (has : ℕ → Type 0) (x : ℕ) → Stand l spans has → has x → (k : ℕ) (e : State) →
+    k < class_count →
     HasList e → IsHead (but spans has k e x) (λ v. (spans v).turn) (list_head (unheaded (spans x) l) k e)
 head_left l spans has x st isx k e small listed =
     let s = spans x in let p = s.previous in let n = s.next in
@@ -203,7 +220,8 @@ head_left l spans has x st isx k e small listed =
                   | inr q ↦ is.some (subst M z.1 q.0)
                 ] in
                 let is_n : list_head (with_head s.class s.state n l) k e ≡ n =
-                subst (λ c. list_head (with_head c s.state n l) k e ≡ n) w.0 (subst (λ a. list_head (with_head k a n l) k e ≡ n) w.1 (head_set l k e n st.long small listed)) in
+                subst (λ c. list_head (with_head c s.state n l) k e ≡ n) w.0
+                (subst (λ a. list_head (with_head k a n l) k e ≡ n) w.1 (head_set l k e n st.long small listed)) in
                 subst (IsHead R turn) (sym (first z.1 ∙ is_n)) (head_leaves M turn x n is.differ mx none (is.next x mx))
             | inr z ↦ elim (is.previous x mx) [
               | inl q ↦ absurd (z.1 q.0)
@@ -249,7 +267,8 @@ taken_out l spans has x st isx =
           (f.previous_else u not_n ∙ two.0, f.next_else u not_p ∙ two.1);
       lists = λ k e listed. list_left l spans after has x st isx f k e listed;
       heads = λ k e small listed.
-          let same : list_head (lists_without x s l) k e ≡ list_head (unheaded s l) k e = head_alike (unheaded s l) (ring_without x s.state l.ring) (unheaded s l).turn k e in
+          let same : list_head (lists_without x s l) k e ≡ list_head (unheaded s l) k e =
+          head_alike (unheaded s l) (ring_without x s.state l.ring) (unheaded s l).turn k e in
           subst (IsHead (IsMember after (λ v. has v × (v ≡ x → ⊥)) k e) (λ v. (after v).turn)) (sym same)
           (head_same (but spans has k e x) (IsMember after (λ v. has v × (v ≡ x → ⊥)) k e) (λ v. (spans v).turn) (λ v. (after v).turn)
           (same_members spans after has x s.previous s.next k e f) (were_members spans after has x s.previous s.next k e f)
@@ -261,6 +280,7 @@ taken_out l spans has x st isx =
           ((held.0, was.1), f.state u ∙ held.1));
       rise = λ i j d less inside.
           let r = rises_without (λ u v. (spans u).turn < (spans v).turn) x s.state l.ring st.rise i j d less inside in
-          let a = f.turn (slice_index_or (ring_without x s.state l.ring) i d) in let b = f.turn (slice_index_or (ring_without x s.state l.ring) j d) in omega arith;
+          let a = f.turn (slice_index_or (ring_without x s.state l.ring) i d) in
+          let b = f.turn (slice_index_or (ring_without x s.state l.ring) j d) in omega arith;
       long = let h = alike.2 st.long in record { active = h.active; empty = h.empty; decommitted = h.decommitted };
     }

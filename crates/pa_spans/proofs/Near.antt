@@ -55,7 +55,7 @@ not_next M B order x p is (inr w) u isu other before none = elim (order.apart u 
   | inr d ↦ none p w.0 w.1 d
 ]
 
--- other members stay as they are
+-- a member that wasn't next to the one that leaves keeps its neighbours
 pub near_stays : (M : ℕ → Type 0) (B : ℕ → ℕ → Type 0) → IsOrder M B → (x p : ℕ) → M x → IsNearest M (λ v w. B w v) x p →
     (u y : ℕ) → M u → (u ≡ p → ⊥) → IsNearest M B u y → IsNearest (λ v. M v × (v ≡ x → ⊥)) B u y
 near_stays M B order x p is near u y isu other (inl w) = inl (w.0, λ v m. w.1 v m.0)
@@ -161,7 +161,8 @@ head_same M N turn after to from same h (inr w) = inr (
 pub head_stays : (M : ℕ → Type 0) (turn : ℕ → ℕ) (x h p : ℕ) → M x → M p → (turn x < turn p) → IsHead M turn h →
     IsHead (λ v. M v × (v ≡ x → ⊥)) turn h
 head_stays M turn x h p is other more (inl w) = absurd (w.1 x is)
-head_stays M turn x h p is other more (inr w) = inr ((w.0, λ e. let s : turn h ≡ turn x = ap turn e in let low = w.1 p other in omega arith), λ v m. w.1 v m.0)
+head_stays M turn x h p is other more (inr w) =
+    inr ((w.0, λ e. let s : turn h ≡ turn x = ap turn e in let low = w.1 p other in omega arith), λ v m. w.1 v m.0)
 
 -- the head leaves: the one after it is the head
 pub head_leaves : (M : ℕ → Type 0) (turn : ℕ → ℕ) (x n : ℕ) → ((u v : ℕ) → M u → M v → turn u ≡ turn v → u ≡ v) → M x →

@@ -81,9 +81,11 @@ list_stays l spans after has had st stay k e listed =
           (subst (IsPreviousByTurn M (λ v. (spans v).turn) u) (sym (stay.on u o.is_had).1.previous) (is.previous u o));
     }
 
-pub stays : (l : SpanListParts) (spans after : ℕ → Span) (has had : ℕ → Type 0) → Stand l spans has → StayListed spans after has had → Stand l after had
+pub stays : (l : SpanListParts) (spans after : ℕ → Span) (has had : ℕ → Type 0) → Stand l spans has → StayListed spans after has had →
+    Stand l after had
 stays l spans after has had st stay =
-    let used : (u : ℕ) → (h : has u × StaysListed (spans u) (after u)) → IsInUse (after u) → IsInUse (spans u) = λ u h is none. is (h.1.state ∙ none) in
+    let used : (u : ℕ) → (h : has u × StaysListed (spans u) (after u)) → IsInUse (after u) →
+    IsInUse (spans u) = λ u h is none. is (h.1.state ∙ none) in
     record {
       some = stay.none;
       differ = λ u v a b c d eq.
@@ -122,7 +124,8 @@ same_listed s t e = record {
 }
 
 -- a span that is put in the place of another, and stands as it did
-pub put_listed : (spans after : ℕ → Span) (at : ℕ) (s : Span) → ((u : ℕ) → after u ≡ (if u == at then s else spans u)) → StaysListed (spans at) s →
+pub put_listed : (spans after : ℕ → Span) (at : ℕ) (s : Span) → ((u : ℕ) → after u ≡ (if u == at then s else spans u)) →
+    StaysListed (spans at) s →
     (u : ℕ) → StaysListed (spans u) (after u)
 put_listed spans after at s each stay u = elim (eqb_tells u at) [
   | inl w ↦

@@ -138,7 +138,8 @@ impl SpanLists {
         requires head { list_head self.old span.class to ≢ 0 → S.has store.old (list_head self.old span.class to) }
         requires few { length (ring_with at to self.old.ring) ≤ 17 }
         requires turn { self.old.turn < 2 ^ 63 }
-        ensures spans { (u : ℕ) → S.spans store.new u ≡ in_front at span to (list_head self.old span.class to) self.old.turn (S.spans store.old) u }
+        ensures spans { (u : ℕ) →
+            S.spans store.new u ≡ in_front at span to (list_head self.old span.class to) self.old.turn (S.spans store.old) u }
         ensures lists { self.new ≡ lists_with at span.class to self.old }
         ensures has { (u : ℕ) → S.has store.new u ↔ S.has store.old u }
         ensures follows { S.follows store.old store.new }

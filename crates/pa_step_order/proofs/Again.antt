@@ -39,12 +39,15 @@ module _ (ps : List Played) (s : SlotName) (history : List Done) (are : AreSteps
   -- an issue of the slot, by a record, at a number between these
   abbrev IssuedBetween : ℕ → ℕ → Type 0
   IssuedBetween k n =
-      (z : Played) × (e : StepMade) × Contains ps z × (step_by z ≡ Some e) × (e.slot ≡ s) × (e.step ≡ steps.Issue) × (k ≤ number_of e.found) × (number_of e.found < n)
+      (z : Played) × (e : StepMade) × Contains ps z × (step_by z ≡ Some e) × (e.slot ≡ s) × (e.step ≡ steps.Issue) ×
+      (k ≤ number_of e.found) × (number_of e.found < n)
 
-  issued_from : (gap k n : ℕ) → k + gap ≡ n → n ≤ length history → held_of (word_at_number k history) ≡ 0 → held_of (word_at_number n history) ≡ 1 → IssuedBetween k n
+  issued_from : (gap k n : ℕ) → k + gap ≡ n → n ≤ length history → held_of (word_at_number k history) ≡ 0 →
+      held_of (word_at_number n history) ≡ 1 → IssuedBetween k n
   issued_from zero k n is within clear set =
       let same : k ≡ n = omega arith in
-      let both : held_of (word_at_number k history) ≡ held_of (word_at_number n history) = ap (λ i. held_of (word_at_number i history)) same in
+      let both : held_of (word_at_number k history) ≡ held_of (word_at_number n history) =
+      ap (λ i. held_of (word_at_number i history)) same in
       absurd (omega arith)
   issued_from (suc gap) k n is within clear set =
       let (z, d, at) = step_at ps s history are k (omega arith) in
@@ -53,12 +56,14 @@ module _ (ps : List Played) (s : SlotName) (history : List Done) (are : AreSteps
         | inl issue ↦ (z, d, at.among, at.is, at.slot, issue, omega arith, omega arith)
         | inr other ↦
             let next : word_at_number (k + 1) history ≡ stepped d.step (word_at_number k history) = ap reached at.stands in
-            let clear_next : held_of (word_at_number (k + 1) history) ≡ 0 = ap held_of next ∙ stays_clear d.step (word_at_number k history) at.can other clear in
+            let clear_next : held_of (word_at_number (k + 1) history) ≡ 0 = ap held_of next ∙
+            stays_clear d.step (word_at_number k history) at.can other clear in
             let (u, e, among, made, slot, issue, low, high) = issued_from gap (k + 1) n (omega arith) within clear_next set in
             (u, e, among, made, slot, issue, omega arith, high)
       ]
 
-pub issued_again : (sizes : SlotName → ℕ) (ts : List ToldRecord) → AreTold sizes ts → ((s : SlotName) → (history : List Done) × AreSteps (played_in ts) s history) →
+pub issued_again : (sizes : SlotName → ℕ) (ts : List ToldRecord) → AreTold sizes ts →
+    ((s : SlotName) → (history : List Done) × AreSteps (played_in ts) s history) →
     AreIssuedAgain (played_in ts)
 issued_again sizes ts told histories x seen value y d reader answer freer made frees slot low =
     let ps = played_in ts in
@@ -76,5 +81,6 @@ issued_again sizes ts told histories x seen value y d reader answer freer made f
     let set : held_of (word_at_number (number_of d.found) history) ≡ 1 = ap held_of at.word ∙ can.0 in
     let k = number_of seen.found.0 in
     let n = number_of d.found in
-    let (z, e, among, made_z, slot_z, issue, least, most) = issued_from ps s history are (n - k) k n (omega arith) (omega arith) clear set in
+    let (z, e, among, made_z, slot_z, issue, least, most) =
+    issued_from ps s history are (n - k) k n (omega arith) (omega arith) clear set in
     (z, e, among, made_z, slot_z, subst Fills (sym issue) tt, least, most)

@@ -34,12 +34,14 @@ module _ (run : OrderedRun) where
   front_count s a = counted_steps s (moments_in roots a)
 
   -- as many counted steps as among the entries
-  pub counts_laid : (s : SlotName) (pre st : List OneStep) → order ≡ pre ++ st → counted_steps s (laid roots ns st) ≡ front_count s (front_at ns st)
+  pub counts_laid : (s : SlotName) (pre st : List OneStep) → order ≡ pre ++ st →
+      counted_steps s (laid roots ns st) ≡ front_count s (front_at ns st)
   counts_laid s pre st cut = sym (counts_stay s (laid roots ns st)) ∙ ap (counted_steps s) (laid_stays ns order agree roots pre st cut)
 
   pub front_all : front_at ns order ≡ ns
   front_all =
-      ap (λ k. take k ns) (length_same stamped_of ns (logged_among order) agree) ∙ ap (take (length ns)) (sym (append-nil ns)) ∙ take-append_seam ns []
+      ap (λ k. take k ns) (length_same stamped_of ns (logged_among order) agree) ∙ ap (take (length ns)) (sym (append-nil ns)) ∙
+      take-append_seam ns []
 
   pub finds : FindsItsNumber (laid roots ns order)
   finds = found_stays (laid roots ns order)
@@ -58,16 +60,20 @@ module _ (run : OrderedRun) where
     pub of : IsStepOf sizes ts told all ns are roots f t steps.Free found value d
     pub cut : ns ≡ (front_at ns o ++ is.mid) ++ f ∷ is.rest
 
-  pub spoil_at : (later : List OneStep) (t : Title) (word : ℕ) (o : List OneStep) → order ≡ later ++ Spoiled t word ∷ o → (f : Named) × IsSpoil t o f
+  pub spoil_at : (later : List OneStep) (t : Title) (word : ℕ) (o : List OneStep) → order ≡ later ++ Spoiled t word ∷ o → (f : Named) ×
+      IsSpoil t o f
   spoil_at later t word o cut =
       let (f, is) = owner ns order agree placed closed later t word o cut in
       let (found, value, entry) = free_entry t f.entry is.is_free in
       let (said, whole) = parted ns order agree (later ++ Spoiled t word ∷ []) o (cut ∙ sym (append_assoc later (Spoiled t word ∷ []) o)) in
-      let parts : ns ≡ (front_at ns o ++ is.mid) ++ f ∷ is.rest = whole ∙ ap (λ z. front_at ns o ++ z) is.parts ∙ sym (append_assoc (front_at ns o) is.mid (f ∷ is.rest)) in
-      let (d, of) = step_of_entry sizes ts told all ns are roots f t steps.Free found value (in_middle (front_at ns o ++ is.mid) is.rest ns f parts) entry in
+      let parts : ns ≡ (front_at ns o ++ is.mid) ++ f ∷ is.rest = whole ∙ ap (λ z. front_at ns o ++ z) is.parts ∙
+      sym (append_assoc (front_at ns o) is.mid (f ∷ is.rest)) in
+      let (d, of) = step_of_entry sizes ts told all ns are roots f t steps.Free found value
+      (in_middle (front_at ns o ++ is.mid) is.rest ns f parts) entry in
       (f, record { is = is; d = d; found = found; value = value; entry = entry; of = of; cut = parts })
 
-  before_free : (later : List OneStep) (t : Title) (word : ℕ) (o : List OneStep) (f : Named) → order ≡ later ++ Spoiled t word ∷ o → IsSpoil t o f →
+  before_free : (later : List OneStep) (t : Title) (word : ℕ) (o : List OneStep) (f : Named) → order ≡ later ++ Spoiled t word ∷ o →
+      IsSpoil t o f →
       IsBeforeFree (played_in ts) (laid roots ns o) f.x.played
   before_free later t word o f cut spoil =
       let d = spoil.d in
@@ -76,7 +82,8 @@ module _ (run : OrderedRun) where
       let mid = spoil.is.mid in
       let rest = spoil.is.rest in
       let here = counts_laid s (later ++ Spoiled t word ∷ []) o (cut ∙ sym (append_assoc later (Spoiled t word ∷ []) o)) in
-      let number = number_named sizes ts told all ns are roots rule (front ++ mid) rest f t steps.Free spoil.found spoil.value d spoil.cut spoil.entry spoil.of.is in
+      let number = number_named sizes ts told all ns are roots rule
+      (front ++ mid) rest f t steps.Free spoil.found spoil.value d spoil.cut spoil.entry spoil.of.is in
       let more = counts_front sizes ts told all ns are roots s front mid in
       record {
         d = d;
@@ -91,8 +98,10 @@ module _ (run : OrderedRun) where
             elim (Contains-append_cases front (mid ++ f ∷ rest) n (subst (λ zs. Contains zs n) cut' there)) [
               | inl in_front ↦
                   let (a, b, at) = parts_at front n in_front in
-                  let whole : ns ≡ a ++ n ∷ (b ++ (mid ++ f ∷ rest)) = cut' ∙ ap (λ z. z ++ (mid ++ f ∷ rest)) at ∙ append_assoc a (n ∷ b) (mid ++ f ∷ rest) in
-                  let low = number_named sizes ts told all ns are roots rule a (b ++ (mid ++ f ∷ rest)) n title e.step e.found e.value e whole entry made_n in
+                  let whole : ns ≡ a ++ n ∷ (b ++ (mid ++ f ∷ rest)) = cut' ∙ ap (λ z. z ++ (mid ++ f ∷ rest)) at ∙
+                  append_assoc a (n ∷ b) (mid ++ f ∷ rest) in
+                  let low = number_named sizes ts told all ns are roots rule a
+                  (b ++ (mid ++ f ∷ rest)) n title e.step e.found e.value e whole entry made_n in
                   let low' : number_of e.found ≡ front_count s a = low ∙ ap (λ z. front_count z a) slot in
                   let past = counts_past sizes ts told all ns are roots s a b n title e.step e.found e.value e entry made_n slot in
                   let same_front : front_count s front ≡ front_count s (a ++ n ∷ b) = ap (front_count s) at in
@@ -109,8 +118,10 @@ module _ (run : OrderedRun) where
                   | inr past_free ↦
                       let (a, b, at) = parts_at rest n past_free in
                       let head = front ++ mid in
-                      let whole : ns ≡ (head ++ f ∷ a) ++ n ∷ b = spoil.cut ∙ ap (λ z. head ++ f ∷ z) at ∙ sym (append_assoc head (f ∷ a) (n ∷ b)) in
-                      let high = number_named sizes ts told all ns are roots rule (head ++ f ∷ a) b n title e.step e.found e.value e whole entry made_n in
+                      let whole : ns ≡ (head ++ f ∷ a) ++ n ∷ b = spoil.cut ∙ ap (λ z. head ++ f ∷ z) at ∙
+                      sym (append_assoc head (f ∷ a) (n ∷ b)) in
+                      let high = number_named sizes ts told all ns are roots rule
+                      (head ++ f ∷ a) b n title e.step e.found e.value e whole entry made_n in
                       let high' : number_of e.found ≡ front_count s (head ++ f ∷ a) = high ∙ ap (λ z. front_count z (head ++ f ∷ a)) slot in
                       let up = counts_front sizes ts told all ns are roots s head (f ∷ a) in
                       omega arith
@@ -127,13 +138,15 @@ module _ (run : OrderedRun) where
     pub moment_is : moment_of roots n ≡ Some m
     pub among : Contains ns n
 
-  pub logged_at : (later : List OneStep) (st : Stamped) (o : List OneStep) (m : Moment) → order ≡ later ++ Logged st ∷ o → piece roots ns (Logged st) o ≡ Some m → (n : Named) × IsLogged later st o n m
+  pub logged_at : (later : List OneStep) (st : Stamped) (o : List OneStep) (m : Moment) → order ≡ later ++ Logged st ∷ o →
+      piece roots ns (Logged st) o ≡ Some m → (n : Named) × IsLogged later st o n m
   logged_at later st o m cut is =
       let (n, next) = next_named ns order agree later st o cut in
       let among = in_middle (front_at ns o) (back_at ns (Logged st ∷ o)) ns n next.whole in
       (n, record { next = next; moment_is = sym (ap (λ z. option_and_then (moment_of roots) (first z)) next.back) ∙ is; among = among })
 
-  pub spoils_piece : (later : List OneStep) (t : Title) (word : ℕ) (o : List OneStep) (f : Named) (m : Moment) → order ≡ later ++ Spoiled t word ∷ o → IsSpoil t o f →
+  pub spoils_piece : (later : List OneStep) (t : Title) (word : ℕ) (o : List OneStep) (f : Named) (m : Moment) → order ≡ later ++
+      Spoiled t word ∷ o → IsSpoil t o f →
       piece roots ns (Spoiled t word) o ≡ Some m → spoiling word f ≡ m
   spoils_piece later t word o f m cut spoil is = of_some (spoiling word f) m (sym (ap (option_map (spoiling word)) spoil.is.found) ∙ is)
 
@@ -146,21 +159,25 @@ module _ (run : OrderedRun) where
       of_ns : (n : Named) → Contains ns n → Contains (played_in ts) n.x.played
       of_ns n there = map_in (λ (z : ToldRecord). z.played) ts n.x (named_in ts all ns are n there).0
 
-      by_step : (later : List OneStep) (s : OneStep) (o : List OneStep) → order ≡ later ++ s ∷ o → piece roots ns s o ≡ Some m → Contains (played_in ts) m.x
+      by_step : (later : List OneStep) (s : OneStep) (o : List OneStep) → order ≡ later ++ s ∷ o → piece roots ns s o ≡ Some m →
+          Contains (played_in ts) m.x
       by_step later (Logged st) o parts is =
           let (n, l) = logged_at later st o m parts is in
           subst (λ z. Contains (played_in ts) z) (sym (moment_from roots n m l.moment_is).0) (of_ns n l.among)
       by_step later (Spoiled t word) o parts is =
           let (f, spoil) = spoil_at later t word o parts in
           let same = spoils_piece later t word o f m parts spoil is in
-          subst (λ (z : Moment). Contains (played_in ts) z.x) same (of_ns f (in_middle (front_at ns o ++ spoil.is.mid) spoil.is.rest ns f spoil.cut))
+          subst (λ (z : Moment). Contains (played_in ts) z.x) same
+          (of_ns f (in_middle (front_at ns o ++ spoil.is.mid) spoil.is.rest ns f spoil.cut))
 
-  pub spoils : (us vs : List Moment) (m : Moment) (word : ℕ) → laid roots ns order ≡ us ++ m ∷ vs → m.part ≡ Spoiling word → IsBeforeFree (played_in ts) us m.x
+  pub spoils : (us vs : List Moment) (m : Moment) (word : ℕ) → laid roots ns order ≡ us ++ m ∷ vs → m.part ≡ Spoiling word →
+      IsBeforeFree (played_in ts) us m.x
   spoils us vs m word cut part =
       let (later, s, older, parts, front, is) = cut_laid roots ns order us vs m cut in
       subst (λ z. IsBeforeFree (played_in ts) z m.x) (sym front) (by_step later s older parts is)
     where
-      by_step : (later : List OneStep) (s : OneStep) (o : List OneStep) → order ≡ later ++ s ∷ o → piece roots ns s o ≡ Some m → IsBeforeFree (played_in ts) (laid roots ns o) m.x
+      by_step : (later : List OneStep) (s : OneStep) (o : List OneStep) → order ≡ later ++ s ∷ o → piece roots ns s o ≡ Some m →
+          IsBeforeFree (played_in ts) (laid roots ns o) m.x
       by_step later (Logged st) o parts is =
           let (n, l) = logged_at later st o m parts is in
           absurd (never_spoils roots n.x.played.answer n.entry word ((moment_from roots n m l.moment_is).1 ∙ ap Some part))

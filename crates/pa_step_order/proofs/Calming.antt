@@ -50,12 +50,14 @@ use Rattle.pa_step_order.proofs.Belonging.{front_count, counts_laid, logged_at}
 
 -- an entry that is a load of a content word is a read
 loading_entry : (roots : Journals) (answer : Answer) (e : Entry) → part_of roots answer e ≡ Some Loading →
-    (t : Title) × (place : ℕ) × (value : ℕ) × (since : Deeds) × (owned : Bool) × (unclean : Bool) × (e ≡ Read t place value since owned unclean)
+    (t : Title) × (place : ℕ) × (value : ℕ) × (since : Deeds) × (owned : Bool) × (unclean : Bool) ×
+    (e ≡ Read t place value since owned unclean)
 loading_entry roots answer (Counted t step found value) is = absurd (let both : Counting ≡ Loading = of_some Counting Loading is in cc)
 loading_entry roots answer (Looked t found) is = absurd (let both = look_looks answer Loading is in cc)
 loading_entry roots answer (Read t place value since owned unclean) is = (t, place, value, since, owned, unclean, refl)
 loading_entry roots answer (Added total bytes) is = absurd (not_some Loading is)
-loading_entry roots answer (Entered q made) is = absurd (entered_is (λ p. p ≡ Loading → ⊥) (λ e. cc) (λ e. cc) (λ k act e. cc) roots q made.numbers Loading is refl)
+loading_entry roots answer (Entered q made) is =
+    absurd (entered_is (λ p. p ≡ Loading → ⊥) (λ e. cc) (λ e. cc) (λ k act e. cc) roots q made.numbers Loading is refl)
 loading_entry roots answer (Uncut t) is = absurd (not_some Loading is)
 
 -- ---- lists
@@ -64,7 +66,8 @@ stake_none : (k : ℕ) (B : List Stamped) → ((z : Stamped) → Contains B z �
 stake_none k [] none = refl
 stake_none k (z ∷ B) none = rw (ne_eqb z.stake k (none z (first_in z B))) (stake_none k B (λ y among. none y (later_in z y B among)))
 
-stake_last : (k : ℕ) (A B : List Stamped) (m : Stamped) → m.stake ≡ k → ((z : Stamped) → Contains B z → z.stake ≡ k → ⊥) → by_stake k (A ++ m ∷ B) ≡ by_stake k A ++ m.entry ∷ []
+stake_last : (k : ℕ) (A B : List Stamped) (m : Stamped) → m.stake ≡ k → ((z : Stamped) → Contains B z → z.stake ≡ k → ⊥) →
+    by_stake k (A ++ m ∷ B) ≡ by_stake k A ++ m.entry ∷ []
 stake_last k [] B m mine none = rw (eq-eqb m.stake k mine) (ap (λ z. m.entry ∷ z) (stake_none k B none))
 stake_last k (a ∷ A) B m mine none = elim (cases_Bool (eqb a.stake k)) [
   | inl here ↦ rw here (ap (λ z. a.entry ∷ z) (stake_last k A B m mine none))
@@ -72,7 +75,8 @@ stake_last k (a ∷ A) B m mine none = elim (cases_Bool (eqb a.stake k)) [
 ]
 
 -- since the last entry of a stake nothing filled the title, if it is calm
-calm_none : (k : ℕ) (t : Title) (o : List OneStep) → IsCalm k t o → (A B : List Stamped) (m : Stamped) → logged_among o ≡ A ++ m ∷ B → ((z : Stamped) → Contains B z → z.stake ≡ k → ⊥) →
+calm_none : (k : ℕ) (t : Title) (o : List OneStep) → IsCalm k t o → (A B : List Stamped) (m : Stamped) → logged_among o ≡ A ++ m ∷ B →
+    ((z : Stamped) → Contains B z → z.stake ≡ k → ⊥) →
     (z : Stamped) → Contains B z → DoesNotFill t z.entry
 calm_none k t [] calm A B m e none z among = absurd (none_cons A m B e)
 calm_none k t (Logged x ∷ o) calm A B m e none z among = elim (last_split (logged_among o) x A m B e) [
@@ -80,7 +84,8 @@ calm_none k t (Logged x ∷ o) calm A B m e none z among = elim (last_split (log
   | inr (ws, within, back) ↦ elim calm [
     | inl mine ↦ absurd (none x (in_middle ws [] B x back) mine)
     | inr (fills, rest) ↦ elim (Contains-append_cases ws (x ∷ []) z (subst (λ zs. Contains zs z) back among)) [
-      | inl before ↦ calm_none k t o rest A ws m within (λ y there. none y (subst (λ zs. Contains zs y) (sym back) (Contains-append_left ws (x ∷ []) y there))) z before
+      | inl before ↦ calm_none k t o rest A ws m within
+          (λ y there. none y (subst (λ zs. Contains zs y) (sym back) (Contains-append_left ws (x ∷ []) y there))) z before
       | inr here ↦ subst (λ (y : Stamped). DoesNotFill t y.entry) (in_one x z here) fills
     ]
   ]
@@ -113,7 +118,8 @@ module _ (run : OrderedRun) where
   same_place : (reg reg' place place' : ℕ) → ops.Read reg place ≡ ops.Read reg' place' → place' ≡ place
   same_place reg reg' place place' e = cc
 
-  read_of : (n : Named) (seen : Seen) (place value : ℕ) → Contains ns n → part_of roots n.x.played.answer n.entry ≡ Some Loading → GivesAt n.x.played.op n.x.played.answer seen place value →
+  read_of : (n : Named) (seen : Seen) (place value : ℕ) → Contains ns n → part_of roots n.x.played.answer n.entry ≡ Some Loading →
+      GivesAt n.x.played.op n.x.played.answer seen place value →
       IsReadOf sizes n seen place value
   read_of n seen place value among load gives =
       let (there, inside) = named_in ts all ns are n among in
@@ -122,16 +128,19 @@ module _ (run : OrderedRun) where
       elim which [
         | inl answer ↦
             let (reg', place', owned, op', is) = (subst (λ a. IsToldBy sizes n.x.played.op a n.x.stretch) answer its).1 in
-            build inside owned (subst (λ p. IsReadTold (title_of sizes seen.slot) p seen.found.0 value owned n.x.stretch) (same_place reg reg' place place' (sym op ∙ op')) is) (ap look_part answer)
+            build inside owned (subst (λ p. IsReadTold (title_of sizes seen.slot) p seen.found.0 value owned n.x.stretch)
+            (same_place reg reg' place place' (sym op ∙ op')) is) (ap look_part answer)
         | inr answer ↦
             let (reg', place', owned, op', is) = (subst (λ a. IsToldBy sizes n.x.played.op a n.x.stretch) answer its).1 in
-            build inside owned (subst (λ p. IsReadTold (title_of sizes seen.slot) p seen.found.0 value owned n.x.stretch) (same_place reg reg' place place' (sym op ∙ op')) is) (ap look_part answer)
+            build inside owned (subst (λ p. IsReadTold (title_of sizes seen.slot) p seen.found.0 value owned n.x.stretch)
+            (same_place reg reg' place place' (sym op ∙ op')) is) (ap look_part answer)
       ]
     where
       t : Title
       t = title_of sizes seen.slot
 
-      which_entry : (owned : Bool) (is : IsReadTold (title_of sizes seen.slot) place seen.found.0 value owned n.x.stretch) → Contains n.x.stretch n.entry →
+      which_entry : (owned : Bool) (is : IsReadTold (title_of sizes seen.slot) place seen.found.0 value owned n.x.stretch) →
+          Contains n.x.stretch n.entry →
           n.entry ≡ Read (title_of sizes seen.slot) place value is.since owned is.unclean
       which_entry owned is inside =
           let (u, place', value', since, own, unclean, e) = loading_entry roots n.x.played.answer n.entry load in
@@ -145,14 +154,17 @@ module _ (run : OrderedRun) where
             ]
           ]
 
-      build : Contains n.x.stretch n.entry → (owned : Bool) → IsReadTold (title_of sizes seen.slot) place seen.found.0 value owned n.x.stretch → look_part n.x.played.answer ≡ Some Looking →
+      build : Contains n.x.stretch n.entry → (owned : Bool) →
+          IsReadTold (title_of sizes seen.slot) place seen.found.0 value owned n.x.stretch → look_part n.x.played.answer ≡ Some Looking →
           IsReadOf sizes n seen place value
       build inside owned is looks = record { owned = owned; told = is; entry = which_entry owned is inside; looks = looks }
 
   -- ---- where its look is
 
-  module _ (later : List OneStep) (st : Stamped) (o : List OneStep) (n : Named) (cut : order ≡ later ++ Logged st ∷ o) (next : IsNext ns order agree st o n) (seen : Seen) (place value : ℕ)
-      (among : Contains ns n) (read : IsReadOf sizes n seen place value) (gives : GivesAt n.x.played.op n.x.played.answer seen place value) where
+  module _ (later : List OneStep) (st : Stamped) (o : List OneStep) (n : Named) (cut : order ≡ later ++ Logged st ∷ o)
+      (next : IsNext ns order agree st o n) (seen : Seen) (place value : ℕ)
+      (among : Contains ns n) (read : IsReadOf sizes n seen place value)
+      (gives : GivesAt n.x.played.op n.x.played.answer seen place value) where
     abbrev here : SlotName
     here = seen.slot
 
@@ -175,9 +187,13 @@ module _ (run : OrderedRun) where
     stands =
         let (there, inside) = named_in ts all ns are n among in
         let mine : filter on_line ns ≡ map (named_as n.x) n.x.stretch = line_named ts all ns are rising n.x there in
-        let self : filter on_line (n ∷ back) ≡ n ∷ filter on_line back = filter_here on_line n back (eq-eqb n.x.played.line n.x.played.line refl) in
-        let parts : filter on_line front ++ n ∷ filter on_line back ≡ look ∷ named_as n.x (Read title place value read.told.since read.owned read.told.unclean) ∷ map (named_as n.x) read.told.rest =
-        sym (ap (filter on_line) next.whole ∙ filter-append on_line front (n ∷ back) ∙ ap (λ z. filter on_line front ++ z) self) ∙ mine ∙ ap (map (named_as n.x)) read.told.pair in
+        let self : filter on_line (n ∷ back) ≡ n ∷ filter on_line back =
+        filter_here on_line n back (eq-eqb n.x.played.line n.x.played.line refl) in
+        let parts : filter on_line front ++
+        n ∷ filter on_line back ≡ look ∷ named_as n.x (Read title place value read.told.since read.owned read.told.unclean) ∷ map
+        (named_as n.x) read.told.rest =
+        sym (ap (filter on_line) next.whole ∙ filter-append on_line front (n ∷ back) ∙ ap (λ z. filter on_line front ++ z) self) ∙ mine ∙
+        ap (map (named_as n.x)) read.told.pair in
         let one = only_front (filter on_line front) (filter on_line back) (map (named_as n.x) read.told.rest) n look
         (named_as n.x (Read title place value read.told.since read.owned read.told.unclean)) parts
         (λ e. let both = sym read.entry ∙ ap (λ (z : Named). z.entry) e in cc)
@@ -185,8 +201,13 @@ module _ (run : OrderedRun) where
         no_touch read.told.rest e read.told.none (ap is_touch (ap (λ (z : Named). z.entry) is ∙ read.entry)) within) in
         let in_front = (filter_cases on_line front look (subst (λ zs. Contains zs look) (sym one) (first_in look []))).0 in
         let (a, b, at) = parts_at front look in_front in
-        let own = filter_here on_line look b (eq-eqb n.x.played.line n.x.played.line refl) in
-        (a, b, at, only_one (filter on_line a) (filter on_line b) look (sym (ap (filter on_line) at ∙ filter-append on_line a (look ∷ b) ∙ ap (λ z. filter on_line a ++ z) own) ∙ one))
+        let own = filter_here on_line look b (eq-eqb n.x.played.line n.x.played.line refl) in (
+          a,
+          b,
+          at,
+          only_one (filter on_line a) (filter on_line b) look
+              (sym (ap (filter on_line) at ∙ filter-append on_line a (look ∷ b) ∙ ap (λ z. filter on_line a ++ z) own) ∙ one),
+        )
 
     module _ (a b : List Named) (at : front ≡ a ++ look ∷ b) (none : filter on_line b ≡ []) where
       -- none of its thread is between the look and the read
@@ -218,14 +239,17 @@ module _ (run : OrderedRun) where
 
       in_its_place : IsReadInPlace st.stake title place value read.told.since read.told.unclean o
       in_its_place =
-          let entry : st.entry ≡ Read title place value read.told.since read.owned read.told.unclean = sym (ap (λ (z : Stamped). z.entry) next.stamp) ∙ read.entry in
+          let entry : st.entry ≡ Read title place value read.told.since read.owned read.told.unclean =
+          sym (ap (λ (z : Stamped). z.entry) next.stamp) ∙ read.entry in
           subst (λ e. IsEntryInPlace st.stake e o) entry (in_place order later (Logged st) o cut placed)
 
       calm : IsCalm st.stake title o
       calm =
           let last : by_stake st.stake (logged_among o) ≡ by_stake st.stake (map stamped_of a) ++ Looked title seen.found.0 ∷ [] =
-          ap (by_stake st.stake) logged ∙ stake_last st.stake (map stamped_of a) (map stamped_of b) (stamped_of look) (sym stake) none_stamped in
-          in_its_place.calm seen.found.0 (ap last_entry last ∙ last_more (by_stake st.stake (map stamped_of a)) (Looked title seen.found.0)) (quiet_handed read.told.since read.told.quiet)
+          ap (by_stake st.stake) logged ∙
+          stake_last st.stake (map stamped_of a) (map stamped_of b) (stamped_of look) (sym stake) none_stamped in
+          in_its_place.calm seen.found.0 (ap last_entry last ∙ last_more (by_stake st.stake (map stamped_of a)) (Looked title seen.found.0))
+          (quiet_handed read.told.since read.told.quiet)
 
       -- ---- numbers
 
@@ -239,14 +263,18 @@ module _ (run : OrderedRun) where
           let is : moment_of roots look ≡ Some (moment x Looking) = ap (option_map (moment x)) read.looks in
           let whole : ns ≡ a ++ look ∷ rest = next.whole ∙ ap (λ z. z ++ n ∷ back) at ∙ append_assoc a (look ∷ b) (n ∷ back) in
           let cut_look : moments_in roots ns ≡ moments_in roots a ++ moment x Looking ∷ moments_in roots rest =
-          ap (moments_in roots) whole ∙ filter_map-append (moment_of roots) a (look ∷ rest) ∙ ap (λ z. moments_in roots a ++ cons_option z (moments_in roots rest)) is in
-          found_in_logs sizes ts told all ns are roots rule (moments_in roots a) (moments_in roots rest) (moment x Looking) (mark_at x.line seen None) cut_look (inl refl)
+          ap (moments_in roots) whole ∙ filter_map-append (moment_of roots) a (look ∷ rest) ∙
+          ap (λ z. moments_in roots a ++ cons_option z (moments_in roots rest)) is in
+          found_in_logs sizes ts told all ns are roots rule (moments_in roots a) (moments_in roots rest) (moment x Looking)
+          (mark_at x.line seen None) cut_look (inl refl)
           (read_marked x seen place value gives)
 
       upto : counts a ≤ counts front
-      upto = let more = counts_front sizes ts told all ns are roots here a (look ∷ b) in let same : counts front ≡ counts (a ++ look ∷ b) = ap (λ z. counts z) at in omega arith
+      upto = let more = counts_front sizes ts told all ns are roots here a (look ∷ b) in
+          let same : counts front ≡ counts (a ++ look ∷ b) = ap (λ z. counts z) at in omega arith
 
-      steady : (y : Played) (e : StepMade) → Contains (played_in ts) y → step_by y ≡ Some e → e.slot ≡ here → Fills e.step → number_of seen.found.0 ≤ number_of e.found →
+      steady : (y : Played) (e : StepMade) → Contains (played_in ts) y → step_by y ≡ Some e → e.slot ≡ here → Fills e.step →
+          number_of seen.found.0 ≤ number_of e.found →
           counts front ≤ number_of e.found
       steady y e of made slot fills high =
           let (m, there, same, entry) = step_named sizes ts told all ns are roots rising y e of made in
@@ -257,7 +285,8 @@ module _ (run : OrderedRun) where
             | inr behind ↦
                 let (c, d, at') = parts_at (n ∷ back) m behind in
                 let whole : ns ≡ (front ++ c) ++ m ∷ d = next.whole ∙ ap (λ z. front ++ z) at' ∙ sym (append_assoc front c (m ∷ d)) in
-                let number = number_named sizes ts told all ns are roots rule (front ++ c) d m u e.step e.found e.value e whole entry made_m in
+                let number = number_named sizes ts told all ns are roots rule
+                (front ++ c) d m u e.step e.found e.value e whole entry made_m in
                 let number' : number_of e.found ≡ counts (front ++ c) = number ∙ ap (λ s. front_count run s (front ++ c)) slot in
                 let more = counts_front sizes ts told all ns are roots here front c in
                 omega arith
@@ -265,9 +294,11 @@ module _ (run : OrderedRun) where
               | inl early ↦
                   let (c, d, at') = parts_at a m early in
                   let whole : ns ≡ c ++ m ∷ (d ++ ((look ∷ b) ++ (n ∷ back))) =
-                  next.whole ∙ ap (λ z. z ++ n ∷ back) (at ∙ ap (λ z. z ++ look ∷ b) at' ∙ append_assoc c (m ∷ d) (look ∷ b)) ∙ append_assoc c (m ∷ (d ++ look ∷ b)) (n ∷ back)
+                  next.whole ∙ ap (λ z. z ++ n ∷ back) (at ∙ ap (λ z. z ++ look ∷ b) at' ∙ append_assoc c (m ∷ d) (look ∷ b)) ∙
+                  append_assoc c (m ∷ (d ++ look ∷ b)) (n ∷ back)
                   ∙ ap (λ z. c ++ m ∷ z) (append_assoc d (look ∷ b) (n ∷ back)) in
-                  let number = number_named sizes ts told all ns are roots rule c (d ++ ((look ∷ b) ++ (n ∷ back))) m u e.step e.found e.value e whole entry made_m in
+                  let number = number_named sizes ts told all ns are roots rule c
+                  (d ++ ((look ∷ b) ++ (n ∷ back))) m u e.step e.found e.value e whole entry made_m in
                   let number' : number_of e.found ≡ counts c = number ∙ ap (λ s. front_count run s c) slot in
                   let past = counts_past sizes ts told all ns are roots here c d m u e.step e.found e.value e entry made_m slot in
                   let same_a : counts a ≡ counts (c ++ m ∷ d) = ap (λ z. counts z) at' in
@@ -275,8 +306,10 @@ module _ (run : OrderedRun) where
               | inr after ↦ elim (in_cases look m b after) [
                 | inl one ↦ absurd (let both = ap (λ (z : Named). z.entry) one ∙ entry in cc)
                 | inr between ↦
-                    let none_fills = calm_none st.stake title o calm (map stamped_of a) (map stamped_of b) (stamped_of look) logged none_stamped (stamped_of m) (map_in stamped_of b m between) in
-                    absurd (fills_it title u e.step e.found e.value fills (ap (title_of sizes) slot) (subst (λ z. DoesNotFill title z) entry none_fills))
+                    let none_fills = calm_none st.stake title o calm (map stamped_of a) (map stamped_of b)
+                    (stamped_of look) logged none_stamped (stamped_of m) (map_in stamped_of b m between) in
+                    absurd (fills_it title u e.step e.found e.value fills (ap (title_of sizes) slot)
+                    (subst (λ z. DoesNotFill title z) entry none_fills))
               ]
             ]
           ]
@@ -288,18 +321,21 @@ module _ (run : OrderedRun) where
           let looked = looks_at in
           let up = upto in
           record {
-            gave = in_its_place.right read.told.clean ∙ sym (content_laid sizes ts told all ns are roots here place order agree placed closed (later ++ Logged st ∷ []) o pre);
+            gave = in_its_place.right read.told.clean ∙
+                sym (content_laid sizes ts told all ns are roots here place order agree placed closed (later ++ Logged st ∷ []) o pre);
             looked = omega arith;
             steady = λ y e of made slot fills high. let up' = steady y e of made slot fills high in omega arith;
           }
 
-  pub reads : (us vs : List Moment) (m : Moment) (seen : Seen) (place value : ℕ) → laid roots ns order ≡ us ++ m ∷ vs → m.part ≡ Loading → GivesAt m.x.op m.x.answer seen place value →
+  pub reads : (us vs : List Moment) (m : Moment) (seen : Seen) (place value : ℕ) → laid roots ns order ≡ us ++ m ∷ vs → m.part ≡ Loading →
+      GivesAt m.x.op m.x.answer seen place value →
       IsReadAfter (played_in ts) us seen place value
   reads us vs m seen place value cut load gives =
       let (later, s, older, parts, front, is) = cut_laid roots ns order us vs m cut in
       subst (λ z. IsReadAfter (played_in ts) z seen place value) (sym front) (by_step later s older parts is)
     where
-      by_step : (later : List OneStep) (s : OneStep) (o : List OneStep) → order ≡ later ++ s ∷ o → piece roots ns s o ≡ Some m → IsReadAfter (played_in ts) (laid roots ns o) seen place value
+      by_step : (later : List OneStep) (s : OneStep) (o : List OneStep) → order ≡ later ++ s ∷ o → piece roots ns s o ≡ Some m →
+          IsReadAfter (played_in ts) (laid roots ns o) seen place value
       by_step later (Logged st) o parts is =
           let (n, l) = logged_at run later st o m parts is in
           let from = moment_from roots n m l.moment_is in

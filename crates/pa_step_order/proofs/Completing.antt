@@ -44,7 +44,8 @@ on_is line m part is = elim (cases_eq m.x.line line) [
 ]
 
 -- the step that a record frees with, if it does
-freeing : (x : Played) → ((d : StepMade) × (step_by x ≡ Some d) × (d.step ≡ steps.Free)) ⊎ ((d : StepMade) → step_by x ≡ Some d → d.step ≡ steps.Free → ⊥)
+freeing : (x : Played) → ((d : StepMade) × (step_by x ≡ Some d) × (d.step ≡ steps.Free)) ⊎
+    ((d : StepMade) → step_by x ≡ Some d → d.step ≡ steps.Free → ⊥)
 freeing x = elim (none_or_some (step_by x)) [
   | inl none ↦ inr (λ d is free. not_some d (sym none ∙ is))
   | inr (d, is) ↦ by_step d is d.step refl
@@ -62,7 +63,8 @@ freeing x = elim (none_or_some (step_by x)) [
     by_step d is steps.Write e = inr (λ z is' free. let both = sym e ∙ other d z is is' free in cc)
 
 kept_named : (roots : Journals) (y : ToldRecord) (es : List Entry) →
-    filter_map (λ (n : Named). part_of roots n.x.played.answer n.entry) (map (named_as y) es) ≡ filter_map (part_of roots y.played.answer) es
+    filter_map (λ (n : Named). part_of roots n.x.played.answer n.entry) (map (named_as y) es) ≡ filter_map
+    (part_of roots y.played.answer) es
 kept_named roots y [] = refl
 kept_named roots y (e ∷ es) = ap (cons_option (part_of roots y.played.answer e)) (kept_named roots y es)
 
@@ -92,7 +94,8 @@ module _ (run : OrderedRun) (partitions : ℕ) (in_order : AreInTheirOrder parti
     of_y = map_in (λ (z : ToldRecord). z.played) ts y there
 
     -- a step of the record before one of its poisonings
-    none_before : (later : List OneStep) (t : Title) (word : ℕ) (o : List OneStep) (f n : Named) (part : Part) → order ≡ later ++ Spoiled t word ∷ o →
+    none_before : (later : List OneStep) (t : Title) (word : ℕ) (o : List OneStep) (f n : Named) (part : Part) → order ≡ later ++
+        Spoiled t word ∷ o →
         IsSpoil run t o f → f.x.played.line ≡ line → Contains (front_at ns o) n → n.x.played.line ≡ line → part_at n ≡ Some part → ⊥
     none_before later t word o f n part cut spoil here in_front mine some =
         let free = spoil_step run y.played of_y t o f spoil here in
@@ -100,15 +103,20 @@ module _ (run : OrderedRun) (partitions : ℕ) (in_order : AreInTheirOrder parti
         ap (filter_map part_at) (line_named ts all ns are rising y there) ∙ kept_named roots y y.stretch ∙ in_order y there
         ∙ free_outline (λ s. 0) partitions roots y.played spoil.d free (sym spoil.of.step_is) in
         let whole = (parted ns order agree (later ++ Spoiled t word ∷ []) o (cut ∙ sym (append_assoc later (Spoiled t word ∷ []) o))).1 in
-        let split : filter_map part_at (filter on_line (front_at ns o)) ++ filter_map part_at (filter on_line (back_at ns o)) ≡ Counting ∷ entry_parts partitions roots line =
-        sym (ap (λ z. filter_map part_at (filter on_line z)) whole ∙ ap (filter_map part_at) (filter-append on_line (front_at ns o) (back_at ns o))
+        let split : filter_map part_at (filter on_line (front_at ns o)) ++
+        filter_map part_at (filter on_line (back_at ns o)) ≡ Counting ∷ entry_parts partitions roots line =
+        sym (ap (λ z. filter_map part_at (filter on_line z)) whole ∙
+        ap (filter_map part_at) (filter-append on_line (front_at ns o) (back_at ns o))
         ∙ filter_map-append part_at (filter on_line (front_at ns o)) (filter on_line (back_at ns o))) ∙ outline in
-        let first = kept_in part_at (filter on_line (front_at ns o)) n part (filter_in on_line (front_at ns o) n in_front (eq-eqb n.x.played.line line mine)) some in
+        let first = kept_in part_at (filter on_line (front_at ns o)) n part
+        (filter_in on_line (front_at ns o) n in_front (eq-eqb n.x.played.line line mine)) some in
         let f_in = in_middle spoil.is.mid spoil.is.rest (back_at ns o) f spoil.is.parts in
-        let second = kept_in part_at (filter on_line (back_at ns o)) f Counting (filter_in on_line (back_at ns o) f f_in (eq-eqb f.x.played.line line here))
+        let second = kept_in part_at (filter on_line (back_at ns o)) f Counting
+        (filter_in on_line (back_at ns o) f f_in (eq-eqb f.x.played.line line here))
         (ap (part_of roots f.x.played.answer) spoil.entry) in
         entries_uncounted partitions roots line
-        (not_again (filter_map part_at (filter on_line (front_at ns o))) (filter_map part_at (filter on_line (back_at ns o))) (entry_parts partitions roots line) part Counting split first second)
+        (not_again (filter_map part_at (filter on_line (front_at ns o))) (filter_map part_at (filter on_line (back_at ns o)))
+        (entry_parts partitions roots line) part Counting split first second)
 
     abbrev OnLineFirst : Moment → Moment → Type 0
     OnLineFirst a b = a.x.line ≡ line → b.x.line ≡ line → SpoilsFirst a.part b.part
@@ -116,7 +124,8 @@ module _ (run : OrderedRun) (partitions : ℕ) (in_order : AreInTheirOrder parti
     by_steps : (later : List OneStep) (s : OneStep) (o : List OneStep) (b : Moment) → order ≡ later ++ s ∷ o → piece roots ns s o ≡ Some b →
         (middle : List OneStep) (s' : OneStep) (older : List OneStep) (a : Moment) →
         o ≡ middle ++ s' ∷ older → piece roots ns s' older ≡ Some a → OnLineFirst a b
-    by_steps later s o b cut is middle (Spoiled t word) older a within is' here here' w spoils = spoiling_part word (find (frees t) (back_at ns older)) a is'
+    by_steps later s o b cut is middle (Spoiled t word) older a within is' here here' w spoils =
+        spoiling_part word (find (frees t) (back_at ns older)) a is'
     by_steps later (Logged st) o b cut is middle (Logged st') older a within is' here here' w spoils =
         let (n, l) = logged_at run later st o b cut is in
         absurd (never_spoils roots n.x.played.answer n.entry w ((moment_from roots n b l.moment_is).1 ∙ ap Some spoils))
@@ -127,9 +136,11 @@ module _ (run : OrderedRun) (partitions : ℕ) (in_order : AreInTheirOrder parti
         ∙ sym (append_assoc later (Spoiled t word ∷ middle) (Logged st' ∷ older)) in
         let (n, l) = logged_at run (later ++ Spoiled t word ∷ middle) st' older a cut' is' in
         let from = moment_from roots n a l.moment_is in
-        let own : Contains (front_at ns (Logged st' ∷ older)) n = subst (λ zs. Contains zs n) (sym l.next.front) (Contains-append_right (front_at ns older) (n ∷ []) n (first_in n [])) in
+        let own : Contains (front_at ns (Logged st' ∷ older)) n =
+        subst (λ zs. Contains zs n) (sym l.next.front) (Contains-append_right (front_at ns older) (n ∷ []) n (first_in n [])) in
         let in_front = subst (λ z. Contains (front_at ns z) n) (sym within) (front_within run middle (Logged st' ∷ older) n own) in
-        absurd (none_before later t word o f n a.part cut spoil (ap (λ (z : Moment). z.x.line) same ∙ here') in_front (sym (ap (λ (z : Played). z.line) from.0) ∙ here) from.1)
+        absurd (none_before later t word o f n a.part cut spoil (ap (λ (z : Moment). z.x.line) same ∙ here') in_front
+        (sym (ap (λ (z : Played). z.line) from.0) ∙ here) from.1)
 
     spoils_first : AllPairs SpoilsFirst (parts_in line ms)
     spoils_first =
@@ -152,11 +163,14 @@ module _ (run : OrderedRun) (partitions : ℕ) (in_order : AreInTheirOrder parti
         ∙ ap (parts_in line) (laid_stays ns order agree roots [] order refl ∙ ap (moments_in roots) (front_all run))
         ∙ whole_logs ts all ns are roots rising partitions in_order y there
 
-    parts_are : (words : List ℕ) → filter_map word_of (parts_in line ms) ≡ words → parts_in line ms ≡ map Spoiling words ++ outline_parts partitions roots y.played
+    parts_are : (words : List ℕ) → filter_map word_of (parts_in line ms) ≡ words → parts_in line ms ≡ map Spoiling words ++
+        outline_parts partitions roots y.played
     parts_are words is =
-        parts_split (parts_in line ms) spoils_first ∙ ap (λ z. map Spoiling z ++ filter_map part_stays (parts_in line ms)) is ∙ ap (λ z. map Spoiling words ++ z) outline_stays
+        parts_split (parts_in line ms) spoils_first ∙ ap (λ z. map Spoiling z ++ filter_map part_stays (parts_in line ms)) is ∙
+        ap (λ z. map Spoiling words ++ z) outline_stays
 
-    whole_of : (usable : SlotName → ℕ) → ((d : StepMade) → step_by y.played ≡ Some d → usable d.slot + 8 ≡ sizes d.slot) → parts_in line ms ≡ due_parts usable partitions roots y.played
+    whole_of : (usable : SlotName → ℕ) → ((d : StepMade) → step_by y.played ≡ Some d → usable d.slot + 8 ≡ sizes d.slot) →
+        parts_in line ms ≡ due_parts usable partitions roots y.played
     whole_of usable fits = elim (freeing y.played) [
       | inr other ↦
           parts_are [] (spoilt_parts run y.played of_y ms
@@ -165,7 +179,9 @@ module _ (run : OrderedRun) (partitions : ℕ) (in_order : AreInTheirOrder parti
       | inl (d, is, free) ↦
           let (n, among, same, entry) = step_named sizes ts told all ns are roots rising y.played d of_y is in
           let (a, b, cut) = parts_at ns n among in
-          let (later, o, cut_o, logged) = logged_cut order (map stamped_of a) (map stamped_of b) (stamped_of n) (sym agree ∙ ap (map stamped_of) cut ∙ map-append stamped_of a (n ∷ b)) in
+          let (later, o, cut_o, logged) =
+          logged_cut order (map stamped_of a) (map stamped_of b) (stamped_of n)
+          (sym agree ∙ ap (map stamped_of) cut ∙ map-append stamped_of a (n ∷ b)) in
           let k : length (logged_among o) ≡ length a = length_same stamped_of a (logged_among o) (sym logged) in
           let front : front_at ns o ≡ a = ap (λ i. take i ns) k ∙ ap (take (length a)) cut ∙ take-append_seam a (n ∷ b) in
           let back : back_at ns o ≡ n ∷ b = ap (λ i. drop i ns) k ∙ ap (drop (length a)) cut ∙ drop-append_seam a (n ∷ b) in
@@ -178,7 +194,9 @@ module _ (run : OrderedRun) (partitions : ℕ) (in_order : AreInTheirOrder parti
           ∙ sym (free_due usable partitions roots y.played d is free)
     ]
 
-  pub whole : (usable : SlotName → ℕ) → ((x : Played) (d : StepMade) → Contains (played_in ts) x → step_by x ≡ Some d → usable d.slot + 8 ≡ sizes d.slot) → (x : Played) → Contains (played_in ts) x →
+  pub whole : (usable : SlotName → ℕ) →
+      ((x : Played) (d : StepMade) → Contains (played_in ts) x → step_by x ≡ Some d → usable d.slot + 8 ≡ sizes d.slot) → (x : Played) →
+      Contains (played_in ts) x →
       parts_in x.line ms ≡ due_parts usable partitions roots x
   whole usable fits x among =
       let (y, there, is) = map_cases (λ (z : ToldRecord). z.played) ts x among in

@@ -13,7 +13,8 @@ abbrev pub last_of : ℕ → List ℕ → ℕ
 last_of c [] = c
 last_of c (v ∷ vs) = last_of v vs
 
-pub content_is_last : (s : SlotName) (place c : ℕ) (ms : List Moment) → content_after s place c ms ≡ last_of c (filter_map (moment_leaves s place) ms)
+pub content_is_last : (s : SlotName) (place c : ℕ) (ms : List Moment) →
+    content_after s place c ms ≡ last_of c (filter_map (moment_leaves s place) ms)
 content_is_last s place c [] = refl
 content_is_last s place c (m ∷ ms) = elim (none_or_some (moment_leaves s place m)) [
   | inl none ↦ rw none (content_is_last s place c ms)

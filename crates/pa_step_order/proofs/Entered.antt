@@ -61,7 +61,8 @@ asks m = part_asks m.x.line m.part
 
 entered_line : (p line : ℕ) (part : Part) (u : RootEntry) → part_enters p line part ≡ Some u → u.line ≡ line
 entered_line p line (Entering q act) u is = elim (cases_Bool (eqb q p)) [
-  | inl here ↦ let some : Some (record { line = line; act = act }) ≡ Some u = rw here at is in sym (ap (λ (z : RootEntry). z.line) (of_some (record { line = line; act = act }) u some))
+  | inl here ↦ let some : Some (record { line = line; act = act }) ≡ Some u = rw here at is in
+      sym (ap (λ (z : RootEntry). z.line) (of_some (record { line = line; act = act }) u some))
   | inr other ↦ absurd (not_some u (rw other at is))
 ]
 entered_line p line part u is = absurd (not_some u is)
@@ -75,44 +76,55 @@ module _ (ts : List ToldRecord) (all : List Stamped) (ns : List Named) (are : Ar
   entry_of n = n.entry
 
   -- the list of keeper q is what the entries put into it
-  pub list_named : (q : ℕ) (list : List Made) → list ≡ entered_in q (map (λ (m : Stamped). m.entry) all) → list ≡ entered_in q (map entry_of ns)
+  pub list_named : (q : ℕ) (list : List Made) → list ≡ entered_in q (map (λ (m : Stamped). m.entry) all) →
+      list ≡ entered_in q (map entry_of ns)
   list_named q list is = is ∙ ap (entered_in q) (sym are.entries)
 
   -- an entry is of its record's line
-  pub line_is : (q : ℕ) (list : List Made) → IsListOf q list ts → (n : Named) (made : Made) → Contains ns n → n.entry ≡ Entered q made → line_of made ≡ n.x.played.line
+  pub line_is : (q : ℕ) (list : List Made) → IsListOf q list ts → (n : Named) (made : Made) → Contains ns n → n.entry ≡ Entered q made →
+      line_of made ≡ n.x.played.line
   line_is q list is n made among same =
       let (record_in, inside) = named_in ts all ns are n among in
       is.lines n.x made record_in (entered_has q n.x.stretch made (subst (λ e. Contains n.x.stretch e) same inside))
 
-  in_list : (q : ℕ) (list : List Made) → list ≡ entered_in q (map entry_of ns) → (n : Named) (made : Made) → Contains ns n → n.entry ≡ Entered q made → Contains list made
+  in_list : (q : ℕ) (list : List Made) → list ≡ entered_in q (map entry_of ns) → (n : Named) (made : Made) → Contains ns n →
+      n.entry ≡ Entered q made → Contains list made
   in_list q list is n made among same =
-      subst (λ ms. Contains ms made) (sym is) (entered_has q (map entry_of ns) made (subst (λ e. Contains (map entry_of ns) e) same (map_in entry_of ns n among)))
+      subst (λ ms. Contains ms made) (sym is)
+      (entered_has q (map entry_of ns) made (subst (λ e. Contains (map entry_of ns) e) same (map_in entry_of ns n among)))
 
   -- ---- a journal
 
-  module _ (p : ℕ) (list : List Made) (named_list : list ≡ entered_in p (map entry_of ns)) (is_list : IsListOf p list ts) (journal : IsJournalOf list (roots p))
+  module _ (p : ℕ) (list : List Made) (named_list : list ≡ entered_in p (map entry_of ns)) (is_list : IsListOf p list ts)
+      (journal : IsJournalOf list (roots p))
       (small : p < 4) where
     entry_made : (n : Named) (made : Made) → Contains ns n → n.entry ≡ Entered p made →
         cons_option (option_map root_numbers (kept_by (enters p) n.x.played (entered_part roots p made.numbers))) [] ≡ made.numbers ∷ []
     entry_made n made among same =
         let there : Contains (map root_numbers (roots p)) made.numbers =
-        subst (λ ms. Contains ms made.numbers) journal (map_in (λ (m : Made). m.numbers) list made (in_list p list named_list n made among same)) in
+        subst (λ ms. Contains ms made.numbers) journal
+        (map_in (λ (m : Made). m.numbers) list made (in_list p list named_list n made among same)) in
         let (e, found, numbers) = with_numbers made.numbers (roots p) there in
         let line : e.line ≡ n.x.played.line = ap first_of numbers ∙ line_is p list is_list n made among same in
-        let again : root_numbers (record { line = n.x.played.line; act = e.act }) ≡ made.numbers = ap (λ l. l ∷ root_act_numbers e.act) (sym line) ∙ numbers in
+        let again : root_numbers (record { line = n.x.played.line; act = e.act }) ≡ made.numbers =
+        ap (λ l. l ∷ root_act_numbers e.act) (sym line) ∙ numbers in
         rw (ne_eqb p 4 (λ e. omega arith), ne_eqb p 5 (λ e. omega arith), found, eq-eqb p p refl) (ap (λ ms. ms ∷ []) again)
 
-    piece : (n : Named) → Contains ns n → cons_option (option_map root_numbers (kept_by (enters p) n.x.played (part_of roots n.x.played.answer n.entry))) []
+    piece : (n : Named) → Contains ns n →
+        cons_option (option_map root_numbers (kept_by (enters p) n.x.played (part_of roots n.x.played.answer n.entry))) []
         ≡ map (λ (m : Made). m.numbers) (entry_in p n.entry)
     piece n among = elim (listed_or (enters p) roots n.x.played n.x.played.answer n.entry refl refl refl) [
       | inr (none, no_list) ↦ rw (none, no_list p) refl
       | inl (keeper, made, same) ↦
-          let here : Entry → Type 0 = λ e. cons_option (option_map root_numbers (kept_by (enters p) n.x.played (part_of roots n.x.played.answer e))) []
+          let here : Entry → Type 0 =
+          λ e. cons_option (option_map root_numbers (kept_by (enters p) n.x.played (part_of roots n.x.played.answer e))) []
           ≡ map (λ (m : Made). m.numbers) (entry_in p e) in
           subst here (sym same) (elim (cases_eq keeper p) [
-            | inl own ↦ subst (λ q. here (Entered q made)) (sym own) (rw (eq-eqb p p refl) (entry_made n made among (same ∙ ap (λ q. Entered q made) own)))
+            | inl own ↦ subst (λ q. here (Entered q made)) (sym own)
+                (rw (eq-eqb p p refl) (entry_made n made among (same ∙ ap (λ q. Entered q made) own)))
             | inr other ↦
-                let none = elsewhere (enters p) roots n.x.played keeper made.numbers (λ e. refl) (λ e. refl) (λ e is. rw (ne_eqb keeper p other) refl) in
+                let none = elsewhere (enters p) roots n.x.played keeper made.numbers (λ e. refl) (λ e. refl)
+                (λ e is. rw (ne_eqb keeper p other) refl) in
                 rw (none, ne_eqb keeper p other) refl
           ])
     ]
@@ -132,7 +144,8 @@ module _ (ts : List ToldRecord) (all : List Stamped) (ns : List Named) (are : Ar
       no_entry : (keeper : ℕ) (numbers : List ℕ) (x : Played) → kept_by (enters p) x (entered_part roots keeper numbers) ≡ None
       no_entry keeper numbers x = elsewhere (enters p) roots x keeper numbers (λ e. refl) (λ e. refl) (λ e is. elim (cases_eq keeper p) [
         | inl here ↦
-            let none : entry_with numbers (roots keeper) ≡ None = ap (λ q. entry_with numbers (roots q)) here ∙ ap (entry_with numbers) empty in
+            let none : entry_with numbers (roots keeper) ≡ None = ap (λ q. entry_with numbers (roots q)) here ∙
+            ap (entry_with numbers) empty in
             absurd (not_some e (sym none ∙ is))
         | inr other ↦ rw (ne_eqb keeper p other) refl
       ])
@@ -149,7 +162,8 @@ module _ (ts : List ToldRecord) (all : List Stamped) (ns : List Named) (are : Ar
       none_kept (n ∷ bs) = rw (nothing n) (none_kept bs)
 
   -- phase by phase
-  pub journals_made : (p : ℕ) → filter_map (enters p) (moments_in roots ns) ≡ roots p → StandInOrder (λ (e : RootEntry). e.line) (played_in ts) (roots p) →
+  pub journals_made : (p : ℕ) → filter_map (enters p) (moments_in roots ns) ≡ roots p →
+      StandInOrder (λ (e : RootEntry). e.line) (played_in ts) (roots p) →
       journal_made p (by_phases roots ns) ≡ roots p
   journals_made p kept order =
       phases_keep ts all ns are roots (enters p) (λ (e : RootEntry). e.line) (roots p) (λ m u is. entered_line p m.x.line m.part u is) kept
@@ -157,14 +171,18 @@ module _ (ts : List ToldRecord) (all : List Stamped) (ns : List Named) (are : Ar
 
   -- ---- the pool
 
-  module _ (list : List Made) (pools : List PoolEntry) (named_list : list ≡ entered_in 4 (map entry_of ns)) (is_list : IsListOf 4 list ts) (pool : IsPoolList list pools) where
-    ask_piece : (n : Named) → Contains ns n → cons_option (kept_by asks n.x.played (part_of roots n.x.played.answer n.entry)) [] ≡ map line_of (entry_in 4 n.entry)
+  module _ (list : List Made) (pools : List PoolEntry) (named_list : list ≡ entered_in 4 (map entry_of ns)) (is_list : IsListOf 4 list ts)
+      (pool : IsPoolList list pools) where
+    ask_piece : (n : Named) → Contains ns n →
+        cons_option (kept_by asks n.x.played (part_of roots n.x.played.answer n.entry)) [] ≡ map line_of (entry_in 4 n.entry)
     ask_piece n among = elim (listed_or asks roots n.x.played n.x.played.answer n.entry refl refl refl) [
       | inr (none, no_list) ↦ rw (none, no_list 4) refl
       | inl (keeper, made, same) ↦
-          let here : Entry → Type 0 = λ e. cons_option (kept_by asks n.x.played (part_of roots n.x.played.answer e)) [] ≡ map line_of (entry_in 4 e) in
+          let here : Entry → Type 0 =
+          λ e. cons_option (kept_by asks n.x.played (part_of roots n.x.played.answer e)) [] ≡ map line_of (entry_in 4 e) in
           subst here (sym same) (elim (cases_eq keeper 4) [
-            | inl own ↦ subst (λ q. here (Entered q made)) (sym own) (ap (λ l. l ∷ []) (sym (line_is 4 list is_list n made among (same ∙ ap (λ q. Entered q made) own))))
+            | inl own ↦ subst (λ q. here (Entered q made)) (sym own)
+                (ap (λ l. l ∷ []) (sym (line_is 4 list is_list n made among (same ∙ ap (λ q. Entered q made) own))))
             | inr other ↦
                 let none = elsewhere asks roots n.x.played keeper made.numbers (λ four. absurd (other four)) (λ e. refl) (λ e is. refl) in
                 rw (none, ne_eqb keeper 4 other) refl
@@ -174,7 +192,8 @@ module _ (ts : List ToldRecord) (all : List Stamped) (ns : List Named) (are : Ar
     lines_of_pool : map line_of list ≡ map (λ (e : PoolEntry). e.line) pools
     lines_of_pool = by_numbers list pools pool
       where
-        by_numbers : (ms : List Made) (es : List PoolEntry) → map (λ (m : Made). m.numbers) ms ≡ map pool_numbers es → map line_of ms ≡ map (λ (e : PoolEntry). e.line) es
+        by_numbers : (ms : List Made) (es : List PoolEntry) → map (λ (m : Made). m.numbers) ms ≡ map pool_numbers es →
+            map line_of ms ≡ map (λ (e : PoolEntry). e.line) es
         by_numbers [] [] same = refl
         by_numbers [] (e ∷ es) same = absurd cc
         by_numbers (m ∷ ms) [] same = absurd cc
@@ -189,9 +208,11 @@ module _ (ts : List ToldRecord) (all : List Stamped) (ns : List Named) (are : Ar
         ∙ kept_flat (λ n. option_and_then asks (moment_of roots n)) (λ (n : Named). map line_of (entry_in 4 n.entry)) ns ask_piece
         ∙ sym (entered_flat line_of 4 ns) ∙ sym (ap (map line_of) named_list) ∙ lines_of_pool
 
-    pub pool_asked : StandInOrder (λ (e : PoolEntry). e.line) (played_in ts) pools → asked_lines (by_phases roots ns) ≡ map (λ (e : PoolEntry). e.line) pools
+    pub pool_asked : StandInOrder (λ (e : PoolEntry). e.line) (played_in ts) pools →
+        asked_lines (by_phases roots ns) ≡ map (λ (e : PoolEntry). e.line) pools
     pool_asked order =
-        phases_keep ts all ns are roots asks (λ l. l) (map (λ (e : PoolEntry). e.line) pools) (λ m u is. asked_is m.x.line m.part u is) kept_pool
+        phases_keep ts all ns are roots asks (λ l. l) (map (λ (e : PoolEntry). e.line) pools)
+        (λ m u is. asked_is m.x.line m.part u is) kept_pool
         (pairs_map (λ (e f : PoolEntry). InPhase (played_in ts) e.line f.line) (InPhase (played_in ts)) (λ (e : PoolEntry). e.line) pools
         (λ e f first second in_phase. in_phase)
         (stand_in_phases (λ (e : PoolEntry). e.line) (played_in ts) pools order))

@@ -44,11 +44,13 @@ abbrev pub changed_by : SlotName → ℕ → Option Moment → ℕ → ℕ
 changed_by s place None c = c
 changed_by s place (Some m) c = changed_to (moment_leaves s place m) c
 
-content_more : (s : SlotName) (place c : ℕ) (ms : List Moment) (m : Moment) → content_after s place c (ms ++ m ∷ []) ≡ changed_to (moment_leaves s place m) (content_after s place c ms)
+content_more : (s : SlotName) (place c : ℕ) (ms : List Moment) (m : Moment) →
+    content_after s place c (ms ++ m ∷ []) ≡ changed_to (moment_leaves s place m) (content_after s place c ms)
 content_more s place c [] m = refl
 content_more s place c (z ∷ ms) m = content_more s place (changed_to (moment_leaves s place z) c) ms m
 
-content_piece : (s : SlotName) (place c : ℕ) (ms : List Moment) (o : Option Moment) → content_after s place c (ms ++ cons_option o []) ≡ changed_by s place o (content_after s place c ms)
+content_piece : (s : SlotName) (place c : ℕ) (ms : List Moment) (o : Option Moment) →
+    content_after s place c (ms ++ cons_option o []) ≡ changed_by s place o (content_after s place c ms)
 content_piece s place c ms None = ap (content_after s place c) (append-nil ms)
 content_piece s place c ms (Some m) = content_more s place c ms m
 
@@ -65,7 +67,8 @@ still_leaves place x Counting still = absurd (true≢false (sym still))
 still_leaves place x (Spoiling word) still = absurd (true≢false (sym still))
 still_leaves place x part still = refl
 
-still_by : (s : SlotName) (place c : ℕ) (x : Played) (o : Option Part) → ((part : Part) → o ≡ Some part → is_still part ≡ true) → changed_by s place (option_map (moment x) o) c ≡ c
+still_by : (s : SlotName) (place c : ℕ) (x : Played) (o : Option Part) → ((part : Part) → o ≡ Some part → is_still part ≡ true) →
+    changed_by s place (option_map (moment x) o) c ≡ c
 still_by s place c x None still = refl
 still_by s place c x (Some part) still = elim (cases_Bool (is_of_slot s (mark_of x))) [
   | inl own ↦ rw own (ap (λ o. changed_to o c) (still_leaves place x part (still part refl)))
@@ -74,17 +77,27 @@ still_by s place c x (Some part) still = elim (cases_Bool (is_of_slot s (mark_of
 
 -- ---- a counted step
 
-value_done : (op : Op) (seen : Seen) (d : StepMade) (c : ℕ) → step_in op (answers.Done seen) ≡ Some d → changed_to (value_left op (answers.Done seen)) c ≡ content_by d.step d.value c
-value_done (ops.Copy from to) seen d c is = ap (λ (z : StepMade). content_by z.step z.value c) (of_some (record { slot = seen.slot; step = steps.Copy; found = seen.found.0; value = 0 }) d is)
-value_done (ops.Reset reg) seen d c is = ap (λ (z : StepMade). content_by z.step z.value c) (of_some (record { slot = seen.slot; step = steps.Reset; found = seen.found.0; value = 0 }) d is)
-value_done (ops.Free reg) seen d c is = ap (λ (z : StepMade). content_by z.step z.value c) (of_some (record { slot = seen.slot; step = steps.Free; found = seen.found.0; value = 0 }) d is)
+value_done : (op : Op) (seen : Seen) (d : StepMade) (c : ℕ) → step_in op (answers.Done seen) ≡ Some d →
+    changed_to (value_left op (answers.Done seen)) c ≡ content_by d.step d.value c
+value_done (ops.Copy from to) seen d c is =
+    ap (λ (z : StepMade). content_by z.step z.value c)
+    (of_some (record { slot = seen.slot; step = steps.Copy; found = seen.found.0; value = 0 }) d is)
+value_done (ops.Reset reg) seen d c is =
+    ap (λ (z : StepMade). content_by z.step z.value c)
+    (of_some (record { slot = seen.slot; step = steps.Reset; found = seen.found.0; value = 0 }) d is)
+value_done (ops.Free reg) seen d c is =
+    ap (λ (z : StepMade). content_by z.step z.value c)
+    (of_some (record { slot = seen.slot; step = steps.Free; found = seen.found.0; value = 0 }) d is)
 value_done (ops.Write reg value) seen d c is =
-    ap (λ (z : StepMade). content_by z.step z.value c) (of_some (record { slot = seen.slot; step = steps.Write; found = seen.found.0; value = value }) d is)
+    ap (λ (z : StepMade). content_by z.step z.value c)
+    (of_some (record { slot = seen.slot; step = steps.Write; found = seen.found.0; value = value }) d is)
 value_done op seen d c is = absurd (not_some d is)
 
-value_by_step : (op : Op) (answer : Answer) (d : StepMade) (c : ℕ) → step_in op answer ≡ Some d → changed_to (value_left op answer) c ≡ content_by d.step d.value c
+value_by_step : (op : Op) (answer : Answer) (d : StepMade) (c : ℕ) → step_in op answer ≡ Some d →
+    changed_to (value_left op answer) c ≡ content_by d.step d.value c
 value_by_step op (answers.Made seen usable) d c is =
-    ap (λ (z : StepMade). content_by z.step z.value c) (of_some (record { slot = seen.slot; step = steps.Issue; found = seen.found.0; value = 0 }) d is)
+    ap (λ (z : StepMade). content_by z.step z.value c)
+    (of_some (record { slot = seen.slot; step = steps.Issue; found = seen.found.0; value = 0 }) d is)
 value_by_step op (answers.Done seen) d c is = value_done op seen d c is
 value_by_step op answer d c is = absurd (not_some d is)
 
@@ -98,7 +111,8 @@ title_other t u other = elim (title_tells t u) [ inl y ↦ absurd (other y.1) | 
 own_slot : (s : SlotName) (x : Played) (d : StepMade) → step_by x ≡ Some d → is_of_slot s (mark_of x) ≡ same_slot d.slot s
 own_slot s x d is = ap (is_of_slot s) (step_mark x.line x.op x.answer d is)
 
-module _ (sizes : SlotName → ℕ) (ts : List ToldRecord) (told : AreTold sizes ts) (all : List Stamped) (ns : List Named) (are : AreNamed ts all ns) (roots : Journals) (s : SlotName) (place : ℕ) where
+module _ (sizes : SlotName → ℕ) (ts : List ToldRecord) (told : AreTold sizes ts) (all : List Stamped) (ns : List Named)
+    (are : AreNamed ts all ns) (roots : Journals) (s : SlotName) (place : ℕ) where
   counted_changes : (n : Named) (c : ℕ) (u : Title) (step : Step) (found value : ℕ) → Contains ns n → n.entry ≡ Counted u step found value →
       changed_by s place (Some (moment n.x.played Counting)) c ≡ left_by (title_of sizes s) (Counted u step found value) c
   counted_changes n c u step found value among is =
@@ -107,11 +121,14 @@ module _ (sizes : SlotName → ℕ) (ts : List ToldRecord) (told : AreTold sizes
       elim (same_slot_cases d.slot s) [
         | inl same ↦
             let title : u ≡ title_of sizes s = of.title ∙ ap (title_of sizes) same in
-            let yes : same_title u (title_of sizes s) ≡ true = ap (λ t. same_title t (title_of sizes s)) title ∙ title_self (title_of sizes s) in
+            let yes : same_title u (title_of sizes s) ≡ true = ap (λ t. same_title t (title_of sizes s)) title ∙
+            title_self (title_of sizes s) in
             let own : is_of_slot s (mark_of x) ≡ true = own_slot s x d of.is ∙ same_slot_yes d.slot s same in
-            rw (own, yes) (value_by_step x.op x.answer d c of.is ∙ ap (λ p. content_by p d.value c) (sym of.step_is) ∙ ap (λ v. content_by step v c) (sym of.value_is))
+            rw (own, yes) (value_by_step x.op x.answer d c of.is ∙ ap (λ p. content_by p d.value c) (sym of.step_is) ∙
+            ap (λ v. content_by step v c) (sym of.value_is))
         | inr other ↦
-            let no : same_title u (title_of sizes s) ≡ false = title_other u (title_of sizes s) (λ e. other (title_slot sizes d.slot s (sym of.title ∙ e))) in
+            let no : same_title u (title_of sizes s) ≡ false =
+            title_other u (title_of sizes s) (λ e. other (title_slot sizes d.slot s (sym of.title ∙ e))) in
             let own : is_of_slot s (mark_of x) ≡ false = own_slot s x d of.is ∙ same_slot_no d.slot s other in
             rw (own, no) refl
       ]
@@ -121,17 +138,21 @@ module _ (sizes : SlotName → ℕ) (ts : List ToldRecord) (told : AreTold sizes
   entry_changes n c (Counted u step found value) among is = counted_changes n c u step found value among is
   entry_changes n c (Looked t found) among is =
       still_by s place c n.x.played (look_part n.x.played.answer) (λ part e. ap is_still (look_looks n.x.played.answer part e))
-  entry_changes n c (Read t word value since owned unclean) among is = still_by s place c n.x.played (Some Loading) (λ part e. ap is_still (sym (of_some Loading part e)))
+  entry_changes n c (Read t word value since owned unclean) among is =
+      still_by s place c n.x.played (Some Loading) (λ part e. ap is_still (sym (of_some Loading part e)))
   entry_changes n c (Added total bytes) among is = refl
   entry_changes n c (Entered q made) among is =
-      still_by s place c n.x.played (entered_part roots q made.numbers) (entered_is (λ p. is_still p ≡ true) refl refl (λ k act. refl) roots q made.numbers)
+      still_by s place c n.x.played (entered_part roots q made.numbers)
+      (entered_is (λ p. is_still p ≡ true) refl refl (λ k act. refl) roots q made.numbers)
   entry_changes n c (Uncut t) among is = refl
 
   -- ---- all steps
 
-  module _ (order : List OneStep) (agree : map stamped_of ns ≡ logged_among order) (placed : AreInPlace order) (closed : (t : Title) → spoiled t order ≡ 0) where
+  module _ (order : List OneStep) (agree : map stamped_of ns ≡ logged_among order) (placed : AreInPlace order)
+      (closed : (t : Title) → spoiled t order ≡ 0) where
     spoils_change : (later : List OneStep) (u : Title) (word : ℕ) (o : List OneStep) (c : ℕ) → order ≡ later ++ Spoiled u word ∷ o →
-        changed_by s place (piece roots ns (Spoiled u word) o) c ≡ (cond {A = ℕ} (same_title u (title_of sizes s) && eqb word place) poison c)
+        changed_by s place (piece roots ns (Spoiled u word) o)
+        c ≡ (cond {A = ℕ} (same_title u (title_of sizes s) && eqb word place) poison c)
     spoils_change later u word o c cut =
         let (f, is) = owner ns order agree placed closed later u word o cut in
         let (found, value, entry) = free_entry u f.entry is.is_free in
@@ -143,16 +164,19 @@ module _ (sizes : SlotName → ℕ) (ts : List ToldRecord) (told : AreTold sizes
         ap (λ z. changed_by s place (option_map (spoiling word) z) c) is.found ∙ elim (same_slot_cases d.slot s) [
           | inl same ↦
               let title : u ≡ title_of sizes s = of.title ∙ ap (title_of sizes) same in
-              let yes : same_title u (title_of sizes s) ≡ true = ap (λ t. same_title t (title_of sizes s)) title ∙ title_self (title_of sizes s) in
+              let yes : same_title u (title_of sizes s) ≡ true = ap (λ t. same_title t (title_of sizes s)) title ∙
+              title_self (title_of sizes s) in
               let own : is_of_slot s (mark_of x) ≡ true = own_slot s x d of.is ∙ same_slot_yes d.slot s same in
               rw (own, yes) (elim (cases_Bool (eqb word place)) [ inl here ↦ rw here refl | inr there ↦ rw there refl ])
           | inr other ↦
-              let no : same_title u (title_of sizes s) ≡ false = title_other u (title_of sizes s) (λ e. other (title_slot sizes d.slot s (sym of.title ∙ e))) in
+              let no : same_title u (title_of sizes s) ≡ false =
+              title_other u (title_of sizes s) (λ e. other (title_slot sizes d.slot s (sym of.title ∙ e))) in
               let own : is_of_slot s (mark_of x) ≡ false = own_slot s x d of.is ∙ same_slot_no d.slot s other in
               rw (own, no) refl
         ]
 
-    pub content_laid : (pre st : List OneStep) → order ≡ pre ++ st → content_after s place 0 (laid roots ns st) ≡ content_in (title_of sizes s) place st
+    pub content_laid : (pre st : List OneStep) → order ≡ pre ++ st →
+        content_after s place 0 (laid roots ns st) ≡ content_in (title_of sizes s) place st
     content_laid pre [] cut = refl
     content_laid pre (Logged m ∷ o) cut =
         let again = content_laid (pre ++ Logged m ∷ []) o (cut ∙ sym (append_assoc pre (Logged m ∷ []) o)) in
@@ -162,7 +186,8 @@ module _ (sizes : SlotName → ℕ) (ts : List ToldRecord) (told : AreTold sizes
         content_piece s place 0 (laid roots ns o) (piece roots ns (Logged m) o)
         ∙ ap (λ z. changed_by s place (option_and_then (moment_of roots) (first z)) (content_after s place 0 (laid roots ns o))) next.back
         ∙ entry_changes n (content_after s place 0 (laid roots ns o)) n.entry among refl
-        ∙ ap (λ e. left_by (title_of sizes s) e (content_after s place 0 (laid roots ns o))) entry ∙ ap (left_by (title_of sizes s) m.entry) again
+        ∙ ap (λ e. left_by (title_of sizes s) e (content_after s place 0 (laid roots ns o))) entry ∙
+        ap (left_by (title_of sizes s) m.entry) again
     content_laid pre (Spoiled u word ∷ o) cut =
         let again = content_laid (pre ++ Spoiled u word ∷ []) o (cut ∙ sym (append_assoc pre (Spoiled u word ∷ []) o)) in
         content_piece s place 0 (laid roots ns o) (piece roots ns (Spoiled u word) o)

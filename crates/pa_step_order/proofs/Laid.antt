@@ -40,17 +40,20 @@ pub stamps_agree : (ts : List ToldRecord) (all : List Stamped) → ((k : ℕ) �
     map stamped_of (in_turn (λ (m : Stamped). m.stake) (named_log ts) all) ≡ all
 stamps_agree ts all logs =
     turns_say (λ (m : Stamped). m.stake) stamped_of (λ (m : Stamped). m) (named_log ts) all
-    (λ k. map_tells (λ (m : Stamped). m.entry) (map stamped_of (named_log ts k)) (map (λ (m : Stamped). m) (filter (λ (m : Stamped). eqb m.stake k) all))
+    (λ k. map_tells (λ (m : Stamped). m.entry) (map stamped_of (named_log ts k))
+    (map (λ (m : Stamped). m) (filter (λ (m : Stamped). eqb m.stake k) all))
     (λ a b first second same. one_stake k a b (mine k a first) (theirs k b second) same)
     (map_both (λ (m : Stamped). m.entry) stamped_of (named_log ts k) ∙ log_named (filter (is_of_thread k) ts) ∙ logs k ∙ stake_filter k all
     ∙ ap (map (λ (m : Stamped). m.entry)) (sym (map-id (filter (λ (m : Stamped). eqb m.stake k) all)))))
     ∙ map-id all
   where
     one_stake : (k : ℕ) (a b : Stamped) → a.stake ≡ k → b.stake ≡ k → a.entry ≡ b.entry → a ≡ b
-    one_stake k a b e f same = ap (λ n. record { stake = n; entry = a.entry }) (e ∙ sym f) ∙ ap (λ z. record { stake = b.stake; entry = z }) same
+    one_stake k a b e f same = ap (λ n. record { stake = n; entry = a.entry }) (e ∙ sym f) ∙
+        ap (λ z. record { stake = b.stake; entry = z }) same
 
     mine : (k : ℕ) (a : Stamped) → Contains (map stamped_of (named_log ts k)) a → a.stake ≡ k
-    mine k a among = let (n, there, is) = map_cases stamped_of (named_log ts k) a among in sym (ap (λ (z : Stamped). z.stake) is) ∙ of_thread ts k n there
+    mine k a among = let (n, there, is) = map_cases stamped_of (named_log ts k) a among in sym (ap (λ (z : Stamped). z.stake) is) ∙
+        of_thread ts k n there
 
     theirs : (k : ℕ) (b : Stamped) → Contains (map (λ (m : Stamped). m) (filter (λ (m : Stamped). eqb m.stake k) all)) b → b.stake ≡ k
     theirs k b among =
@@ -87,8 +90,10 @@ laid roots ns (s ∷ older) = laid roots ns older ++ cons_option (piece roots ns
 
 -- ---- where a moment is from
 
-pub cut_laid : (roots : Journals) (ns : List Named) (st : List OneStep) (us vs : List Moment) (m : Moment) → laid roots ns st ≡ us ++ m ∷ vs →
-    (later : List OneStep) × (s : OneStep) × (older : List OneStep) × (st ≡ later ++ s ∷ older) × (us ≡ laid roots ns older) × (piece roots ns s older ≡ Some m)
+pub cut_laid : (roots : Journals) (ns : List Named) (st : List OneStep) (us vs : List Moment) (m : Moment) → laid roots ns st ≡ us ++
+    m ∷ vs →
+    (later : List OneStep) × (s : OneStep) × (older : List OneStep) × (st ≡ later ++ s ∷ older) × (us ≡ laid roots ns older) ×
+    (piece roots ns s older ≡ Some m)
 cut_laid roots ns [] us vs m e = absurd (none_cons us m vs e)
 cut_laid roots ns (s ∷ o) us vs m e = elim (none_or_some (piece roots ns s o)) [
   | inl none ↦
@@ -117,9 +122,11 @@ logged_append (Spoiled t word ∷ later) older = logged_append later older
 
 -- no entry is a poisoning
 pub never_spoils : (roots : Journals) (answer : Answer) (entry : Entry) (word : ℕ) → part_of roots answer entry ≡ Some (Spoiling word) → ⊥
-never_spoils roots answer (Counted t step found value) word is = let both : Counting ≡ Spoiling word = of_some Counting (Spoiling word) is in cc
+never_spoils roots answer (Counted t step found value) word is = let both : Counting ≡ Spoiling word =
+    of_some Counting (Spoiling word) is in cc
 never_spoils roots answer (Looked t found) word is = let both = look_looks answer (Spoiling word) is in cc
-never_spoils roots answer (Read t place value since owned unclean) word is = let both : Loading ≡ Spoiling word = of_some Loading (Spoiling word) is in cc
+never_spoils roots answer (Read t place value since owned unclean) word is = let both : Loading ≡ Spoiling word =
+    of_some Loading (Spoiling word) is in cc
 never_spoils roots answer (Added total bytes) word is = not_some (Spoiling word) is
 never_spoils roots answer (Entered q made) word is =
     entered_is (λ p. p ≡ Spoiling word → ⊥) (λ e. cc) (λ e. cc) (λ k act e. cc) roots q made.numbers (Spoiling word) is refl
@@ -142,7 +149,8 @@ named_stays roots n = elim (none_or_some (part_of roots n.x.played.answer n.entr
 module _ (ns : List Named) (steps : List OneStep) (agree : map stamped_of ns ≡ logged_among steps) where
   pub parted : (later older : List OneStep) → steps ≡ later ++ older →
       (map stamped_of (front_at ns older) ≡ logged_among older) × (ns ≡ front_at ns older ++ back_at ns older)
-  parted later older cut = map_front stamped_of ns (logged_among older) (logged_among later) (agree ∙ ap logged_among cut ∙ logged_append later older)
+  parted later older cut =
+      map_front stamped_of ns (logged_among older) (logged_among later) (agree ∙ ap logged_among cut ∙ logged_append later older)
 
   -- what was logged right after these steps
   pub record IsNext (m : Stamped) (older : List OneStep) (n : Named) : Type 0 where
@@ -151,19 +159,24 @@ module _ (ns : List Named) (steps : List OneStep) (agree : map stamped_of ns ≡
     pub front : front_at ns (Logged m ∷ older) ≡ front_at ns older ++ n ∷ []
     pub whole : ns ≡ front_at ns older ++ n ∷ back_at ns (Logged m ∷ older)
 
-  pub next_named : (later : List OneStep) (m : Stamped) (older : List OneStep) → steps ≡ later ++ Logged m ∷ older → (n : Named) × IsNext m older n
+  pub next_named : (later : List OneStep) (m : Stamped) (older : List OneStep) → steps ≡ later ++ Logged m ∷ older → (n : Named) ×
+      IsNext m older n
   next_named later m older cut =
       let all : map stamped_of ns ≡ logged_among older ++ m ∷ logged_among later =
-      agree ∙ ap logged_among cut ∙ logged_append later (Logged m ∷ older) ∙ append_assoc (logged_among older) (m ∷ []) (logged_among later) in
+      agree ∙ ap logged_among cut ∙ logged_append later (Logged m ∷ older) ∙
+      append_assoc (logged_among older) (m ∷ []) (logged_among later) in
       let (f, n, g, whole, before, is) = map_parts stamped_of ns (logged_among older) m (logged_among later) all in
       let k : length (logged_among older) ≡ length f = length_same stamped_of f (logged_among older) before in
       let one : map stamped_of (f ++ n ∷ []) ≡ logged_among (Logged m ∷ older) = pushed f n before is in
-      let k' : length (logged_among (Logged m ∷ older)) ≡ length (f ++ n ∷ []) = length_same stamped_of (f ++ n ∷ []) (logged_among (Logged m ∷ older)) one in
+      let k' : length (logged_among (Logged m ∷ older)) ≡ length (f ++ n ∷ []) =
+      length_same stamped_of (f ++ n ∷ []) (logged_among (Logged m ∷ older)) one in
       let again : ns ≡ (f ++ n ∷ []) ++ g = whole ∙ sym (append_assoc f (n ∷ []) g) in
       let front : front_at ns older ≡ f = ap (λ i. take i ns) k ∙ ap (take (length f)) whole ∙ take-append_seam f (n ∷ g) in
       let back : back_at ns older ≡ n ∷ g = ap (λ i. drop i ns) k ∙ ap (drop (length f)) whole ∙ drop-append_seam f (n ∷ g) in
-      let front' : front_at ns (Logged m ∷ older) ≡ f ++ n ∷ [] = ap (λ i. take i ns) k' ∙ ap (take (length (f ++ n ∷ []))) again ∙ take-append_seam (f ++ n ∷ []) g in
-      let back' : back_at ns (Logged m ∷ older) ≡ g = ap (λ i. drop i ns) k' ∙ ap (drop (length (f ++ n ∷ []))) again ∙ drop-append_seam (f ++ n ∷ []) g in (
+      let front' : front_at ns (Logged m ∷ older) ≡ f ++ n ∷ [] = ap (λ i. take i ns) k' ∙ ap (take (length (f ++ n ∷ []))) again ∙
+      take-append_seam (f ++ n ∷ []) g in
+      let back' : back_at ns (Logged m ∷ older) ≡ g = ap (λ i. drop i ns) k' ∙ ap (drop (length (f ++ n ∷ []))) again ∙
+      drop-append_seam (f ++ n ∷ []) g in (
         n,
         record {
           stamp = is;
@@ -173,7 +186,8 @@ module _ (ns : List Named) (steps : List OneStep) (agree : map stamped_of ns ≡
         },
       )
     where
-      pushed : (f : List Named) (n : Named) → map stamped_of f ≡ logged_among older → stamped_of n ≡ m → map stamped_of (f ++ n ∷ []) ≡ logged_among older ++ m ∷ []
+      pushed : (f : List Named) (n : Named) → map stamped_of f ≡ logged_among older → stamped_of n ≡ m →
+          map stamped_of (f ++ n ∷ []) ≡ logged_among older ++ m ∷ []
       pushed f n before is = map_push f n ∙ ap (λ z. z ++ stamped_of n ∷ []) before ∙ ap (λ z. logged_among older ++ z ∷ []) is
         where
           map_push : (f : List Named) (n : Named) → map stamped_of (f ++ n ∷ []) ≡ map stamped_of f ++ stamped_of n ∷ []
@@ -181,21 +195,24 @@ module _ (ns : List Named) (steps : List OneStep) (agree : map stamped_of ns ≡
           map_push (x ∷ f) n = ap (λ z. stamped_of x ∷ z) (map_push f n)
 
   -- without the poisonings these are the moments of what was logged
-  pub laid_stays : (roots : Journals) (pre st : List OneStep) → steps ≡ pre ++ st → filter_map stays (laid roots ns st) ≡ moments_in roots (front_at ns st)
+  pub laid_stays : (roots : Journals) (pre st : List OneStep) → steps ≡ pre ++ st →
+      filter_map stays (laid roots ns st) ≡ moments_in roots (front_at ns st)
   laid_stays roots pre [] cut = refl
   laid_stays roots pre (Logged m ∷ o) cut =
       let (n, next) = next_named pre m o cut in
       let again = laid_stays roots (pre ++ Logged m ∷ []) o (cut ∙ sym (append_assoc pre (Logged m ∷ []) o)) in
       filter_map-append stays (laid roots ns o) (cons_option (piece roots ns (Logged m) o) [])
       ∙ ap (λ z. z ++ filter_map stays (cons_option (piece roots ns (Logged m) o) [])) again
-      ∙ ap (λ z. moments_in roots (front_at ns o) ++ filter_map stays (cons_option (option_and_then (moment_of roots) (first z)) [])) next.back
+      ∙ ap (λ z. moments_in roots (front_at ns o) ++
+      filter_map stays (cons_option (option_and_then (moment_of roots) (first z)) [])) next.back
       ∙ ap (λ z. moments_in roots (front_at ns o) ++ z) (named_stays roots n)
       ∙ sym (ap (moments_in roots) next.front ∙ filter_map-append (moment_of roots) (front_at ns o) (n ∷ []))
   laid_stays roots pre (Spoiled t word ∷ o) cut =
       let again = laid_stays roots (pre ++ Spoiled t word ∷ []) o (cut ∙ sym (append_assoc pre (Spoiled t word ∷ []) o)) in
       filter_map-append stays (laid roots ns o) (cons_option (piece roots ns (Spoiled t word) o) [])
       ∙ ap (λ z. z ++ filter_map stays (cons_option (piece roots ns (Spoiled t word) o) [])) again
-      ∙ ap (λ z. moments_in roots (front_at ns o) ++ z) (none_stays (find (frees t) (back_at ns o))) ∙ append-nil (moments_in roots (front_at ns o))
+      ∙ ap (λ z. moments_in roots (front_at ns o) ++ z) (none_stays (find (frees t) (back_at ns o))) ∙
+      append-nil (moments_in roots (front_at ns o))
     where
       none_stays : (o : Option Named) → filter_map stays (cons_option (option_map (spoiling word) o) []) ≡ []
       none_stays None = refl

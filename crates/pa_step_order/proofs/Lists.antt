@@ -34,30 +34,36 @@ use Rattle.pa_step_order.proofs.Sorting.{sorted_kept, KeptRises}
 abbrev pub InPhase : List Played → ℕ → ℕ → Type 0
 InPhase ps a b = (x y : Played) → Contains ps x → Contains ps y → x.line ≡ a → y.line ≡ b → x.phase ≤ y.phase
 
-pub stand_in_phases : {E : Type 0} (line : E → ℕ) (ps : List Played) (es : List E) → StandInOrder line ps es → AllPairs (λ e f. InPhase ps (line e) (line f)) es
+pub stand_in_phases : {E : Type 0} (line : E → ℕ) (ps : List Played) (es : List E) → StandInOrder line ps es →
+    AllPairs (λ e f. InPhase ps (line e) (line f)) es
 stand_in_phases line ps es order i j d before below x y first second on on' = elim (cases_lt y.phase x.phase) [
   | inl less ↦
-      let back = order j i (get_or es j d) (get_or es i d) y x (here_is es j d below) (here_is es i d (omega arith)) (second, on') (first, on) (inr less) in
+      let back = order j i (get_or es j d) (get_or es i d) y x (here_is es j d below) (here_is es i d (omega arith)) (second, on')
+      (first, on) (inr less) in
       absurd (omega arith)
   | inr up ↦ up
 ]
 
 module _ (ts : List ToldRecord) (all : List Stamped) (ns : List Named) (are : AreNamed ts all ns) (roots : Journals) where
   -- what is kept as it is in a list
-  pub phases_keep : {B : Type 0} (f : Moment → Option B) (line : B → ℕ) (es : List B) → ((m : Moment) (u : B) → f m ≡ Some u → line u ≡ m.x.line) →
-      filter_map f (moments_in roots ns) ≡ es → AllPairs (λ u v. InPhase (played_in ts) (line u) (line v)) es → filter_map f (by_phases roots ns) ≡ es
+  pub phases_keep : {B : Type 0} (f : Moment → Option B) (line : B → ℕ) (es : List B) →
+      ((m : Moment) (u : B) → f m ≡ Some u → line u ≡ m.x.line) →
+      filter_map f (moments_in roots ns) ≡ es → AllPairs (λ u v. InPhase (played_in ts) (line u) (line v)) es →
+      filter_map f (by_phases roots ns) ≡ es
   phases_keep {B = B} f line es lines kept phases =
       let ms = moments_in roots ns in
       let S : B → B → Type 0 = λ u v. InPhase (played_in ts) (line u) (line v) in
       let pairs = pairs_kept f S ms (subst (AllPairs S) (sym kept) phases) in
       sorted_kept phase_at f ms
       (pairs_give (λ a b. (u v : B) → f a ≡ Some u → f b ≡ Some v → S u v) (KeptRises phase_at f) ms pairs
-      (λ a b first second related u v is is'. related u v is is' a.x b.x (of_records ts all ns are roots a first) (of_records ts all ns are roots b second) (sym (lines a u is)) (sym (lines b v is'))))
+      (λ a b first second related u v is is'. related u v is is' a.x b.x (of_records ts all ns are roots a first)
+      (of_records ts all ns are roots b second) (sym (lines a u is)) (sym (lines b v is'))))
       ∙ kept
 
 -- ---- what entries put into a list
 
-pub kept_map : {X A C : Type 0} (f : A → C) (g : X → Option A) (xs : List X) → map f (filter_map g xs) ≡ filter_map (λ x. option_map f (g x)) xs
+pub kept_map : {X A C : Type 0} (f : A → C) (g : X → Option A) (xs : List X) →
+    map f (filter_map g xs) ≡ filter_map (λ x. option_map f (g x)) xs
 kept_map f g [] = refl
 kept_map f g (x ∷ xs) = elim (none_or_some (g x)) [
   | inl none ↦ rw none (kept_map f g xs)
@@ -68,16 +74,19 @@ one_piece : {A : Type 0} (o : Option A) (ys : List A) → cons_option o ys ≡ c
 one_piece None ys = refl
 one_piece (Some y) ys = refl
 
-pub kept_flat : {X A : Type 0} (g : X → Option A) (h : X → List A) (xs : List X) → ((x : X) → Contains xs x → cons_option (g x) [] ≡ h x) → filter_map g xs ≡ flat_map h xs
+pub kept_flat : {X A : Type 0} (g : X → Option A) (h : X → List A) (xs : List X) → ((x : X) → Contains xs x → cons_option (g x) [] ≡ h x) →
+    filter_map g xs ≡ flat_map h xs
 kept_flat g h [] each = refl
 kept_flat g h (x ∷ xs) each =
-    one_piece (g x) (filter_map g xs) ∙ ap (λ ys. ys ++ filter_map g xs) (each x (first_in x xs)) ∙ ap (λ ys. h x ++ ys) (kept_flat g h xs (λ y among. each y (later_in x y xs among)))
+    one_piece (g x) (filter_map g xs) ∙ ap (λ ys. ys ++ filter_map g xs) (each x (first_in x xs)) ∙
+    ap (λ ys. h x ++ ys) (kept_flat g h xs (λ y among. each y (later_in x y xs among)))
 
 pub entered_flat : {C : Type 0} (f : Made → C) (q : ℕ) (ns : List Named) →
     map f (entered_in q (map (λ (n : Named). n.entry) ns)) ≡ flat_map (λ (n : Named). map f (entry_in q n.entry)) ns
 entered_flat f q [] = refl
 entered_flat f q (n ∷ ns) =
-    map-append f (entry_in q n.entry) (entered_in q (map (λ (z : Named). z.entry) ns)) ∙ ap (λ ys. map f (entry_in q n.entry) ++ ys) (entered_flat f q ns)
+    map-append f (entry_in q n.entry) (entered_in q (map (λ (z : Named). z.entry) ns)) ∙
+    ap (λ ys. map f (entry_in q n.entry) ++ ys) (entered_flat f q ns)
 
 pub entered_has : (q : ℕ) (es : List Entry) (made : Made) → Contains es (Entered q made) → Contains (entered_in q es) made
 entered_has q [] made among = absurd (not_in_none (Entered q made) among)
@@ -94,7 +103,8 @@ entered_has q (e ∷ es) made among = elim (in_cases e (Entered q made) es among
 abbrev pub kept_by : {B : Type 0} → (Moment → Option B) → Played → Option Part → Option B
 kept_by f x o = option_and_then f (option_map (moment x) o)
 
-look_kept : {B : Type 0} (f : Moment → Option B) (x : Played) (answer : Answer) → f (moment x Looking) ≡ None → kept_by f x (look_part answer) ≡ None
+look_kept : {B : Type 0} (f : Moment → Option B) (x : Played) (answer : Answer) → f (moment x Looking) ≡ None →
+    kept_by f x (look_part answer) ≡ None
 look_kept f x (answers.Made seen usable) none = refl
 look_kept f x (answers.Done seen) none = refl
 look_kept f x answer none = none

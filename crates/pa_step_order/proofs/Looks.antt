@@ -47,15 +47,18 @@ same_look t u m n e = (cc, cc)
 
 module _ (sizes : SlotName → ℕ) (line : ℕ) (m : Mark) (t : Title) (found : ℕ) where
   -- the only look of a log segment
-  only_look : (seen : Seen) (es : List Entry) → touches es ≡ Looked (title_of sizes seen.slot) seen.found.0 ∷ [] → Contains es (Looked t found) →
+  only_look : (seen : Seen) (es : List Entry) → touches es ≡ Looked (title_of sizes seen.slot) seen.found.0 ∷ [] →
+      Contains es (Looked t found) →
       Some (mark_at line seen None) ≡ Some m → IsLookAt sizes t found m
   only_look seen es is among marked =
       let there = subst (λ xs. Contains xs (Looked t found)) is (touched es t found among) in
-      let (title, word) = same_look (title_of sizes seen.slot) t seen.found.0 found (in_one (Looked (title_of sizes seen.slot) seen.found.0) (Looked t found) there) in
+      let (title, word) = same_look (title_of sizes seen.slot) t seen.found.0 found
+      (in_one (Looked (title_of sizes seen.slot) seen.found.0) (Looked t found) there) in
       subst (IsLookAt sizes t found) (of_some (mark_at line seen None) m marked) (title, word, refl)
 
   -- that of a read
-  read_look : (seen : Seen) (place value : ℕ) (owned : Bool) (es : List Entry) → IsReadTold (title_of sizes seen.slot) place seen.found.0 value owned es →
+  read_look : (seen : Seen) (place value : ℕ) (owned : Bool) (es : List Entry) →
+      IsReadTold (title_of sizes seen.slot) place seen.found.0 value owned es →
       Contains es (Looked t found) → Some (mark_at line seen None) ≡ Some m → IsLookAt sizes t found m
   read_look seen place value owned es told among marked =
       let u = title_of sizes seen.slot in
@@ -66,16 +69,20 @@ module _ (sizes : SlotName → ℕ) (line : ℕ) (m : Mark) (t : Title) (found :
             subst (IsLookAt sizes t found) (of_some (mark_at line seen None) m marked) (title, word, refl)
         | inr rest ↦ elim (in_cases r (Looked t found) told.rest rest) [
           | inl e ↦ absurd cc
-          | inr later ↦ absurd (not_in_none (Looked t found) (subst (λ xs. Contains xs (Looked t found)) told.none (touched told.rest t found later)))
+          | inr later ↦ absurd (not_in_none (Looked t found)
+              (subst (λ xs. Contains xs (Looked t found)) told.none (touched told.rest t found later)))
         ]
       ]
 
-  look_is : (op : Op) (answer : Answer) (es : List Entry) (part : Part) → IsToldBy sizes op answer es → Contains es (Looked t found) → look_part answer ≡ Some part →
+  look_is : (op : Op) (answer : Answer) (es : List Entry) (part : Part) → IsToldBy sizes op answer es → Contains es (Looked t found) →
+      look_part answer ≡ Some part →
       mark_of_answer line op answer ≡ Some m → IsLookAt sizes t found m
   look_is op (answers.Made seen usable) es part told among is marked = absurd (not_some part is)
   look_is op (answers.Done seen) es part told among is marked = absurd (not_some part is)
-  look_is op (answers.Value seen value) es part (held, (reg, place, owned, reads, told)) among is marked = read_look seen place value owned es told among marked
-  look_is op (answers.Dangling seen value) es part (held, (reg, place, owned, reads, told)) among is marked = read_look seen place value owned es told among marked
+  look_is op (answers.Value seen value) es part (held, (reg, place, owned, reads, told)) among is marked =
+      read_look seen place value owned es told among marked
+  look_is op (answers.Dangling seen value) es part (held, (reg, place, owned, reads, told)) among is marked =
+      read_look seen place value owned es told among marked
   look_is op (answers.SecondFree None) es part told among is marked = absurd (not_some m marked)
   look_is op (answers.SecondFree (Some seen)) es part told among is marked = only_look seen es told.0 among marked
   look_is op (answers.NotOwner seen) es part told among is marked = only_look seen es told.0 among marked
@@ -114,7 +121,8 @@ no_touch part looks counts (inr is) = counts is
 -- the part by which an entry came into a list is no touch, neither a look nor a counted step
 entered_no_touch : (roots : Journals) (q : ℕ) (numbers : List ℕ) (part : Part) → entered_part roots q numbers ≡ Some part → IsTouch part → ⊥
 entered_no_touch =
-    entered_is (λ p. IsTouch p → ⊥) (no_touch Asking (λ e. cc) (λ e. cc)) (no_touch Swapping (λ e. cc) (λ e. cc)) (λ q act. no_touch (Entering q act) (λ e. cc) (λ e. cc))
+    entered_is (λ p. IsTouch p → ⊥) (no_touch Asking (λ e. cc) (λ e. cc)) (no_touch Swapping (λ e. cc) (λ e. cc))
+    (λ q act. no_touch (Entering q act) (λ e. cc) (λ e. cc))
 
 loads_no_touch : (part : Part) → Some Loading ≡ Some part → IsTouch part → ⊥
 loads_no_touch part is (inl looks) = let both : Loading ≡ Looking = of_some Loading part is ∙ looks in cc
@@ -141,14 +149,17 @@ module _ (sizes : SlotName → ℕ) (x : ToldRecord) (told : IsTold sizes x) whe
       let (title, word) = same_step t (title_of sizes d.slot) step d.step found d.found value d.value same in
       (d, step_mark x.played.line x.played.op x.played.answer d is, title, word)
 
-  pub touch_of : (roots : Journals) (entry : Entry) (part : Part) (k : Mark) → Contains x.stretch entry → part_of roots x.played.answer entry ≡ Some part →
+  pub touch_of : (roots : Journals) (entry : Entry) (part : Part) (k : Mark) → Contains x.stretch entry →
+      part_of roots x.played.answer entry ≡ Some part →
       IsTouch part → mark_of x.played ≡ Some k → IsTouchOf sizes entry part k
   touch_of roots (Counted t step found value) part k among is touch marked =
       let (d, made, title, word) = step_marked t step found value among in
       let one : mark_made x.played.line d ≡ k = of_some (mark_made x.played.line d) k (sym made ∙ marked) in
       let counts : Counting ≡ part = of_some Counting part is in
-      let of_d : IsTouchOf sizes (Counted t step found value) Counting (mark_made x.played.line d) = record { found = (title, word); step = refl } in
-      subst (λ q. IsTouchOf sizes (Counted t step found value) q k) counts (subst (λ m. IsTouchOf sizes (Counted t step found value) Counting m) one of_d)
+      let of_d : IsTouchOf sizes (Counted t step found value) Counting (mark_made x.played.line d) =
+      record { found = (title, word); step = refl } in
+      subst (λ q. IsTouchOf sizes (Counted t step found value) q k) counts
+      (subst (λ m. IsTouchOf sizes (Counted t step found value) Counting m) one of_d)
   touch_of roots (Looked t found) part k among is touch marked =
       let (title, word, none) = look_is sizes x.played.line k t found x.played.op x.played.answer x.stretch part told among is marked in
       let looks : Looking ≡ part = sym (look_looks x.played.answer part is) in
@@ -184,7 +195,8 @@ module _ (sizes : SlotName → ℕ) (x : ToldRecord) (told : IsTold sizes x) whe
       let (d, made, title, word) = step_marked t step found value among in
       let mine : is_of_slot s (mark_of x.played) ≡ same_slot d.slot s = ap (is_of_slot s) made in
       ap (λ u. one (same_title u (title_of sizes s))) title ∙ one_slot d.slot s ∙ sym (ap (λ b. cond {A = ℕ} b 1 0) mine)
-  counts_as roots s (Looked t found) among = sym (ap (λ b. cond {A = ℕ} b 1 0) (look_counts (look_part x.played.answer) (λ part is. look_looks x.played.answer part is)))
+  counts_as roots s (Looked t found) among =
+      sym (ap (λ b. cond {A = ℕ} b 1 0) (look_counts (look_part x.played.answer) (λ part is. look_looks x.played.answer part is)))
     where
       look_counts : (o : Option Part) → ((part : Part) → o ≡ Some part → part ≡ Looking) → counted_by s x.played o ≡ false
       look_counts None looks = refl

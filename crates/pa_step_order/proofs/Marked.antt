@@ -102,11 +102,13 @@ leaves_by place x (Spoiling word) v is = elim (cases_Bool (eqb word place)) [
 leaves_by place x part v is = absurd (not_some v is)
 
 -- what leaves a value is a step that fills
-left_done : (op : Op) (seen : Seen) (v : ℕ) → value_left op (answers.Done seen) ≡ Some v → (d : StepMade) × (step_in op (answers.Done seen) ≡ Some d) × Fills d.step
+left_done : (op : Op) (seen : Seen) (v : ℕ) → value_left op (answers.Done seen) ≡ Some v → (d : StepMade) ×
+    (step_in op (answers.Done seen) ≡ Some d) × Fills d.step
 left_done (ops.Write reg value) seen v is = (record { slot = seen.slot; step = steps.Write; found = seen.found.0; value = value }, refl, tt)
 left_done op seen v is = absurd (not_some v is)
 
-fill_left : (op : Op) (answer : Answer) (v : ℕ) → value_left op answer ≡ Some v → (d : StepMade) × (step_in op answer ≡ Some d) × Fills d.step
+fill_left : (op : Op) (answer : Answer) (v : ℕ) → value_left op answer ≡ Some v → (d : StepMade) × (step_in op answer ≡ Some d) ×
+    Fills d.step
 fill_left op (answers.Made seen usable) v is = (record { slot = seen.slot; step = steps.Issue; found = seen.found.0; value = 0 }, refl, tt)
 fill_left op (answers.Done seen) v is = left_done op seen v is
 fill_left (ops.Alloc reg partition size) answer v is = absurd (not_some v is)
@@ -124,13 +126,15 @@ pub record IsChange (s : SlotName) (place : ℕ) (m : Moment) (v : ℕ) : Type 0
   pub is : step_by m.x ≡ Some d
   pub slot : d.slot ≡ s
   pub settles : Settles d.step
-  pub how : ((m.part ≡ Counting) × Fills d.step × (value_left m.x.op m.x.answer ≡ Some v)) ⊎ ((m.part ≡ Spoiling place) × (d.step ≡ steps.Free) × (v ≡ poison))
+  pub how : ((m.part ≡ Counting) × Fills d.step × (value_left m.x.op m.x.answer ≡ Some v)) ⊎
+      ((m.part ≡ Spoiling place) × (d.step ≡ steps.Free) × (v ≡ poison))
 
 slot_is : (s : SlotName) (x : Played) (d : StepMade) → is_of_slot s (mark_of x) ≡ true → step_by x ≡ Some d → d.slot ≡ s
 slot_is s x d own is = same_slot_eq d.slot s (sym (ap (is_of_slot s) (step_mark x.line x.op x.answer d is)) ∙ own)
 
 module _ (ps : List Played) (ms : List Moment) (marked : AreMarked ps ms) where
-  pub change_is : (s : SlotName) (place : ℕ) (us vs : List Moment) (m : Moment) (v : ℕ) → ms ≡ us ++ m ∷ vs → moment_leaves s place m ≡ Some v → IsChange s place m v
+  pub change_is : (s : SlotName) (place : ℕ) (us vs : List Moment) (m : Moment) (v : ℕ) → ms ≡ us ++ m ∷ vs →
+      moment_leaves s place m ≡ Some v → IsChange s place m v
   change_is s place us vs m v cut leaves = elim (cases_Bool (is_of_slot s (mark_of m.x))) [
     | inr other ↦ absurd (not_some v (rw other at leaves))
     | inl own ↦ elim (leaves_by place m.x m.part v (rw own at leaves)) [
@@ -139,15 +143,23 @@ module _ (ps : List Played) (ms : List Moment) (marked : AreMarked ps ms) where
           record { d = d; is = is; slot = slot_is s m.x d own is; settles = fills_settles d.step fills; how = inl (counts, fills, left) }
       | inr (spoils, poisons) ↦
           let b = marked.spoils us vs m place cut spoils in
-          record { d = b.d; is = b.is; slot = slot_is s m.x b.d own b.is; settles = free_settles b.d.step b.frees; how = inr (spoils, b.frees, poisons) }
+          record {
+            d = b.d;
+            is = b.is;
+            slot = slot_is s m.x b.d own b.is;
+            settles = free_settles b.d.step b.frees;
+            how = inr (spoils, b.frees, poisons);
+          }
     ]
   ]
 
   -- a counted step is where its number says
-  pub step_place : (s : SlotName) (us vs : List Moment) (m : Moment) (d : StepMade) → ms ≡ us ++ m ∷ vs → m.part ≡ Counting → step_by m.x ≡ Some d → d.slot ≡ s →
+  pub step_place : (s : SlotName) (us vs : List Moment) (m : Moment) (d : StepMade) → ms ≡ us ++ m ∷ vs → m.part ≡ Counting →
+      step_by m.x ≡ Some d → d.slot ≡ s →
       number_of d.found ≡ counted_steps s us
   step_place s us vs m d cut counts is slot =
-      marked.finds us vs m (mark_made m.x.line d) cut (inr counts) (step_mark m.x.line m.x.op m.x.answer d is) ∙ ap (λ z. counted_steps z us) slot
+      marked.finds us vs m (mark_made m.x.line d) cut (inr counts) (step_mark m.x.line m.x.op m.x.answer d is) ∙
+      ap (λ z. counted_steps z us) slot
 
   -- a change isn't after its record's number
   pub change_place : (s : SlotName) (place : ℕ) (us vs : List Moment) (m : Moment) (v : ℕ) (c : IsChange s place m v) → ms ≡ us ++ m ∷ vs →
@@ -158,14 +170,16 @@ module _ (ps : List Played) (ms : List Moment) (marked : AreMarked ps ms) where
         let b = marked.spoils us vs m place cut spoils in
         let one : b.d ≡ c.d = of_some b.d c.d (sym b.is ∙ c.is) in
         let before = b.before in
-        let here : counted_steps b.d.slot us ≡ counted_steps s us = ap (λ (e : StepMade). counted_steps e.slot us) one ∙ ap (λ z. counted_steps z us) c.slot in
+        let here : counted_steps b.d.slot us ≡ counted_steps s us = ap (λ (e : StepMade). counted_steps e.slot us) one ∙
+        ap (λ z. counted_steps z us) c.slot in
         let number : number_of b.d.found ≡ number_of c.d.found = ap (λ (e : StepMade). number_of e.found) one in
         omega arith
   ]
 
   -- a step that fills or frees, and isn't before a change, has no lower number
   pub none_within : (s : SlotName) (place : ℕ) (us vs : List Moment) (m : Moment) (v : ℕ) (c : IsChange s place m v) → ms ≡ us ++ m ∷ vs →
-      (y : Played) (e : StepMade) → Contains ps y → step_by y ≡ Some e → e.slot ≡ s → Settles e.step → counted_steps s us ≤ number_of e.found →
+      (y : Played) (e : StepMade) → Contains ps y → step_by y ≡ Some e → e.slot ≡ s → Settles e.step →
+      counted_steps s us ≤ number_of e.found →
       number_of c.d.found ≤ number_of e.found
   none_within s place us vs m v c cut y e there made slot settles behind = elim c.how [
     | inl (counts, fills, left) ↦ let same = step_place s us vs m c.d cut counts c.is c.slot in omega arith

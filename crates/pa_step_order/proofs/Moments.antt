@@ -48,9 +48,11 @@ pub sorted_in_order : (ps : List Played) (ms : List Moment) → ((m : Moment) �
     ((x y : Played) → Contains ps x → Contains ps y → x.phase < y.phase → x.line < y.line) → AllPairs InLine ms →
     AllPairs (λ (m n : Moment). StandsBefore n.x m.x → ⊥) (sorted phase_at ms)
 sorted_in_order ps ms members phases lines =
-    let again = sorted_pairs phase_at InLine ms lines (λ a b first second back less same. let up = phases a.x b.x (members a first) (members b second) less in omega arith) in
+    let again = sorted_pairs phase_at InLine ms lines (λ a b first second back less same. let up =
+    phases a.x b.x (members a first) (members b second) less in omega arith) in
     let up = sorted_rises phase_at ms in
-    λ i j d before below. neither (get_or (sorted phase_at ms) i d) (get_or (sorted phase_at ms) j d) (again i j d before below) (up i j d before below)
+    λ i j d before below. neither (get_or (sorted phase_at ms) i d) (get_or (sorted phase_at ms) j d) (again i j d before below)
+    (up i j d before below)
   where
     neither : (m n : Moment) → InLine m n → m.x.phase ≤ n.x.phase → StandsBefore n.x m.x → ⊥
     neither m n lines up (inl (thread, less)) = let low = lines (sym thread) in omega arith
@@ -72,10 +74,12 @@ module _ (ts : List ToldRecord) (all : List Stamped) (ns : List Named) (are : Ar
   pub of_records : (m : Moment) → Contains (moments_in roots ns) m → Contains (played_in ts) m.x
   of_records m among =
       let (n, there, is) = step_of m among in
-      subst (λ x. Contains (played_in ts) x) (sym (moment_from roots n m is).0) (map_in (λ (z : ToldRecord). z.played) ts n.x (named_in ts all ns are n there).0)
+      subst (λ x. Contains (played_in ts) x) (sym (moment_from roots n m is).0)
+      (map_in (λ (z : ToldRecord). z.played) ts n.x (named_in ts all ns are n there).0)
 
   pub only : All (λ (m : Moment). Contains (played_in ts) m.x) (by_phases roots ns)
-  only = all_from_members (λ (m : Moment). Contains (played_in ts) m.x) (by_phases roots ns) (λ m among. of_records m (sorted_from phase_at m (moments_in roots ns) among))
+  only = all_from_members (λ (m : Moment). Contains (played_in ts) m.x) (by_phases roots ns)
+      (λ m among. of_records m (sorted_from phase_at m (moments_in roots ns) among))
 
   module _ (rising : AreRising ts) where
     -- ---- the steps of a record
@@ -85,10 +89,12 @@ module _ (ts : List ToldRecord) (all : List Stamped) (ns : List Named) (are : Ar
     part_here line x (Some part) here = rw (eq-eqb x.line line here) refl
 
     parts_of_named : (line : ℕ) (x : ToldRecord) (es : List Entry) → x.played.line ≡ line →
-        filter_map (λ n. option_and_then (part_on line) (moment_of roots n)) (map (named_as x) es) ≡ filter_map (part_of roots x.played.answer) es
+        filter_map (λ n. option_and_then (part_on line) (moment_of roots n)) (map (named_as x) es) ≡ filter_map
+        (part_of roots x.played.answer) es
     parts_of_named line x [] here = refl
     parts_of_named line x (e ∷ es) here =
-        ap (λ o. cons_option o (filter_map (λ n. option_and_then (part_on line) (moment_of roots n)) (map (named_as x) es))) (part_here line x.played (part_of roots x.played.answer e) here)
+        ap (λ o. cons_option o (filter_map (λ n. option_and_then (part_on line) (moment_of roots n)) (map (named_as x) es)))
+        (part_here line x.played (part_of roots x.played.answer e) here)
         ∙ ap (cons_option (part_of roots x.played.answer e)) (parts_of_named line x es here)
 
     -- what is kept for a line is of that line
@@ -98,7 +104,8 @@ module _ (ts : List ToldRecord) (all : List Stamped) (ns : List Named) (are : Ar
       | inr other ↦ absurd (not_some part (rw (ne_eqb m.x.line line other) at is))
     ]
 
-    line_kept : (line : ℕ) (n : Named) (part : Part) → option_and_then (part_on line) (moment_of roots n) ≡ Some part → eqb n.x.played.line line ≡ true
+    line_kept : (line : ℕ) (n : Named) (part : Part) → option_and_then (part_on line) (moment_of roots n) ≡ Some part →
+        eqb n.x.played.line line ≡ true
     line_kept line n part is = elim (none_or_some (moment_of roots n)) [
       | inl none ↦ absurd (not_some part (rw none at is))
       | inr (m, some) ↦
@@ -134,9 +141,11 @@ module _ (ts : List ToldRecord) (all : List Stamped) (ns : List Named) (are : Ar
             let line = y.played.line in
             let ms = moments_in roots ns in
             let steady = pairs_all (KeptRises phase_at (part_on line)) ms (λ a b first second u v here here'.
-            let same = one_played a.x b.x (of_records a first) (of_records b second) (kept_line line a u here ∙ sym (kept_line line b v here')) in
+            let same = one_played a.x b.x (of_records a first) (of_records b second)
+            (kept_line line a u here ∙ sym (kept_line line b v here')) in
             let e = ap (λ (z : Played). z.phase) same in omega arith) in
-            sym (parts_kept line (by_phases roots ns)) ∙ sorted_kept phase_at (part_on line) ms steady ∙ parts_kept line ms ∙ whole_logs partitions order y there
+            sym (parts_kept line (by_phases roots ns)) ∙ sorted_kept phase_at (part_on line) ms steady ∙ parts_kept line ms ∙
+            whole_logs partitions order y there
 
     -- ---- threads and phases
 
@@ -145,7 +154,8 @@ module _ (ts : List ToldRecord) (all : List Stamped) (ns : List Named) (are : Ar
     in_order phases =
         let R : Named → Named → Type 0 = λ a b. a.x.played.thread ≡ b.x.played.thread → a.x.played.line ≤ b.x.played.line in
         sorted_in_order (played_in ts) (moments_in roots ns) of_records phases
-        (kept_pairs (moment_of roots) R InLine ns (threads_rise ts all ns are rising) (λ a b u v first second up is is'. moments_up a b u v up is is'))
+        (kept_pairs (moment_of roots) R InLine ns (threads_rise ts all ns are rising)
+        (λ a b u v first second up is is'. moments_up a b u v up is is'))
       where
         moments_up : (a b : Named) (u v : Moment) → (a.x.played.thread ≡ b.x.played.thread → a.x.played.line ≤ b.x.played.line) →
             moment_of roots a ≡ Some u → moment_of roots b ≡ Some v → InLine u v

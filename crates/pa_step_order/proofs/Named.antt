@@ -46,9 +46,11 @@ pub log_named : (xs : List ToldRecord) → map (λ (n : Named). n.entry) (flat_m
 log_named [] = refl
 log_named (x ∷ xs) =
     map-append (λ (n : Named). n.entry) (named x) (flat_map named xs)
-    ∙ ap (λ es. es ++ map (λ (n : Named). n.entry) (flat_map named xs)) (entries_named x x.stretch) ∙ ap (λ es. x.stretch ++ es) (log_named xs)
+    ∙ ap (λ es. es ++ map (λ (n : Named). n.entry) (flat_map named xs)) (entries_named x x.stretch) ∙
+    ap (λ es. x.stretch ++ es) (log_named xs)
 
-pub stake_filter : (k : ℕ) (all : List Stamped) → by_stake k all ≡ map (λ (m : Stamped). m.entry) (filter (λ (m : Stamped). eqb m.stake k) all)
+pub stake_filter : (k : ℕ) (all : List Stamped) →
+    by_stake k all ≡ map (λ (m : Stamped). m.entry) (filter (λ (m : Stamped). eqb m.stake k) all)
 stake_filter k [] = refl
 stake_filter k (m ∷ all) = elim (cases_Bool (eqb m.stake k)) [
   | inl mine ↦ rw mine (ap (λ es. m.entry ∷ es) (stake_filter k all))
@@ -64,11 +66,13 @@ of_thread ts k n among =
 pub names_are : (ts : List ToldRecord) (all : List Stamped) → ((k : ℕ) → log_of k ts ≡ by_stake k all) →
     AreNamed ts all (in_turn (λ (m : Stamped). m.stake) (named_log ts) all)
 names_are ts all logs =
-    let fits : (k : ℕ) → map (λ (n : Named). n.entry) (named_log ts k) ≡ map (λ (m : Stamped). m.entry) (filter (λ (m : Stamped). eqb m.stake k) all) =
+    let fits : (k : ℕ) → map (λ (n : Named). n.entry) (named_log ts k) ≡ map (λ (m : Stamped). m.entry)
+    (filter (λ (m : Stamped). eqb m.stake k) all) =
     λ k. log_named (filter (is_of_thread k) ts) ∙ logs k ∙ stake_filter k all in
     record {
       entries = turns_say (λ (m : Stamped). m.stake) (λ (n : Named). n.entry) (λ (m : Stamped). m.entry) (named_log ts) all fits;
-      threads = queues_stay (λ (m : Stamped). m.stake) (λ (n : Named). n.entry) (λ (m : Stamped). m.entry) (λ (n : Named). n.x.played.thread) (named_log ts) all fits (of_thread ts);
+      threads = queues_stay (λ (m : Stamped). m.stake) (λ (n : Named). n.entry) (λ (m : Stamped). m.entry)
+          (λ (n : Named). n.x.played.thread) (named_log ts) all fits (of_thread ts);
     }
 
 -- ---- what is known of them
@@ -94,11 +98,13 @@ module _ (ts : List ToldRecord) (all : List Stamped) (ns : List Named) (are : Ar
     abbrev of_line : ℕ → ToldRecord → Bool
     of_line line x = eqb x.played.line line
 
-    named_line : (line : ℕ) (x : ToldRecord) (es : List Entry) → eqb x.played.line line ≡ true → filter (on_line line) (map (named_as x) es) ≡ map (named_as x) es
+    named_line : (line : ℕ) (x : ToldRecord) (es : List Entry) → eqb x.played.line line ≡ true →
+        filter (on_line line) (map (named_as x) es) ≡ map (named_as x) es
     named_line line x [] here = refl
     named_line line x (e ∷ es) here = rw here (ap (λ zs. named_as x e ∷ zs) (named_line line x es here))
 
-    named_other : (line : ℕ) (x : ToldRecord) (es : List Entry) → (eqb x.played.line line ≡ true → ⊥) → filter (on_line line) (map (named_as x) es) ≡ []
+    named_other : (line : ℕ) (x : ToldRecord) (es : List Entry) → (eqb x.played.line line ≡ true → ⊥) →
+        filter (on_line line) (map (named_as x) es) ≡ []
     named_other line x es other = filter_none (on_line line) (map (named_as x) es) (λ n among passes.
         let (e, there, is) = map_cases (named_as x) es n among in
         other (subst (λ (z : Named). eqb z.x.played.line line ≡ true) (sym is) passes))
@@ -108,8 +114,11 @@ module _ (ts : List ToldRecord) (all : List Stamped) (ns : List Named) (are : Ar
     lines_named line (x ∷ xs) =
         let parted = filter-append (on_line line) (named x) (flat_map named xs) in
         elim (cases_Bool (of_line line x)) [
-          | inl here ↦ rw here (parted ∙ ap (λ zs. zs ++ filter (on_line line) (flat_map named xs)) (named_line line x x.stretch here) ∙ ap (λ zs. named x ++ zs) (lines_named line xs))
-          | inr other ↦ rw other (parted ∙ ap (λ zs. zs ++ filter (on_line line) (flat_map named xs)) (named_other line x x.stretch (λ e. both_ways _ other e)) ∙ lines_named line xs)
+          | inl here ↦ rw here (parted ∙ ap (λ zs. zs ++ filter (on_line line) (flat_map named xs)) (named_line line x x.stretch here) ∙
+              ap (λ zs. named x ++ zs) (lines_named line xs))
+          | inr other ↦ rw other (parted ∙
+              ap (λ zs. zs ++ filter (on_line line) (flat_map named xs)) (named_other line x x.stretch (λ e. both_ways _ other e)) ∙
+              lines_named line xs)
         ]
 
     one_on : (x : ToldRecord) → Contains ts x → filter (of_line x.played.line) ts ≡ x ∷ []
@@ -119,9 +128,11 @@ module _ (ts : List ToldRecord) (all : List Stamped) (ns : List Named) (are : Ar
         let (front, back, parts) = parts_at ts x among in
         let up = subst (AllPairs less) parts rising in
         let before = filter_none (of_line line) front (λ y there passes.
-        let low = pairs_across less front (x ∷ back) y x up there (first_in x back) in let same = eqb-true y.played.line line passes in absurd (omega arith)) in
+        let low = pairs_across less front (x ∷ back) y x up there (first_in x back) in let same = eqb-true y.played.line line passes in
+        absurd (omega arith)) in
         let after = filter_none (of_line line) back (λ y there passes.
-        let high = pairs_head less x y back (pairs_after less front (x ∷ back) up) there in let same = eqb-true y.played.line line passes in absurd (omega arith)) in
+        let high = pairs_head less x y back (pairs_after less front (x ∷ back) up) there in let same = eqb-true y.played.line line passes in
+        absurd (omega arith)) in
         let here : filter (of_line line) (x ∷ back) ≡ x ∷ filter (of_line line) back = rw (eq-eqb line line refl) refl in
         ap (filter (of_line line)) parts ∙ filter-append (of_line line) front (x ∷ back)
         ∙ ap (λ zs. zs ++ filter (of_line line) (x ∷ back)) before ∙ here ∙ ap (λ zs. x ∷ zs) after
@@ -151,8 +162,10 @@ module _ (ts : List ToldRecord) (all : List Stamped) (ns : List Named) (are : Ar
         let line_of_named : (x : ToldRecord) (n : Named) → Contains (named x) n → n.x.played.line ≡ x.played.line =
         λ x n among. (let (e, there, is) = map_cases (named_as x) x.stretch n among in sym (ap (λ (z : Named). z.x.played.line) is)) in
         pairs_flat less InLines named (filter (is_of_thread k) ts) (pairs_filter less (is_of_thread k) ts rising)
-        (λ x among. pairs_all InLines (named x) (λ m n first second. let a = line_of_named x m first in let b = line_of_named x n second in omega arith))
+        (λ x among. pairs_all InLines (named x) (λ m n first second. let a = line_of_named x m first in let b = line_of_named x n second in
+        omega arith))
         (λ x y m n first second up here there. let a = line_of_named x m here in let b = line_of_named y n there in omega arith)
 
     pub threads_rise : AllPairs (λ (m n : Named). m.x.played.thread ≡ n.x.played.thread → InLines m n) ns
-    threads_rise = by_queues (λ (n : Named). n.x.played.thread) InLines ns (λ k. subst (AllPairs InLines) (sym (are.threads k)) (thread_rises k))
+    threads_rise = by_queues (λ (n : Named). n.x.played.thread) InLines ns
+        (λ k. subst (AllPairs InLines) (sym (are.threads k)) (thread_rises k))

@@ -71,13 +71,15 @@ leaves_no_free t n leaves = elim (cases_Bool (frees t n)) [
   | inr other ↦ other
 ]
 
-first_later : (t : Title) (n : Named) (xs : List Named) (f : Named) → LeavesIt t n.entry → (n.x.played.thread ≡ f.x.played.thread → ⊥) → IsFirstFree t xs f → IsFirstFree t (n ∷ xs) f
+first_later : (t : Title) (n : Named) (xs : List Named) (f : Named) → LeavesIt t n.entry → (n.x.played.thread ≡ f.x.played.thread → ⊥) →
+    IsFirstFree t xs f → IsFirstFree t (n ∷ xs) f
 first_later t n xs f leaves other is = record {
   mid = n ∷ is.mid;
   rest = is.rest;
   parts = ap (λ z. n ∷ z) is.parts;
   leave = λ m among. elim (in_cases n m is.mid among) [ inl e ↦ subst (λ z. LeavesIt t z.entry) e leaves | inr later ↦ is.leave m later ];
-  apart = λ m among same. elim (in_cases n m is.mid among) [ inl e ↦ other (ap (λ (z : Named). z.x.played.thread) e ∙ same) | inr later ↦ is.apart m later same ];
+  apart = λ m among same. elim (in_cases n m is.mid among)
+      [ inl e ↦ other (ap (λ (z : Named). z.x.played.thread) e ∙ same) | inr later ↦ is.apart m later same ];
   is_free = is.is_free;
   found = rw (leaves_no_free t n leaves) is.found;
 }
@@ -93,18 +95,21 @@ first_now t n xs free = record {
   found = rw free refl;
 }
 
-module _ (ns : List Named) (order : List OneStep) (agree : map stamped_of ns ≡ logged_among order) (placed : AreInPlace order) (closed : (t : Title) → spoiled t order ≡ 0) where
+module _ (ns : List Named) (order : List OneStep) (agree : map stamped_of ns ≡ logged_among order) (placed : AreInPlace order)
+    (closed : (t : Title) → spoiled t order ≡ 0) where
   -- Each title with poisonings among these steps has its free after them, and with its stake nothing was logged since the first of them.
   abbrev AreOwned : List OneStep → Type 0
   AreOwned st = (t : Title) → 0 < spoiled t st → (f : Named) × IsFirstFree t (back_at ns st) f × IsAlone f.x.played.thread t st
 
   -- what the steps before a counted step are
-  count_at : (pre : List OneStep) (m : Stamped) (o : List OneStep) (t : Title) (step : Step) (found value : ℕ) → order ≡ pre ++ Logged m ∷ o → m.entry ≡ Counted t step found value →
+  count_at : (pre : List OneStep) (m : Stamped) (o : List OneStep) (t : Title) (step : Step) (found value : ℕ) → order ≡ pre ++
+      Logged m ∷ o → m.entry ≡ Counted t step found value →
       IsCountInPlace step m.stake t o
   count_at pre m o t step found value cut is = subst (λ e. IsEntryInPlace m.stake e o) is (in_place order pre (Logged m) o cut placed)
 
   -- an entry other than a free has no poisoning before it if it fills the title
-  leaves_it : (pre : List OneStep) (m : Stamped) (o : List OneStep) (t : Title) → order ≡ pre ++ Logged m ∷ o → is_free_of t m.entry ≡ false → 0 < spoiled t o → LeavesIt t m.entry
+  leaves_it : (pre : List OneStep) (m : Stamped) (o : List OneStep) (t : Title) → order ≡ pre ++ Logged m ∷ o →
+      is_free_of t m.entry ≡ false → 0 < spoiled t o → LeavesIt t m.entry
   leaves_it pre m o t cut other some step found value is settles = by_step step is settles (count_at pre m o t step found value cut is)
     where
       by_step : (p : Step) → m.entry ≡ Counted t p found value → Settles p → IsCountInPlace p m.stake t o → ⊥
@@ -131,16 +136,22 @@ module _ (ns : List Named) (order : List OneStep) (agree : map stamped_of ns ≡
             let same : spoiled t (Logged m ∷ o) ≡ spoiled t o = rw other refl in
             let (f, is, alone) = owned t (omega arith) in
             let leaves = subst (λ e. LeavesIt t e) (sym entry) (leaves_it pre m o t cut other some) in
-            let (ne, rest) = not_none same some alone in
-            (f, subst (λ z. IsFirstFree t z f) (sym next.back) (first_later t n (back_at ns (Logged m ∷ o)) f leaves (λ e. ne (sym stake ∙ e)) is), rest)
+            let (ne, rest) = not_none same some alone in (
+              f,
+              subst (λ z. IsFirstFree t z f) (sym next.back)
+                  (first_later t n (back_at ns (Logged m ∷ o)) f leaves (λ e. ne (sym stake ∙ e)) is),
+              rest,
+            )
       ]
     where
-      not_none : {r : ℕ} → spoiled t (Logged m ∷ o) ≡ spoiled t o → 0 < spoiled t o → IsAlone r t (Logged m ∷ o) → (m.stake ≡ r → ⊥) × IsAlone r t o
+      not_none : {r : ℕ} → spoiled t (Logged m ∷ o) ≡ spoiled t o → 0 < spoiled t o → IsAlone r t (Logged m ∷ o) → (m.stake ≡ r → ⊥) ×
+          IsAlone r t o
       not_none same more (inl none) = absurd (omega arith)
       not_none same more (inr is) = is
   owned_next pre (Spoiled u word) o cut owned t some = let (f, is, alone) = owned t (omega arith) in (f, is, alone)
 
-  owned_from : (pre st : List OneStep) → order ≡ pre ++ st → AreOwned st → (later older : List OneStep) → st ≡ later ++ older → AreOwned older
+  owned_from : (pre st : List OneStep) → order ≡ pre ++ st → AreOwned st → (later older : List OneStep) → st ≡ later ++ older →
+      AreOwned older
   owned_from pre st at owned [] older cut = subst AreOwned cut owned
   owned_from pre [] at owned (x ∷ later) older cut = absurd cc
   owned_from pre (s ∷ o) at owned (x ∷ later) older cut =
@@ -150,7 +161,8 @@ module _ (ns : List Named) (order : List OneStep) (agree : map stamped_of ns ≡
   are_owned later older cut = owned_from [] order refl (λ t some. let none = closed t in absurd (omega arith)) later older cut
 
   -- the record that frees what is poisoned
-  pub owner : (later : List OneStep) (t : Title) (word : ℕ) (older : List OneStep) → order ≡ later ++ Spoiled t word ∷ older → (f : Named) × IsFirstFree t (back_at ns older) f
+  pub owner : (later : List OneStep) (t : Title) (word : ℕ) (older : List OneStep) → order ≡ later ++ Spoiled t word ∷ older → (f : Named) ×
+      IsFirstFree t (back_at ns older) f
   owner later t word older cut =
       let here : one (same_title t t) ≡ 1 = ap one (title_self t) in
       let (f, is, alone) = are_owned later (Spoiled t word ∷ older) cut t (omega arith) in
@@ -158,7 +170,8 @@ module _ (ns : List Named) (order : List OneStep) (agree : map stamped_of ns ≡
 
 -- ---- numbers
 
-module _ (sizes : SlotName → ℕ) (ts : List ToldRecord) (told : AreTold sizes ts) (all : List Stamped) (ns : List Named) (are : AreNamed ts all ns) (roots : Journals) where
+module _ (sizes : SlotName → ℕ) (ts : List ToldRecord) (told : AreTold sizes ts) (all : List Stamped) (ns : List Named)
+    (are : AreNamed ts all ns) (roots : Journals) where
   -- the step that a counted entry is
   pub record IsStepOf (n : Named) (t : Title) (step : Step) (found value : ℕ) (d : StepMade) : Type 0 where
     pub is : step_by n.x.played ≡ Some d
@@ -170,39 +183,49 @@ module _ (sizes : SlotName → ℕ) (ts : List ToldRecord) (told : AreTold sizes
   same_counted : (t u : Title) (p q : Step) (m n v w : ℕ) → Counted t p m v ≡ Counted u q n w → (t ≡ u) × (p ≡ q) × (m ≡ n) × (v ≡ w)
   same_counted t u p q m n v w e = (cc, cc, cc, cc)
 
-  pub step_of_entry : (n : Named) (t : Title) (step : Step) (found value : ℕ) → Contains ns n → n.entry ≡ Counted t step found value → (d : StepMade) × IsStepOf n t step found value d
+  pub step_of_entry : (n : Named) (t : Title) (step : Step) (found value : ℕ) → Contains ns n → n.entry ≡ Counted t step found value →
+      (d : StepMade) × IsStepOf n t step found value d
   step_of_entry n t step found value among is =
       let (there, inside) = named_in ts all ns are n among in
-      let (d, made, same) = (tells_its_mark sizes n.x (told n.x there)).step_is t step found value (subst (λ e. Contains n.x.stretch e) is inside) in
+      let (d, made, same) = (tells_its_mark sizes n.x (told n.x there)).step_is t step found value
+      (subst (λ e. Contains n.x.stretch e) is inside) in
       let (title, p, word, v) = same_counted t (title_of sizes d.slot) step d.step found d.found value d.value same in
       (d, record { is = made; title = title; step_is = p; found_is = word; value_is = v })
 
-  pub counted_moment : (n : Named) (t : Title) (step : Step) (found value : ℕ) → n.entry ≡ Counted t step found value → moment_of roots n ≡ Some (moment n.x.played Counting)
+  pub counted_moment : (n : Named) (t : Title) (step : Step) (found value : ℕ) → n.entry ≡ Counted t step found value →
+      moment_of roots n ≡ Some (moment n.x.played Counting)
   counted_moment n t step found value is = ap (λ e. option_map (moment n.x.played) (part_of roots n.x.played.answer e)) is
 
   -- it has as many counted steps of its slot before it as its number says
-  pub number_named : IsFound all → (a b : List Named) (n : Named) (t : Title) (step : Step) (found value : ℕ) (d : StepMade) → ns ≡ a ++ n ∷ b → n.entry ≡ Counted t step found value →
+  pub number_named : IsFound all → (a b : List Named) (n : Named) (t : Title) (step : Step) (found value : ℕ) (d : StepMade) → ns ≡ a ++
+      n ∷ b → n.entry ≡ Counted t step found value →
       step_by n.x.played ≡ Some d → number_of d.found ≡ counted_steps d.slot (moments_in roots a)
   number_named rule a b n t step found value d cut is made =
       let m = moment n.x.played Counting in
       let whole : moments_in roots ns ≡ moments_in roots a ++ m ∷ moments_in roots b =
-      ap (moments_in roots) cut ∙ filter_map-append (moment_of roots) a (n ∷ b) ∙ ap (λ o. moments_in roots a ++ cons_option o (moments_in roots b)) (counted_moment n t step found value is) in
-      found_in_logs sizes ts told all ns are roots rule (moments_in roots a) (moments_in roots b) m (mark_made n.x.played.line d) whole (inr refl)
+      ap (moments_in roots) cut ∙ filter_map-append (moment_of roots) a (n ∷ b) ∙
+      ap (λ o. moments_in roots a ++ cons_option o (moments_in roots b)) (counted_moment n t step found value is) in
+      found_in_logs sizes ts told all ns are roots rule (moments_in roots a) (moments_in roots b) m (mark_made n.x.played.line d) whole
+      (inr refl)
       (step_mark n.x.played.line n.x.played.op n.x.played.answer d made)
 
   pub counts_front : (s : SlotName) (a b : List Named) → counted_steps s (moments_in roots a) ≤ counted_steps s (moments_in roots (a ++ b))
   counts_front s a b =
       let more = counts_more s (moments_in roots a) (moments_in roots b) in
-      let same : counted_steps s (moments_in roots (a ++ b)) ≡ counted_steps s (moments_in roots a ++ moments_in roots b) = ap (counted_steps s) (filter_map-append (moment_of roots) a b) in
+      let same : counted_steps s (moments_in roots (a ++ b)) ≡ counted_steps s (moments_in roots a ++ moments_in roots b) =
+      ap (counted_steps s) (filter_map-append (moment_of roots) a b) in
       omega arith
 
-  pub counts_past : (s : SlotName) (a b : List Named) (n : Named) (t : Title) (step : Step) (found value : ℕ) (d : StepMade) → n.entry ≡ Counted t step found value →
+  pub counts_past : (s : SlotName) (a b : List Named) (n : Named) (t : Title) (step : Step) (found value : ℕ) (d : StepMade) →
+      n.entry ≡ Counted t step found value →
       step_by n.x.played ≡ Some d → d.slot ≡ s →
       counted_steps s (moments_in roots a) + 1 ≤ counted_steps s (moments_in roots (a ++ n ∷ b))
   counts_past s a b n t step found value d is made slot =
       let more = counts_one s (moments_in roots a) (moments_in roots b) (moment n.x.played Counting) d refl made slot in
-      let same : counted_steps s (moments_in roots (a ++ n ∷ b)) ≡ counted_steps s (moments_in roots a ++ moment n.x.played Counting ∷ moments_in roots b) =
-      ap (counted_steps s) (filter_map-append (moment_of roots) a (n ∷ b) ∙ ap (λ o. moments_in roots a ++ cons_option o (moments_in roots b)) (counted_moment n t step found value is)) in
+      let same : counted_steps s (moments_in roots (a ++ n ∷ b)) ≡ counted_steps s
+      (moments_in roots a ++ moment n.x.played Counting ∷ moments_in roots b) =
+      ap (counted_steps s) (filter_map-append (moment_of roots) a (n ∷ b) ∙
+      ap (λ o. moments_in roots a ++ cons_option o (moments_in roots b)) (counted_moment n t step found value is)) in
       omega arith
 
   -- a step that a record made is an entry of the order

@@ -48,7 +48,8 @@ word_of part = None
 abbrev pub SpoilsFirst : Part → Part → Type 0
 SpoilsFirst p q = (word : ℕ) → q ≡ Spoiling word → part_stays p ≡ None
 
-all_plain : (ps : List Part) → ((q : Part) (word : ℕ) → Contains ps q → q ≡ Spoiling word → ⊥) → (filter_map word_of ps ≡ []) × (filter_map part_stays ps ≡ ps)
+all_plain : (ps : List Part) → ((q : Part) (word : ℕ) → Contains ps q → q ≡ Spoiling word → ⊥) → (filter_map word_of ps ≡ []) ×
+    (filter_map part_stays ps ≡ ps)
 all_plain [] none = (refl, refl)
 all_plain (Spoiling word ∷ ps) none = absurd (none (Spoiling word) word (first_in (Spoiling word) ps) refl)
 all_plain (p ∷ ps) none =
@@ -69,7 +70,8 @@ range_more a (suc n) = ap (λ z. a ∷ z) (range_more (a + 1) n ∙ ap (λ k. ra
 
 -- no entry is a counted step
 asked_uncounted : (p : ℕ) (act : RootAct) (o : Option ℕ) → Contains (asking_before o (Entering p act ∷ [])) Counting → ⊥
-asked_uncounted p act None among = elim (in_cases (Entering p act) Counting [] among) [ inl e ↦ absurd cc | inr rest ↦ not_in_none Counting rest ]
+asked_uncounted p act None among =
+    elim (in_cases (Entering p act) Counting [] among) [ inl e ↦ absurd cc | inr rest ↦ not_in_none Counting rest ]
 asked_uncounted p act (Some j) among = elim (in_cases Asking Counting (Entering p act ∷ []) among) [
   | inl e ↦ absurd cc
   | inr later ↦ elim (in_cases (Entering p act) Counting [] later) [ inl e ↦ absurd cc | inr rest ↦ not_in_none Counting rest ]
@@ -90,14 +92,16 @@ logged_cut (Logged x ∷ o) A B m e = elim (last_or_within (logged_among o) x A 
   | inl (same, is) ↦ ([], o, ap (λ z. Logged z ∷ o) is, same)
   | inr (ws, within) ↦ let (later, o', cut, same) = logged_cut o A ws m within in (Logged x ∷ later, o', ap (λ z. Logged x ∷ z) cut, same)
 ]
-logged_cut (Spoiled t word ∷ o) A B m e = let (later, o', cut, same) = logged_cut o A B m e in (Spoiled t word ∷ later, o', ap (λ z. Spoiled t word ∷ z) cut, same)
+logged_cut (Spoiled t word ∷ o) A B m e = let (later, o', cut, same) = logged_cut o A B m e in
+    (Spoiled t word ∷ later, o', ap (λ z. Spoiled t word ∷ z) cut, same)
 
 module _ (run : OrderedRun) where
   open run use {sizes, ts, told, rising, all, ns, are, roots, rule, order, agree, placed, closed}
 
   pub same_record : (n : Named) (x : Played) → Contains ns n → Contains (played_in ts) x → n.x.played.line ≡ x.line → n.x.played ≡ x
   same_record n x among of same =
-      one_played ts all ns are roots rising n.x.played x (map_in (λ (z : ToldRecord). z.played) ts n.x (named_in ts all ns are n among).0) of same
+      one_played ts all ns are roots rising n.x.played x
+      (map_in (λ (z : ToldRecord). z.played) ts n.x (named_in ts all ns are n among).0) of same
 
   module _ (x : Played) (of : Contains (played_in ts) x) where
     abbrev pub spoilt : List Moment → List ℕ
@@ -125,7 +129,8 @@ module _ (run : OrderedRun) where
           ]
     ]
 
-    logged_adds : (later : List OneStep) (m : Stamped) (o : List OneStep) → order ≡ later ++ Logged m ∷ o → spoilt (laid roots ns (Logged m ∷ o)) ≡ spoilt (laid roots ns o)
+    logged_adds : (later : List OneStep) (m : Stamped) (o : List OneStep) → order ≡ later ++ Logged m ∷ o →
+        spoilt (laid roots ns (Logged m ∷ o)) ≡ spoilt (laid roots ns o)
     logged_adds later m o cut =
         let (n, next) = next_named ns order agree later m o cut in
         spoilt_more (laid roots ns o) (piece roots ns (Logged m) o)
@@ -144,10 +149,12 @@ module _ (run : OrderedRun) where
     adds_none : (word : ℕ) (f : Named) → (f.x.played.line ≡ x.line → ⊥) → spoilt (spoiling word f ∷ []) ≡ []
     adds_none word f other = rw (ne_eqb f.x.played.line x.line other) refl
 
-    spoiled_skips : (t : Title) (word : ℕ) (o : List OneStep) (f : Named) → find (frees t) (back_at ns o) ≡ Some f → (f.x.played.line ≡ x.line → ⊥) →
+    spoiled_skips : (t : Title) (word : ℕ) (o : List OneStep) (f : Named) → find (frees t) (back_at ns o) ≡ Some f →
+        (f.x.played.line ≡ x.line → ⊥) →
         spoilt (laid roots ns (Spoiled t word ∷ o)) ≡ spoilt (laid roots ns o)
     spoiled_skips t word o f is other =
-        spoiled_adds t word o f is ∙ ap (λ z. spoilt (laid roots ns o) ++ z) (adds_none word f other) ∙ append-nil (spoilt (laid roots ns o))
+        spoiled_adds t word o f is ∙ ap (λ z. spoilt (laid roots ns o) ++ z) (adds_none word f other) ∙
+        append-nil (spoilt (laid roots ns o))
 
     -- the step of a free that a poisoning is of, if its line is this record's
     pub spoil_step : (t : Title) (o : List OneStep) (f : Named) (spoil : IsSpoil run t o f) → f.x.played.line ≡ x.line →
@@ -157,7 +164,8 @@ module _ (run : OrderedRun) where
 
     -- ---- a record that frees nothing
 
-    pub none_spoilt : ((d : StepMade) → step_by x ≡ Some d → d.step ≡ steps.Free → ⊥) → (pre st : List OneStep) → order ≡ pre ++ st → spoilt (laid roots ns st) ≡ []
+    pub none_spoilt : ((d : StepMade) → step_by x ≡ Some d → d.step ≡ steps.Free → ⊥) → (pre st : List OneStep) → order ≡ pre ++ st →
+        spoilt (laid roots ns st) ≡ []
     none_spoilt other pre [] cut = refl
     none_spoilt other pre (Logged m ∷ o) cut =
         logged_adds pre m o cut ∙ none_spoilt other (pre ++ Logged m ∷ []) o (cut ∙ sym (append_assoc pre (Logged m ∷ []) o))
@@ -168,7 +176,8 @@ module _ (run : OrderedRun) where
 
     -- ---- a free
 
-    module _ (d : StepMade) (is_d : step_by x ≡ Some d) (free_d : d.step ≡ steps.Free) (n : Named) (is_x : n.x.played ≡ x) (entry : n.entry ≡ Counted (title_of sizes d.slot) d.step d.found d.value)
+    module _ (d : StepMade) (is_d : step_by x ≡ Some d) (free_d : d.step ≡ steps.Free) (n : Named) (is_x : n.x.played ≡ x)
+        (entry : n.entry ≡ Counted (title_of sizes d.slot) d.step d.found d.value)
         (a b : List Named) (parts : ns ≡ a ++ n ∷ b) where
       abbrev title : Title
       title = title_of sizes d.slot
@@ -192,25 +201,31 @@ module _ (run : OrderedRun) where
           let one : spoil.d ≡ d = of_some spoil.d d (sym (spoil_step t o f spoil here) ∙ is_d) in
           let made : step_by f.x.played ≡ Some d = spoil.of.is ∙ ap Some one in (
             spoil.of.title ∙ ap (λ (z : StepMade). title_of sizes z.slot) one,
-            sym number ∙ number_named sizes ts told all ns are roots rule (front_at ns o ++ spoil.is.mid) spoil.is.rest f t steps.Free spoil.found spoil.value d spoil.cut spoil.entry made,
+            sym number ∙ number_named sizes ts told all ns are roots rule
+                (front_at ns o ++ spoil.is.mid) spoil.is.rest f t steps.Free spoil.found spoil.value d spoil.cut spoil.entry made,
           )
 
-      module _ (later : List OneStep) (m : Stamped) (o : List OneStep) (cut : order ≡ later ++ Logged m ∷ o) (front_is : front_at ns o ≡ a) (back_is : back_at ns o ≡ n ∷ b)
+      module _ (later : List OneStep) (m : Stamped) (o : List OneStep) (cut : order ≡ later ++ Logged m ∷ o) (front_is : front_at ns o ≡ a)
+          (back_is : back_at ns o ≡ n ∷ b)
           (stamp : stamped_of n ≡ m) where
         -- the steps after it have no poisoning of it
-        after_none : (more : List OneStep) (pre : List OneStep) → order ≡ pre ++ (more ++ Logged m ∷ o) → spoilt (laid roots ns (more ++ Logged m ∷ o)) ≡ spoilt (laid roots ns o)
+        after_none : (more : List OneStep) (pre : List OneStep) → order ≡ pre ++ (more ++ Logged m ∷ o) →
+            spoilt (laid roots ns (more ++ Logged m ∷ o)) ≡ spoilt (laid roots ns o)
         after_none [] pre at = logged_adds pre m o at
         after_none (Logged z ∷ more) pre at =
-            logged_adds pre z (more ++ Logged m ∷ o) at ∙ after_none more (pre ++ Logged z ∷ []) (at ∙ sym (append_assoc pre (Logged z ∷ []) (more ++ Logged m ∷ o)))
+            logged_adds pre z (more ++ Logged m ∷ o) at ∙
+            after_none more (pre ++ Logged z ∷ []) (at ∙ sym (append_assoc pre (Logged z ∷ []) (more ++ Logged m ∷ o)))
         after_none (Spoiled t word ∷ more) pre at =
             let st = more ++ Logged m ∷ o in
             let (f, spoil) = spoil_at run pre t word st at in
             let (next_n, next) = next_named ns order agree later m o cut in
             let heads : next_n ∷ back_at ns (Logged m ∷ o) ≡ n ∷ b = sym next.back ∙ back_is in
             let same : next_n ≡ n = cc in
-            let front : front_at ns (Logged m ∷ o) ≡ a ++ n ∷ [] = next.front ∙ ap (λ z. front_at ns o ++ z ∷ []) same ∙ ap (λ z. z ++ n ∷ []) front_is in
+            let front : front_at ns (Logged m ∷ o) ≡ a ++ n ∷ [] = next.front ∙ ap (λ z. front_at ns o ++ z ∷ []) same ∙
+            ap (λ z. z ++ n ∷ []) front_is in
             let (c, grown) = take_both (logged_among (Logged m ∷ o)) (logged_among more) ns in
-            let whole : front_at ns st ≡ (a ++ n ∷ []) ++ c = ap (λ z. take (length z) ns) (logged_append more (Logged m ∷ o)) ∙ grown ∙ ap (λ z. z ++ c) front in
+            let whole : front_at ns st ≡ (a ++ n ∷ []) ++ c = ap (λ z. take (length z) ns) (logged_append more (Logged m ∷ o)) ∙ grown ∙
+            ap (λ z. z ++ c) front in
             spoiled_skips t word st f spoil.is.found (λ here.
             let place = (at_place t st f spoil here).1 in
             let past = counts_past sizes ts told all ns are roots d.slot a [] n title d.step d.found d.value d entry made_n refl in
@@ -235,12 +250,14 @@ module _ (run : OrderedRun) where
         -- the steps before it have its poisonings since the title's last free
         record Before (st : List OneStep) : Type 0 where
           mine : find (frees title) (back_at ns st) ≡ Some n → spoilt (laid roots ns st) ≡ range_with_len 0 (spoiled title st)
-          other : (g : Named) → find (frees title) (back_at ns st) ≡ Some g → (g.x.played.line ≡ x.line → ⊥) → spoilt (laid roots ns st) ≡ []
+          other : (g : Named) → find (frees title) (back_at ns st) ≡ Some g → (g.x.played.line ≡ x.line → ⊥) →
+              spoilt (laid roots ns st) ≡ []
 
         before : (more st : List OneStep) → o ≡ more ++ st → Before st
         before more [] within = record { mine = λ is. refl; other = λ g is ne. refl }
         before more (Logged z ∷ st) within =
-            let at : order ≡ (later ++ Logged m ∷ more) ++ Logged z ∷ st = cut ∙ ap (λ w. later ++ Logged m ∷ w) within ∙ sym (append_assoc later (Logged m ∷ more) (Logged z ∷ st)) in
+            let at : order ≡ (later ++ Logged m ∷ more) ++ Logged z ∷ st = cut ∙ ap (λ w. later ++ Logged m ∷ w) within ∙
+            sym (append_assoc later (Logged m ∷ more) (Logged z ∷ st)) in
             let again = before (more ++ Logged z ∷ []) st (within ∙ sym (append_assoc more (Logged z ∷ []) st)) in
             let (g, next) = next_named ns order agree (later ++ Logged m ∷ more) z st at in
             let entry_g : g.entry ≡ z.entry = ap (λ (w : Stamped). w.entry) next.stamp in
@@ -251,44 +268,63 @@ module _ (run : OrderedRun) where
                   let found : find (frees title) (back_at ns st) ≡ Some g = ap (find (frees title)) next.back ∙ rw free_g refl in
                   let (c, grown) = take_both (logged_among (Logged z ∷ st)) (logged_among more) ns in
                   let a_is : a ≡ front_at ns st ++ g ∷ c =
-                  sym front_is ∙ ap (λ w. take (length w) ns) (ap logged_among within ∙ logged_append more (Logged z ∷ st)) ∙ grown ∙ ap (λ w. w ++ c) next.front
+                  sym front_is ∙ ap (λ w. take (length w) ns) (ap logged_among within ∙ logged_append more (Logged z ∷ st)) ∙ grown ∙
+                  ap (λ w. w ++ c) next.front
                   ∙ append_assoc (front_at ns st) (g ∷ []) c in
-                  let none : spoilt (laid roots ns (Logged z ∷ st)) ≡ [] = adds ∙ again.other g found (other_line (front_at ns st) c g a_is free_g) in
+                  let none : spoilt (laid roots ns (Logged z ∷ st)) ≡ [] = adds ∙
+                  again.other g found (other_line (front_at ns st) c g a_is free_g) in
                   let zero_spoiled : spoiled title (Logged z ∷ st) ≡ 0 = rw free refl in
                   record { mine = λ is. none ∙ ap (range_with_len 0) (sym zero_spoiled); other = λ h is ne. none }
               | inr kept ↦
                   let kept_g : frees title g ≡ false = ap (is_free_of title) entry_g ∙ kept in
-                  let same : find (frees title) (back_at ns st) ≡ find (frees title) (back_at ns (Logged z ∷ st)) = ap (find (frees title)) next.back ∙ rw kept_g refl in
+                  let same : find (frees title) (back_at ns st) ≡ find (frees title) (back_at ns (Logged z ∷ st)) =
+                  ap (find (frees title)) next.back ∙ rw kept_g refl in
                   let spoiled_same : spoiled title (Logged z ∷ st) ≡ spoiled title st = rw kept refl in
-                  record { mine = λ is. adds ∙ again.mine (same ∙ is) ∙ ap (range_with_len 0) (sym spoiled_same); other = λ h is ne. adds ∙ again.other h (same ∙ is) ne }
+                  record {
+                    mine = λ is. adds ∙ again.mine (same ∙ is) ∙ ap (range_with_len 0) (sym spoiled_same);
+                    other = λ h is ne. adds ∙
+                        again.other h (same ∙ is) ne;
+                  }
             ]
         before more (Spoiled t word ∷ st) within =
-            let at : order ≡ (later ++ Logged m ∷ more) ++ Spoiled t word ∷ st = cut ∙ ap (λ w. later ++ Logged m ∷ w) within ∙ sym (append_assoc later (Logged m ∷ more) (Spoiled t word ∷ st)) in
+            let at : order ≡ (later ++ Logged m ∷ more) ++ Spoiled t word ∷ st = cut ∙ ap (λ w. later ++ Logged m ∷ w) within ∙
+            sym (append_assoc later (Logged m ∷ more) (Spoiled t word ∷ st)) in
             let again = before (more ++ Spoiled t word ∷ []) st (within ∙ sym (append_assoc more (Spoiled t word ∷ []) st)) in
             let (f, spoil) = spoil_at run (later ++ Logged m ∷ more) t word st at in
             let in_order = in_place order (later ++ Logged m ∷ more) (Spoiled t word) st at placed in
             elim (cases_Bool (same_title t title)) [
               | inl here ↦
                   let same : t ≡ title = found_title title t here in
-                  let found : find (frees title) (back_at ns st) ≡ Some f = ap (λ u. find (frees u) (back_at ns st)) (sym same) ∙ spoil.is.found in
+                  let found : find (frees title) (back_at ns st) ≡ Some f = ap (λ u. find (frees u) (back_at ns st)) (sym same) ∙
+                  spoil.is.found in
                   let word_is : spoiled title st ≡ word = ap (λ u. spoiled u st) (sym same) ∙ in_order.0 in
-                  let one_more : spoiled title (Spoiled t word ∷ st) ≡ suc (spoiled title st) = let o' : one (same_title t title) ≡ 1 = ap one here in omega arith in
+                  let one_more : spoiled title (Spoiled t word ∷ st) ≡ suc (spoiled title st) = let o' : one (same_title t title) ≡ 1 =
+                  ap one here in omega arith in
                   record {
                     mine = λ is.
                         let f_is : f ≡ n = of_some f n (sym found ∙ is) in
                         let at_end : word ≡ 0 + spoiled title st = omega arith in
                         spoiled_adds t word st f spoil.is.found
-                        ∙ ap (λ z. spoilt (laid roots ns st) ++ z) (adds_own word f (ap (λ (z : Named). z.x.played.line) f_is ∙ ap (λ (z : Played). z.line) is_x))
+                        ∙ ap (λ z. spoilt (laid roots ns st) ++ z)
+                        (adds_own word f (ap (λ (z : Named). z.x.played.line) f_is ∙ ap (λ (z : Played). z.line) is_x))
                         ∙ ap (λ z. z ++ word ∷ []) (again.mine is) ∙ ap (λ k. range_with_len 0 (spoiled title st) ++ k ∷ []) at_end
                         ∙ sym (range_more 0 (spoiled title st)) ∙ ap (range_with_len 0) (sym one_more);
                     other = λ g is ne.
                         let f_is : f ≡ g = of_some f g (sym found ∙ is) in
-                        spoiled_skips t word st f spoil.is.found (λ here. ne (sym (ap (λ (z : Named). z.x.played.line) f_is) ∙ here)) ∙ again.other g is ne;
+                        spoiled_skips t word st f spoil.is.found (λ here. ne (sym (ap (λ (z : Named). z.x.played.line) f_is) ∙ here)) ∙
+                        again.other g is ne;
                   }
               | inr apart ↦
-                  let skips = spoiled_skips t word st f spoil.is.found (λ here. true≢false (sym (ap (λ u. same_title u title) (at_place t st f spoil here).0 ∙ title_self title) ∙ apart)) in
-                  let spoiled_same : spoiled title (Spoiled t word ∷ st) ≡ spoiled title st = let z : one (same_title t title) ≡ 0 = ap one apart in omega arith in
-                  record { mine = λ is. skips ∙ again.mine is ∙ ap (range_with_len 0) (sym spoiled_same); other = λ g is ne. skips ∙ again.other g is ne }
+                  let skips = spoiled_skips t word st f spoil.is.found
+                  (λ here. true≢false (sym (ap (λ u. same_title u title) (at_place t st f spoil here).0 ∙ title_self title) ∙
+                  apart)) in
+                  let spoiled_same : spoiled title (Spoiled t word ∷ st) ≡ spoiled title st = let z : one (same_title t title) ≡ 0 =
+                  ap one apart in omega arith in
+                  record {
+                    mine = λ is. skips ∙ again.mine is ∙ ap (range_with_len 0) (sym spoiled_same);
+                    other = λ g is ne. skips ∙
+                        again.other g is ne;
+                  }
             ]
 
         pub all_words : spoilt (laid roots ns order) ≡ range_with_len 0 (content_count title)
@@ -296,5 +332,6 @@ module _ (run : OrderedRun) where
             let free_n : frees title n ≡ true = ap (is_free_of title) entry_free ∙ rw (title_self title) refl in
             let found : find (frees title) (back_at ns o) ≡ Some n = ap (find (frees title)) back_is ∙ rw free_n refl in
             let entry_m : m.entry ≡ Counted title steps.Free d.found d.value = sym (ap (λ (z : Stamped). z.entry) stamp) ∙ entry_free in
-            let count : IsCountInPlace steps.Free m.stake title o = subst (λ e. IsEntryInPlace m.stake e o) entry_m (in_place order later (Logged m) o cut placed) in
+            let count : IsCountInPlace steps.Free m.stake title o =
+            subst (λ e. IsEntryInPlace m.stake e o) entry_m (in_place order later (Logged m) o cut placed) in
             ap (λ z. spoilt (laid roots ns z)) cut ∙ after_none later [] cut ∙ (before [] o refl).mine found ∙ ap (range_with_len 0) count.0

@@ -22,12 +22,14 @@ module _ {A B : Type 0} (queue_of : B → ℕ) where
     Fits queues bs = (k : ℕ) → map says (queues k) ≡ map is (filter (λ b. eqb (queue_of b) k) bs)
 
     -- the turn's queue has a first, which says what the turn does
-    first_of : (xs : List A) (e : E) (es : List E) → map says xs ≡ e ∷ es → (x : A) × (rest : List A) × (xs ≡ x ∷ rest) × (says x ≡ e) × (map says rest ≡ es)
+    first_of : (xs : List A) (e : E) (es : List E) → map says xs ≡ e ∷ es → (x : A) × (rest : List A) × (xs ≡ x ∷ rest) × (says x ≡ e) ×
+        (map says rest ≡ es)
     first_of [] e es same = absurd cc
     first_of (x ∷ xs) e es same = (x, xs, refl, cc, cc)
 
     front : (queues : ℕ → List A) (b : B) (bs : List B) → Fits queues (b ∷ bs) →
-        (x : A) × (rest : List A) × (queues (queue_of b) ≡ x ∷ rest) × (says x ≡ is b) × (map says rest ≡ map is (filter (λ c. eqb (queue_of c) (queue_of b)) bs))
+        (x : A) × (rest : List A) × (queues (queue_of b) ≡ x ∷ rest) × (says x ≡ is b) ×
+        (map says rest ≡ map is (filter (λ c. eqb (queue_of c) (queue_of b)) bs))
     front queues b bs fits =
         let here = eq-eqb (queue_of b) (queue_of b) refl in
         first_of (queues (queue_of b)) (is b) (map is (filter (λ c. eqb (queue_of c) (queue_of b)) bs)) (rw here at (fits (queue_of b)))
@@ -48,10 +50,12 @@ module _ {A B : Type 0} (queue_of : B → ℕ) where
     turns_say queues (b ∷ bs) fits =
         let (x, rest, parts, says_it, left) = front queues b bs fits in
         let again = turns_say (served (queue_of b) queues) bs (rest_fits queues b bs fits) in
-        ap (λ xs. map says (take 1 xs ++ in_turn (served (queue_of b) queues) bs)) parts ∙ ap (λ e. e ∷ map says (in_turn (served (queue_of b) queues) bs)) says_it ∙ ap (λ es. is b ∷ es) again
+        ap (λ xs. map says (take 1 xs ++ in_turn (served (queue_of b) queues) bs)) parts ∙
+        ap (λ e. e ∷ map says (in_turn (served (queue_of b) queues) bs)) says_it ∙ ap (λ es. is b ∷ es) again
 
     -- of each queue, what comes out is the queue
-    pub queues_stay : (of : A → ℕ) (queues : ℕ → List A) (bs : List B) → Fits queues bs → ((k : ℕ) (x : A) → Contains (queues k) x → of x ≡ k) →
+    pub queues_stay : (of : A → ℕ) (queues : ℕ → List A) (bs : List B) → Fits queues bs →
+        ((k : ℕ) (x : A) → Contains (queues k) x → of x ≡ k) →
         (k : ℕ) → filter (λ x. eqb (of x) k) (in_turn queues bs) ≡ queues k
     queues_stay of queues [] fits mine k = none (queues k) (fits k)
       where
@@ -69,10 +73,12 @@ module _ {A B : Type 0} (queue_of : B → ℕ) where
         elim (cases_eq k q) [
           | inl same ↦
               let rest_is : served q queues k ≡ rest = rw (eq-eqb k q same) (ap (λ n. drop 1 (queues n)) same ∙ ap (drop 1) parts) in
-              let kept : filter (λ z. eqb (of z) k) (x ∷ tail) ≡ x ∷ filter (λ z. eqb (of z) k) tail = rw (eq-eqb (of x) k (x_of ∙ sym same)) refl in
+              let kept : filter (λ z. eqb (of z) k) (x ∷ tail) ≡ x ∷ filter (λ z. eqb (of z) k) tail =
+              rw (eq-eqb (of x) k (x_of ∙ sym same)) refl in
               whole ∙ kept ∙ ap (λ zs. x ∷ zs) (again ∙ rest_is) ∙ sym (ap queues same ∙ parts)
           | inr other ↦
-              let kept : filter (λ z. eqb (of z) k) (x ∷ tail) ≡ filter (λ z. eqb (of z) k) tail = rw (ne_eqb (of x) k (λ e. other (sym e ∙ x_of))) refl in
+              let kept : filter (λ z. eqb (of z) k) (x ∷ tail) ≡ filter (λ z. eqb (of z) k) tail =
+              rw (ne_eqb (of x) k (λ e. other (sym e ∙ x_of))) refl in
               let same : served q queues k ≡ queues k = rw (ne_eqb k q other) refl in
               whole ∙ kept ∙ again ∙ same
         ]
@@ -81,7 +87,8 @@ module _ {A B : Type 0} (queue_of : B → ℕ) where
         dropped n [] x among = among
         dropped n (y ∷ xs) x among = later_in y x xs among
 
-        served_mine : (queues : ℕ → List A) (q : ℕ) → ((k : ℕ) (x : A) → Contains (queues k) x → of x ≡ k) → (k : ℕ) (x : A) → Contains (served q queues k) x → of x ≡ k
+        served_mine : (queues : ℕ → List A) (q : ℕ) → ((k : ℕ) (x : A) → Contains (queues k) x → of x ≡ k) → (k : ℕ) (x : A) →
+            Contains (served q queues k) x → of x ≡ k
         served_mine queues q mine k x among = elim (cases_Bool (eqb k q)) [
           | inl here ↦ mine k x (dropped k (queues k) x (rw here at among))
           | inr other ↦ mine k x (rw other at among)
@@ -95,7 +102,8 @@ by_queues of R (x ∷ xs) each =
     pairs_cons (λ u v. of u ≡ of v → R u v) x xs
     (λ y among same.
     let mine = rw (eq-eqb (of x) (of x) refl) at (each (of x)) in
-    pairs_head R x y (filter (λ z. eqb (of z) (of x)) xs) mine (filter_in (λ z. eqb (of z) (of x)) xs y among (eq-eqb (of y) (of x) (sym same))))
+    pairs_head R x y (filter (λ z. eqb (of z) (of x)) xs) mine
+    (filter_in (λ z. eqb (of z) (of x)) xs y among (eq-eqb (of y) (of x) (sym same))))
     (by_queues of R xs (λ k. elim (cases_Bool (eqb (of x) k)) [
       | inl here ↦ pairs_tail R x (filter (λ z. eqb (of z) k) xs) (rw here at (each k))
       | inr other ↦ rw other at (each k)

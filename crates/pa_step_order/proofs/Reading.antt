@@ -34,7 +34,8 @@ pub gives_read : (op : Op) (answer : Answer) (seen : Seen) (place value : ℕ) �
 gives_read (ops.Read reg word) answer seen place value (here, which) = (reg, ap (ops.Read reg) here, which)
 gives_read op answer seen place value gives = absurd gives
 
-pub read_marked : (x : Played) (seen : Seen) (place value : ℕ) → GivesAt x.op x.answer seen place value → mark_of x ≡ Some (mark_at x.line seen None)
+pub read_marked : (x : Played) (seen : Seen) (place value : ℕ) → GivesAt x.op x.answer seen place value →
+    mark_of x ≡ Some (mark_at x.line seen None)
 read_marked x seen place value gives = elim (gives_read x.op x.answer seen place value gives).2 [
   | inl held ↦ ap (mark_of_answer x.line x.op) held
   | inr freed ↦ ap (mark_of_answer x.line x.op) freed
@@ -68,10 +69,12 @@ pub record IsRunOf (ps : List Played) (ms : List Moment) : Type 0 where
 
 module _ (ps : List Played) (ms : List Moment) (marked : AreMarked ps ms) (run : IsRunOf ps ms) where
   -- of steps in different phases that of the later phase found more
-  pub sooner : (x y : Played) (d e : StepMade) → Contains ps x → Contains ps y → step_by x ≡ Some d → step_by y ≡ Some e → d.slot ≡ e.slot → x.phase < y.phase →
+  pub sooner : (x y : Played) (d e : StepMade) → Contains ps x → Contains ps y → step_by x ≡ Some d → step_by y ≡ Some e → d.slot ≡ e.slot →
+      x.phase < y.phase →
       number_of d.found + 1 ≤ number_of e.found
   sooner x y d e first second is other same less =
-      let up = run.phases x y (mark_made x.line d) (mark_made y.line e) first second less (step_mark x.line x.op x.answer d is) (step_mark y.line y.op y.answer e other) same in
+      let up = run.phases x y (mark_made x.line d) (mark_made y.line e) first second less (step_mark x.line x.op x.answer d is)
+      (step_mark y.line y.op y.answer e other) same in
       omega arith
 
   -- ---- one read
@@ -98,15 +101,19 @@ module _ (ps : List Played) (ms : List Moment) (marked : AreMarked ps ms) (run :
     sorts m = cond (is_this m) (Some None) (option_map Some (early m))
 
     -- a step of a later phase has no lower number
-    pub later_step : (y : Played) (d : StepMade) → Contains ps y → step_by y ≡ Some d → d.slot ≡ here → x.phase < y.phase → number ≤ number_of d.found
+    pub later_step : (y : Played) (d : StepMade) → Contains ps y → step_by y ≡ Some d → d.slot ≡ here → x.phase < y.phase →
+        number ≤ number_of d.found
     later_step y d there is slot less =
-        let up = run.phases x y (mark_at x.line seen None) (mark_made y.line d) reader there less (read_marked x seen place value gives) (step_mark y.line y.op y.answer d is) (sym slot) in
+        let up = run.phases x y (mark_at x.line seen None) (mark_made y.line d) reader there less (read_marked x seen place value gives)
+        (step_mark y.line y.op y.answer d is) (sym slot) in
         omega arith
 
     -- a step of an earlier phase than the read's left a number no greater than the one that the read found
-    sooner_step : (y : Played) (d : StepMade) → Contains ps y → step_by y ≡ Some d → d.slot ≡ here → y.phase < x.phase → number_of d.found + 1 ≤ number
+    sooner_step : (y : Played) (d : StepMade) → Contains ps y → step_by y ≡ Some d → d.slot ≡ here → y.phase < x.phase →
+        number_of d.found + 1 ≤ number
     sooner_step y d there is slot less =
-        let up = run.phases y x (mark_made y.line d) (mark_at x.line seen None) there reader less (step_mark y.line y.op y.answer d is) (read_marked x seen place value gives) slot in
+        let up = run.phases y x (mark_made y.line d) (mark_at x.line seen None) there reader less (step_mark y.line y.op y.answer d is)
+        (read_marked x seen place value gives) slot in
         omega arith
 
     pub early_is : (m : Moment) (v : ℕ) → early m ≡ Some v → (m.x.phase ≤ x.phase) × (leaves m ≡ Some v)
@@ -172,9 +179,11 @@ module _ (ps : List Played) (ms : List Moment) (marked : AreMarked ps ms) (run :
                     ]
                 | inr (w', kept', e') ↦
                     let d = change_is ps ms marked here place us (ws ++ b ∷ ts) a w' cut (early_is a w' kept').1 in
-                    let up = none_within ps ms marked here place us (ws ++ b ∷ ts) a w' d cut b.x c.d (marked.members b b_in) c.is c.slot c.settles (omega arith) in
+                    let up = none_within ps ms marked here place us (ws ++ b ∷ ts) a w' d cut b.x c.d
+                    (marked.members b b_in) c.is c.slot c.settles (omega arith) in
                     elim (cases_lt b.x.phase a.x.phase) [
-                      | inl less ↦ let low = sooner b.x a.x c.d d.d (marked.members b b_in) (marked.members a a_in) c.is d.is (c.slot ∙ sym d.slot) less in absurd (omega arith)
+                      | inl less ↦ let low = sooner b.x a.x c.d d.d (marked.members b b_in) (marked.members a a_in) c.is d.is
+                          (c.slot ∙ sym d.slot) less in absurd (omega arith)
                       | inr rises ↦ rises
                     ]
               ]
@@ -186,7 +195,8 @@ module _ (ps : List Played) (ms : List Moment) (marked : AreMarked ps ms) (run :
     -- ---- the read among them
 
     early_kept : (xs : List Moment) → filter_map (λ (o : Option ℕ). o) (filter_map sorts xs) ≡ filter_map early xs
-    early_kept xs = kept_twice (λ (o : Option ℕ). o) sorts xs ∙ kept_same (λ m. option_and_then (λ (o : Option ℕ). o) (sorts m)) early xs (λ m among. same m (cases_Bool (is_this m)))
+    early_kept xs = kept_twice (λ (o : Option ℕ). o) sorts xs ∙
+        kept_same (λ m. option_and_then (λ (o : Option ℕ). o) (sorts m)) early xs (λ m among. same m (cases_Bool (is_this m)))
       where
         back : (o : Option ℕ) → option_and_then (λ (u : Option ℕ). u) (option_map Some o) ≡ o
         back None = refl
@@ -203,10 +213,12 @@ module _ (ps : List Played) (ms : List Moment) (marked : AreMarked ps ms) (run :
         same m (inr other) = rw other (back (early m))
 
     -- what those of its phase or before left is what all that are before it left
-    content_early : (before : List Moment) → ((m : Moment) → Contains before m → m.x.phase ≤ x.phase) → content_after here place 0 before ≡ last_of 0 (filter_map early before)
+    content_early : (before : List Moment) → ((m : Moment) → Contains before m → m.x.phase ≤ x.phase) →
+        content_after here place 0 before ≡ last_of 0 (filter_map early before)
     content_early before low =
         content_is_last here place 0 before
-        ∙ ap (last_of 0) (kept_same leaves early before (λ m among. sym (ap (λ b. cond b (leaves m) None) (le-leb m.x.phase x.phase (low m among)))))
+        ∙ ap (last_of 0) (kept_same leaves early before
+        (λ m among. sym (ap (λ b. cond b (leaves m) None) (le-leb m.x.phase x.phase (low m among)))))
 
     -- where the read is in the order of the logs, with what was changed before it
     pub found_read : (before after : List Moment) (m : Moment) → sorted phase_at ms ≡ before ++ m ∷ after → m.part ≡ Loading → m.x ≡ x →
@@ -215,7 +227,9 @@ module _ (ps : List Played) (ms : List Moment) (marked : AreMarked ps ms) (run :
     found_read before after m cut load is us vs r parts this same =
         let rises = sorted_rises phase_at ms in
         let e : m.x.phase ≡ x.phase = ap (λ (z : Played). z.phase) is in
-        content_early before (λ n among. let up = pairs_across (Rises phase_at) before (m ∷ after) n m (subst (AllPairs (Rises phase_at)) cut rises) among (first_in m after) in omega arith)
+        content_early before (λ n among. let up =
+        pairs_across (Rises phase_at) before (m ∷ after) n m (subst (AllPairs (Rises phase_at)) cut rises) among (first_in m after) in
+        omega arith)
         ∙ ap (last_of 0) (sym (early_kept before) ∙ ap (filter_map (λ (o : Option ℕ). o)) (sym same) ∙ early_kept us)
 
     pub cut_read : (before after : List Moment) (m : Moment) → sorted phase_at ms ≡ before ++ m ∷ after → m.part ≡ Loading → m.x ≡ x →
@@ -225,11 +239,14 @@ module _ (ps : List Played) (ms : List Moment) (marked : AreMarked ps ms) (run :
         let this : is_this m ≡ true = ap (λ p. is_loading p && eqb m.x.line x.line) load ∙ line in
         let sorts_m : sorts m ≡ Some None = ap (λ b. cond b (Some None) (option_map Some (early m))) this in
         let split : filter_map sorts (sorted phase_at ms) ≡ filter_map sorts before ++ None ∷ filter_map sorts after =
-        ap (filter_map sorts) cut ∙ filter_map-append sorts before (m ∷ after) ∙ ap (λ o. filter_map sorts before ++ cons_option o (filter_map sorts after)) sorts_m in
-        let (us, r, vs, parts, same, left) = kept_cut sorts ms (filter_map sorts before) (filter_map sorts after) None (sym kept_sorted ∙ split) in
+        ap (filter_map sorts) cut ∙ filter_map-append sorts before (m ∷ after) ∙
+        ap (λ o. filter_map sorts before ++ cons_option o (filter_map sorts after)) sorts_m in
+        let (us, r, vs, parts, same, left) =
+        kept_cut sorts ms (filter_map sorts before) (filter_map sorts after) None (sym kept_sorted ∙ split) in
         (us, vs, r, parts, same, left)
 
-    pub read_there : (us vs : List Moment) (r : Moment) → ms ≡ us ++ r ∷ vs → sorts r ≡ Some None → (r.part ≡ Loading) × (r.x ≡ x) × IsReadAfter ps us seen place value
+    pub read_there : (us vs : List Moment) (r : Moment) → ms ≡ us ++ r ∷ vs → sorts r ≡ Some None → (r.part ≡ Loading) × (r.x ≡ x) ×
+        IsReadAfter ps us seen place value
     read_there us vs r parts is = elim (sorts_is r None is) [
       | inl this ↦
           let (load, same) = this_is r (in_middle us vs ms r parts) this in

@@ -83,30 +83,38 @@ read_signed t u found place value since owned unclean es rest none pair quiet =
     ap (filter_map sign_of) pair ∙ none_signed rest (λ q. sym (ap (entered_in q) pair) ∙ none q) quiet
 
 -- a line of which no journal has anything
-no_line_signs : (line : ℕ) (roots : Journals) → NoActs roots line → (ps : List ℕ) → flat_map (λ p. flat_map (act_signs line p) (acts_of roots line p)) ps ≡ []
+no_line_signs : (line : ℕ) (roots : Journals) → NoActs roots line → (ps : List ℕ) →
+    flat_map (λ p. flat_map (act_signs line p) (acts_of roots line p)) ps ≡ []
 no_line_signs line roots none [] = refl
 no_line_signs line roots none (p ∷ ps) =
-    ap (λ acts. flat_map (act_signs line p) acts ++ flat_map (λ q. flat_map (act_signs line q) (acts_of roots line q)) ps) (none p) ∙ no_line_signs line roots none ps
+    ap (λ acts. flat_map (act_signs line p) acts ++ flat_map (λ q. flat_map (act_signs line q) (acts_of roots line q)) ps) (none p) ∙
+    no_line_signs line roots none ps
 
 module _ (sizes : SlotName → ℕ) (partitions line : ℕ) (roots : Journals) (acts : NoActs roots line) where
   no_signs : line_signs partitions roots line ≡ []
   no_signs = no_line_signs line roots acts (range_with_len 0 partitions)
 
-  done_signed : (op : Op) (seen : Seen) (es : List Entry) (o : Option Step) → EntersNone es → IsDoneTold sizes o (value_by op) seen es → filter_map sign_of es ≡ Stepped ∷ []
+  done_signed : (op : Op) (seen : Seen) (es : List Entry) (o : Option Step) → EntersNone es → IsDoneTold sizes o (value_by op) seen es →
+      filter_map sign_of es ≡ Stepped ∷ []
   done_signed op seen es None none told = absurd told
-  done_signed op seen es (Some step) none (looks, are, is) = step_signed (title_of sizes seen.slot) step seen.found.0 (value_by op) looks es none are is
+  done_signed op seen es (Some step) none (looks, are, is) =
+      step_signed (title_of sizes seen.slot) step seen.found.0 (value_by op) looks es none are is
 
   seen_signed : (o : Option Seen) (es : List Entry) → EntersNone es → IsSeenTold sizes o es → filter_map sign_of es ≡ []
   seen_signed None es none told = none_signed es none told
   seen_signed (Some seen) es none told = look_signed (title_of sizes seen.slot) seen.found.0 es none told.0
 
-  quiet_signed : (op : Op) (answer : Answer) (es : List Entry) → IsToldBy sizes op answer es → EntersNone es → ((j : ℕ) → answer ≡ answers.Swapped j → ⊥) →
+  quiet_signed : (op : Op) (answer : Answer) (es : List Entry) → IsToldBy sizes op answer es → EntersNone es →
+      ((j : ℕ) → answer ≡ answers.Swapped j → ⊥) →
       filter_map sign_of es ≡ due_signs partitions roots line answer
   quiet_signed op (answers.Made seen usable) es ((looks, are, is), length) none no_swap =
       step_signed (title_of sizes seen.slot) steps.Issue seen.found.0 0 looks es none are is ∙ sym (ap (λ ys. ys ++ Stepped ∷ []) no_signs)
-  quiet_signed op (answers.Done seen) es told none no_swap = done_signed op seen es (step_of op) none told ∙ sym (ap (λ ys. Stepped ∷ ys) no_signs)
-  quiet_signed op (answers.Value seen value) es (held, (reg, place, owned, reads, told)) none no_swap = read_signed _ _ _ _ _ _ _ _ es told.rest none told.pair told.none
-  quiet_signed op (answers.Dangling seen value) es (held, (reg, place, owned, reads, told)) none no_swap = read_signed _ _ _ _ _ _ _ _ es told.rest none told.pair told.none
+  quiet_signed op (answers.Done seen) es told none no_swap = done_signed op seen es (step_of op) none told ∙
+      sym (ap (λ ys. Stepped ∷ ys) no_signs)
+  quiet_signed op (answers.Value seen value) es (held, (reg, place, owned, reads, told)) none no_swap =
+      read_signed _ _ _ _ _ _ _ _ es told.rest none told.pair told.none
+  quiet_signed op (answers.Dangling seen value) es (held, (reg, place, owned, reads, told)) none no_swap =
+      read_signed _ _ _ _ _ _ _ _ es told.rest none told.pair told.none
   quiet_signed op (answers.SecondFree seen) es told none no_swap = seen_signed seen es none told
   quiet_signed op (answers.NotOwner seen) es told none no_swap = seen_signed (Some seen) es none told
   quiet_signed op (answers.StaleUse seen) es told none no_swap = seen_signed seen es none told
@@ -117,6 +125,7 @@ module _ (sizes : SlotName → ℕ) (partitions line : ℕ) (roots : Journals) (
   quiet_signed op answers.StaleReset es told none no_swap = none_signed es none told
   quiet_signed op answers.Nothing es told none no_swap = none_signed es none told
   quiet_signed op answers.Filled es told none no_swap = none_signed es none told
+  quiet_signed op answers.Uncounted es told none no_swap = none_signed es none told
   quiet_signed op answers.NotRef es told none no_swap = none_signed es none told
   quiet_signed op answers.OutOfRange es told none no_swap = none_signed es none told
   quiet_signed op answers.TooLarge es told none no_swap = none_signed es none told
@@ -135,15 +144,18 @@ additions_none (Uncut t ∷ es) are = absurd are
 own_numbers : (p : ℕ) (numbers : List ℕ) → p < 4 → root_alone p numbers ≡ numbers
 own_numbers p numbers small = rw (ne_eqb p 4 (λ e. omega arith), ne_eqb p 5 (λ e. omega arith)) refl
 
-asks_none : (line p : ℕ) (act : RootAct) (o : Option ℕ) → o ≡ None → asked_first o (Listed p (numbers_on line act) ∷ []) ≡ Listed p (numbers_on line act) ∷ []
+asks_none : (line p : ℕ) (act : RootAct) (o : Option ℕ) → o ≡ None →
+    asked_first o (Listed p (numbers_on line act) ∷ []) ≡ Listed p (numbers_on line act) ∷ []
 asks_none line p act None is = refl
 asks_none line p act (Some j) is = absurd cc
 
-asks_one : (line p j : ℕ) (act : RootAct) (o : Option ℕ) → o ≡ Some j → asked_first o (Listed p (numbers_on line act) ∷ []) ≡ Listed 4 [] ∷ Listed p (numbers_on line act) ∷ []
+asks_one : (line p j : ℕ) (act : RootAct) (o : Option ℕ) → o ≡ Some j →
+    asked_first o (Listed p (numbers_on line act) ∷ []) ≡ Listed 4 [] ∷ Listed p (numbers_on line act) ∷ []
 asks_one line p j act None is = absurd cc
 asks_one line p j act (Some i) is = refl
 
-entries_signed : (line p : ℕ) (ms : List Made) (acts : List RootAct) → p < 4 → map (λ (m : Made). m.numbers) ms ≡ map (numbers_on line) acts →
+entries_signed : (line p : ℕ) (ms : List Made) (acts : List RootAct) → p < 4 →
+    map (λ (m : Made). m.numbers) ms ≡ map (numbers_on line) acts →
     ((act : RootAct) → Contains acts act → asked_by act ≡ None) → filter_map sign_of (map (Entered p) ms) ≡ flat_map (act_signs line p) acts
 entries_signed line p [] [] small same none = refl
 entries_signed line p [] (act ∷ acts) small same none = absurd cc
@@ -165,7 +177,8 @@ asked_signed line p j act pool made small numbers asks =
 
 -- ---- a line's entries
 
-each_signed : (pieces : ℕ → List Entry) (signs : ℕ → List Sign) (from n : ℕ) → ((p : ℕ) → p < from + n → filter_map sign_of (pieces p) ≡ signs p) →
+each_signed : (pieces : ℕ → List Entry) (signs : ℕ → List Sign) (from n : ℕ) →
+    ((p : ℕ) → p < from + n → filter_map sign_of (pieces p) ≡ signs p) →
     filter_map sign_of (flat_map pieces (range_with_len from n)) ≡ flat_map signs (range_with_len from n)
 each_signed pieces signs from zero each = refl
 each_signed pieces signs from (suc n) each =
@@ -182,7 +195,9 @@ only_signed partitions line p roots acts past only =
           sym (in_range piece p 0 partitions (omega arith) (omega arith) (λ q other. ap (flat_map (act_signs line q)) (only.1 q other))
           ∙ ap (flat_map (act_signs line p)) only.0)
       | inr high ↦
-          let none : acts_of roots line p ≡ [] = ap (λ (es : List RootEntry). map (λ (e : RootEntry). e.act) (filter (λ (e : RootEntry). eqb e.line line) es)) (past p high) in
+          let none : acts_of roots line p ≡ [] =
+          ap (λ (es : List RootEntry). map (λ (e : RootEntry). e.act) (filter (λ (e : RootEntry). eqb e.line line) es))
+          (past p high) in
           let no_acts : NoActs roots line = λ q. elim (cases_eq q p) [
             | inl same ↦ ap (acts_of roots line) same ∙ none
             | inr other ↦ only.1 q other
@@ -192,11 +207,13 @@ only_signed partitions line p roots acts past only =
 
 pub shapes_have_signs : ShapesHaveSigns
 shapes_have_signs = record {
-  quiet = λ sizes partitions roots x told none acts no_swap. quiet_signed sizes partitions x.played.line roots acts x.played.op x.played.answer x.stretch told none no_swap;
+  quiet = λ sizes partitions roots x told none acts no_swap. quiet_signed sizes partitions x.played.line roots acts x.played.op
+      x.played.answer x.stretch told none no_swap;
   swapped = λ partitions j roots x made answer entered.
       ap (filter_map sign_of) entered ∙ sym (ap (due_signs partitions roots x.played.line) answer);
   settled = λ partitions roots x es are signs.
-      filter_map-append sign_of x.stretch es ∙ ap (λ ys. filter_map sign_of x.stretch ++ ys) (additions_none es are) ∙ append-nil (filter_map sign_of x.stretch) ∙ signs;
+      filter_map-append sign_of x.stretch es ∙ ap (λ ys. filter_map sign_of x.stretch ++ ys) (additions_none es are) ∙
+      append-nil (filter_map sign_of x.stretch) ∙ signs;
   entries = entries_signed;
   asked = asked_signed;
   only = λ partitions line p roots acts past only. only_signed partitions line p roots acts past only;

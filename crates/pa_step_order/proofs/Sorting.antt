@@ -98,7 +98,8 @@ module _ {A : Type 0} (key : A → ℕ) where
           | inl same ↦ subst (λ u. S y u) same (turn y (first_in y ys) (first y (first_in y ys)) less)
           | inr rest ↦ pairs_head S y z ys h rest
         ])
-        (inserted_pairs S x ys (pairs_tail S y ys h) (λ z among. first z (later_in y z ys among)) (λ z among. turn z (later_in y z ys among))))
+        (inserted_pairs S x ys (pairs_tail S y ys h) (λ z among. first z (later_in y z ys among))
+        (λ z among. turn z (later_in y z ys among))))
     | inr more ↦ rw (le-leb (key x) (key y) more) (pairs_cons S x (y ∷ ys) first h)
   ]
 
@@ -153,7 +154,8 @@ module _ {A : Type 0} (key : A → ℕ) (f : A → Option A) (stays : (x y : A) 
   in_front x [] low = refl
   in_front x (y ∷ ys) low = rw (le-leb (key x) (key y) (low y (first_in y ys))) refl
 
-  inserted_through : (x : A) (ys : List A) → f x ≡ Some x → AllPairs (Rises key) ys → filter_map f (inserted key x ys) ≡ inserted key x (filter_map f ys)
+  inserted_through : (x : A) (ys : List A) → f x ≡ Some x → AllPairs (Rises key) ys →
+      filter_map f (inserted key x ys) ≡ inserted key x (filter_map f ys)
   inserted_through x [] is up = rw is refl
   inserted_through x (y ∷ ys) is up = elim (cases_lt (key y) (key x)) [
     | inl less ↦
@@ -179,7 +181,8 @@ module _ {A : Type 0} (key : A → ℕ) (f : A → Option A) (stays : (x y : A) 
   pub sorted_through : (xs : List A) → filter_map f (sorted key xs) ≡ sorted key (filter_map f xs)
   sorted_through [] = refl
   sorted_through (x ∷ xs) = elim (none_or_some (f x)) [
-    | inl none ↦ inserted_none key f x (sorted key xs) none ∙ sorted_through xs ∙ sym (ap (λ o. sorted key (cons_option o (filter_map f xs))) none)
+    | inl none ↦ inserted_none key f x (sorted key xs) none ∙ sorted_through xs ∙
+        sym (ap (λ o. sorted key (cons_option o (filter_map f xs))) none)
     | inr (y, is) ↦
         let same = stays x y is in
         inserted_through x (sorted key xs) (is ∙ ap Some (sym same)) (sorted_rises key xs) ∙ ap (inserted key x) (sorted_through xs)

@@ -22,12 +22,14 @@ touch_stays m (inr counts) = subst (λ p. stays (moment m.x p) ≡ Some (moment 
 -- each look and counted step among the moments finds the number of those before it
 abbrev pub FindsItsNumber : List Moment → Type 0
 FindsItsNumber ms =
-    (before after : List Moment) (m : Moment) (k : Mark) → ms ≡ before ++ m ∷ after → IsTouch m.part → mark_of m.x ≡ Some k → number_of k.found ≡ counted_steps k.slot before
+    (before after : List Moment) (m : Moment) (k : Mark) → ms ≡ before ++ m ∷ after → IsTouch m.part → mark_of m.x ≡ Some k →
+    number_of k.found ≡ counted_steps k.slot before
 
 pub found_stays : (ms : List Moment) → FindsItsNumber (filter_map stays ms) → FindsItsNumber ms
 found_stays ms finds before after m k cut touch marked =
     let whole : filter_map stays ms ≡ filter_map stays before ++ m ∷ filter_map stays after =
-    ap (filter_map stays) cut ∙ filter_map-append stays before (m ∷ after) ∙ ap (λ o. filter_map stays before ++ cons_option o (filter_map stays after)) (touch_stays m touch) in
+    ap (filter_map stays) cut ∙ filter_map-append stays before (m ∷ after) ∙
+    ap (λ o. filter_map stays before ++ cons_option o (filter_map stays after)) (touch_stays m touch) in
     finds (filter_map stays before) (filter_map stays after) m k whole touch marked ∙ counts_stay k.slot before
 
 pub journal_stays : (p : ℕ) (ms : List Moment) → journal_made p (filter_map stays ms) ≡ journal_made p ms

@@ -97,21 +97,26 @@ module _ (t : Trace) (r : Told) (v : View) (ts : List ToldRecord) (says : Layers
   kept_journals : (p : ℕ) → filter_map (enters p) (moments_in r.roots names) ≡ r.roots p
   kept_journals p = elim (cases_lt p 4) [
     | inl small ↦
-        kept_journal ts all names are_named r.roots p (list_of p v) (listed p) (list_is t r v ts says p (omega arith)) ((are_lists t r v ts says).journals p small) small
+        kept_journal ts all names are_named r.roots p (list_of p v) (listed p) (list_is t r v ts says p (omega arith))
+        ((are_lists t r v ts says).journals p small) small
     | inr past ↦ past_journal ts all names are_named r.roots p past ((are_lists t r v ts says).past p past)
   ]
 
-  step_order : AreInTheirOrder t.partitions r.roots ts → IsStepOrder (outline_parts t.partitions r.roots) (played_in ts) r.pools r.roots r.cells moments
+  step_order : AreInTheirOrder t.partitions r.roots ts →
+      IsStepOrder (outline_parts t.partitions r.roots) (played_in ts) r.pools r.roots r.cells moments
   step_order order =
       let up = rising t r v ts says in
       record {
         whole = whole ts all names are_named r.roots up t.partitions order;
         only = only ts all names are_named r.roots;
         in_order = in_order ts all names are_named r.roots up (phases_rise (rules_of t) t.lines (played_in ts) (are_lines t r v ts says));
-        found = found (sizes_in t r) ts says.heap.told all names are_named r.roots one_order.ordered.found (in_phases r.cells (played_in ts) legal.seen);
+        found = found (sizes_in t r) ts says.heap.told all names are_named r.roots one_order.ordered.found
+            (in_phases r.cells (played_in ts) legal.seen);
         journals = λ p. journals_made ts all names are_named r.roots p (kept_journals p) (legal.roots.order p);
-        pool = pool_asked ts all names are_named r.roots (list_of 4 v) r.pools (listed 4) (list_is t r v ts says 4 (omega arith)) (are_lists t r v ts says).pool legal.pool.order;
-        exchanges = λ k. exchanged ts all names are_named r.roots up (list_of 5 v) r.cells says.swaps (listed 5) (list_is t r v ts says 5 (omega arith)) (says.cells.swaps_are)
+        pool = pool_asked ts all names are_named r.roots (list_of 4 v) r.pools (listed 4) (list_is t r v ts says 4 (omega arith))
+            (are_lists t r v ts says).pool legal.pool.order;
+        exchanges = λ k. exchanged ts all names are_named r.roots up (list_of 5 v) r.cells says.swaps (listed 5)
+            (list_is t r v ts says 5 (omega arith)) (says.cells.swaps_are)
             (answered t r v ts says) k (legal.cells.order k);
       }
 
@@ -182,13 +187,16 @@ module _ (t : Trace) (r : Told) (v : View) (ts : List ToldRecord) (says : Layers
         timeline (usable_of t.version) (usable_in (played_in ts)) t.partitions r.pools r.roots r.cells (played_in ts) ms marked
         (one_played ts all names are_named r.roots up)
         (whole_due run t.partitions order (usable_in (played_in ts)) fits)
-        (phases_rise (rules_of t) t.lines (played_in ts) (are_lines t r v ts says)) (in_phases r.cells (played_in ts) legal.seen) legal.contents
+        (phases_rise (rules_of t) t.lines (played_in ts) (are_lines t r v ts says))
+        (in_phases r.cells (played_in ts) legal.seen) legal.contents
         (issued_again sizes ts says.heap.told histories)
         (lines run)
-        (subst (λ zs. IsStepOrder (outline_parts t.partitions r.roots) (played_in ts) r.pools r.roots r.cells (sorted phase_at zs)) (sym same_moments) (step_order order))
+        (subst (λ zs. IsStepOrder (outline_parts t.partitions r.roots) (played_in ts) r.pools r.roots r.cells (sorted phase_at zs))
+        (sym same_moments) (step_order order))
 
 pub timeline_follows : TimelineFollows
 timeline_follows t r v ts says order clean = (
   sorted phase_at (ms t r v ts says order clean),
-  subst (λ ps. IsTimeline (usable_in ps) t.partitions ps r.pools r.roots r.cells (sorted phase_at (ms t r v ts says order clean))) says.runner.records (is_timeline t r v ts says order clean),
+  subst (λ ps. IsTimeline (usable_in ps) t.partitions ps r.pools r.roots r.cells (sorted phase_at (ms t r v ts says order clean)))
+      says.runner.records (is_timeline t r v ts says order clean),
 )

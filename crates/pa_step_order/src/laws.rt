@@ -9,8 +9,8 @@ pub fn timeline_follows()
     ensures { TimelineFollows }
 {}
 
-/// A log segment that is what its answer requires, and has its counted step and its entries in lists in their order, has its record's
-/// steps in their order.
+/// A log segment that is what its answer requires, and has its counted step and its entries in lists in their order,
+/// has its record's steps in their order.
 pub fn segments_follow()
     ensures { SegmentsFollow }
 {}

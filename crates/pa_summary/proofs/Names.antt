@@ -1,6 +1,6 @@
 -- The text of an answer begins with its name.
 use Rattle.std.proofs.Common.{[], refl}
-use Rattle.pa_record.specs.declared.entry.Answer.TheVariants.{Made, Done, Value, Dangling, SecondFree, NotOwner, StaleReset, StaleUse, Nothing, Filled, NotRef, Shared, OutOfRange, TooLarge, Full, Swapped, Purged}
+use Rattle.pa_record.specs.declared.entry.Answer.TheVariants.{Made, Done, Value, Dangling, SecondFree, NotOwner, StaleReset, StaleUse, Nothing, Filled, NotRef, Shared, OutOfRange, TooLarge, Full, Swapped, Purged, Uncounted}
 use Rattle.pa_summary.specs.SummaryText.{NamesAreOfRecords}
 
 pub names_of_records : NamesAreOfRecords
@@ -21,3 +21,4 @@ names_of_records TooLarge = ([], refl)
 names_of_records (Full entry) = (_, refl)
 names_of_records (Swapped entry) = (_, refl)
 names_of_records (Purged slots) = (_, refl)
+names_of_records Uncounted = ([], refl)

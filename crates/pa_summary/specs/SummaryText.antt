@@ -3,7 +3,7 @@ use Rattle.std.specs.Prelude.{◌≡◌, ℕ, ◌+◌, ◌==◌, if◌then◌els
 use Rattle.std.specs.Fmt.{decimal}
 use Rattle.pa_record.specs.declared.entry.Entry.{Entry}
 use Rattle.pa_record.specs.declared.entry.Answer.{Answer}
-use Rattle.pa_record.specs.declared.entry.Answer.TheVariants.{Made, Done, Value, Dangling, SecondFree, NotOwner, StaleReset, StaleUse, Nothing, Filled, NotRef, Shared, OutOfRange, TooLarge, Full, Swapped, Purged}
+use Rattle.pa_record.specs.declared.entry.Answer.TheVariants.{Made, Done, Value, Dangling, SecondFree, NotOwner, StaleReset, StaleUse, Nothing, Filled, NotRef, Shared, OutOfRange, TooLarge, Full, Swapped, Purged, Uncounted}
 use Rattle.pa_record.specs.declared.report.Tally.{Tally}
 use Rattle.pa_record.specs.declared.report.ReportLine.{ReportLine}
 use Rattle.pa_record.specs.declared.run.Run.{Run}
@@ -28,13 +28,15 @@ answer_number TooLarge = 14
 answer_number (Full entry) = 15
 answer_number (Swapped entry) = 16
 answer_number (Purged slots) = 17
+answer_number Uncounted = 18
 
 -- the names of the answers, in the order of their numbers
 abbrev pub answer_names : List (List ℕ)
 answer_names =
     codes "made" ∷ codes "done" ∷ codes "word" ∷ codes "dangling" ∷ codes "second-free" ∷ codes "not-owner"
     ∷ codes "stale-reset" ∷ codes "stale-use" ∷ codes "nothing" ∷ codes "filled" ∷ codes "not-ref" ∷ codes "shared"
-    ∷ codes "out-of-range" ∷ codes "too-large" ∷ codes "full" ∷ codes "swapped" ∷ codes "purged" ∷ []
+    ∷ codes "out-of-range" ∷ codes "too-large" ∷ codes "full" ∷ codes "swapped" ∷ codes "purged"
+    ∷ codes "uncounted" ∷ []
 
 -- the name of number n among these, of which the first has number m
 abbrev pub name_from : ℕ → List (List ℕ) → ℕ → List ℕ

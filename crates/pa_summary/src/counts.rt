@@ -4,13 +4,13 @@ ghost use Rattle.pa_summary.specs.SummaryText.{answer_number, answer_names, answ
 use pa_record::{Answer, Entry};
 
 // How many answers there are.
-pub(crate) const ANSWERS: usize = 17;
+pub(crate) const ANSWERS: usize = 18;
 
 // How many records have each answer, in the order of their numbers, from number 1 on.
-pub(crate) fn counts_of(entries: &[Entry]) -> [u64; 17]
-    ensures { (k : ℕ) → k < 17 → slice_index_or result k 0 ≡ answer_count (k + 1) entries.now }
+pub(crate) fn counts_of(entries: &[Entry]) -> [u64; 18]
+    ensures { (k : ℕ) → k < 18 → slice_index_or result k 0 ≡ answer_count (k + 1) entries.now }
 {
-    let mut counts = [0u64; 17];
+    let mut counts = [0u64; 18];
     for entry in entries {
         counts[place_of(entry.answer)] += 1;
     }
@@ -19,7 +19,7 @@ pub(crate) fn counts_of(entries: &[Entry]) -> [u64; 17]
 
 // The name of the answer at this place, the answer of number 1 being at place 0.
 pub(crate) fn name_at(place: usize) -> &'static [u8]
-    requires { place < 17 }
+    requires { place < 18 }
     ensures { result.now ≡ slice_index_or answer_names place [] }
 {
     match place {
@@ -39,14 +39,15 @@ pub(crate) fn name_at(place: usize) -> &'static [u8]
         13 => b"too-large",
         14 => b"full",
         15 => b"swapped",
-        _ => b"purged",
+        16 => b"purged",
+        _ => b"uncounted",
     }
 }
 
 // The place of the answer, which is its number less 1.
 fn place_of(answer: Answer) -> usize
     ensures number { result + 1 ≡ answer_number answer }
-    ensures place { result < 17 }
+    ensures place { result < 18 }
 {
     match answer {
         Answer::Made { seen: _, usable: _ } => 0,
@@ -66,5 +67,6 @@ fn place_of(answer: Answer) -> usize
         Answer::Full { entry: _ } => 14,
         Answer::Swapped { entry: _ } => 15,
         Answer::Purged { slots: _ } => 16,
+        Answer::Uncounted => 17,
     }
 }

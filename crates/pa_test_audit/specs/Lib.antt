@@ -1,1 +1,1 @@
-pub mod Sparse
+pub mod Versions

@@ -28,11 +28,15 @@ fn found_in(
 {
     let told = records_of(alloc, RULES, lines, entries)?;
     let records = told.as_slice();
-    if records.len() >= 1000 || roots.len() > 4 || !are_short(roots) || !are_within(records) {
+    if records.len() >= 1000
+        || roots.len() > 4
+        || !are_short(roots)
+        || !are_within(RULES.version, records)
+    {
         return Ok(None);
     }
     let homes = homes_of(alloc, Salt::of(records, roots), roots)?;
-    if !are_homed(&homes, roots) {
+    if !are_homed(RULES.version, &homes, roots) {
         return Ok(None);
     }
     let ends = record_ends(alloc, records, phases)?;

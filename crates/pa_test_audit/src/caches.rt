@@ -7,12 +7,12 @@ ghost use Rattle.pa_rules.specs.Roots.{journal_at};
 ghost use Rattle.pa_audit_records.specs.Keys.{name_key};
 ghost use Rattle.pa_audit_holders.specs.Homes.{AreHomedIn, HasOneHome, home_by};
 ghost use Rattle.pa_audit_holders.specs.Rows.{IsOfThreads};
-ghost use Rattle.pa_test_audit.specs.Sparse.{IsSparse, AreSparseIn};
+ghost use Rattle.pa_test_audit.specs.Versions.{IsActOf, AreActsOf};
 
-use crate::contents::RULES;
+use crate::contents::rules_of;
 use pa_audit_holders::{Books, Home, caches_meet, found_home, homes_of};
 use pa_audit_records::{ByKey, Salt};
-use pa_buckets::{Class, SPARSE_CLASSES, slot_size};
+use pa_buckets::{Class, first_class, past_class, slot_size};
 use pa_dense::{Act, DenseEntry, DenseJournal};
 use pa_record::{Answer, Batch, Journal, Numbered, RootAct, RootEntry, Seen};
 use pa_rules::Played;
@@ -23,27 +23,32 @@ use std::test::Fail;
 
 // What the checker returns: the first record that doesn't meet its demand.
 #[derive(Clone, Copy, Debug, PartialEq, Eq)]
-enum First {
+pub(crate) enum First {
     Nowhere,
     Record(u32),
     // The checker doesn't take these lists.
     Unfit,
 }
 
-fn first_of(
+pub(crate) fn first_of(
     alloc: Global,
+    version: u32,
     records: &[Played],
     roots: &[DenseJournal],
 ) -> Result<First, OutOfMemory> {
-    if records.len() >= 1000 || roots.len() > 4 || !are_short(roots) || !are_within(records) {
+    if records.len() >= 1000
+        || roots.len() > 4
+        || !are_short(roots)
+        || !are_within(version, records)
+    {
         return Ok(First::Unfit);
     }
     let salt = Salt::of(records, roots);
     let homes = homes_of(alloc, salt, roots)?;
-    if !are_homed(&homes, roots) {
+    if !are_homed(version, &homes, roots) {
         return Ok(First::Unfit);
     }
-    let books = Books::of(alloc, RULES.version, 1, records, roots, &homes)?;
+    let books = Books::of(alloc, version, 1, records, roots, &homes)?;
     let found = caches_meet(alloc, &books, 16, &[])?;
     match found.misfit {
         Some(at) => Ok(First::Record(at)),
@@ -51,26 +56,26 @@ fn first_of(
     }
 }
 
-// Whether the records are of 16 threads, four partitions and version 1.
-pub(crate) fn are_within(records: &[Played]) -> bool
-    ensures { IsTrue result → All (IsOfThreads 1) records.now }
+// Whether the records are of 16 threads, four partitions and the version.
+pub(crate) fn are_within(version: u32, records: &[Played]) -> bool
+    ensures { IsTrue result → All (IsOfThreads version) records.now }
 {
     for found in records {
-        if !is_within(*found) {
+        if !is_within(version, *found) {
             return false;
         }
     }
     true
 }
 
-fn is_within(found: Played) -> bool
-    ensures { IsTrue result → IsOfThreads 1 found }
+fn is_within(version: u32, found: Played) -> bool
+    ensures { IsTrue result → IsOfThreads version found }
 {
     match found.op {
         Op::Alloc { partition, .. } => {
-            found.thread < 16 && partition < 4 && found.rules.version == 1
+            found.thread < 16 && partition < 4 && found.rules.version == version
         }
-        _ => found.thread < 16 && found.rules.version == 1,
+        _ => found.thread < 16 && found.rules.version == version,
     }
 }
 
@@ -164,39 +169,46 @@ fn is_journal_homed(
     true
 }
 
-// Whether the class of the slots that the entry handed out is one of version 1.
-fn is_entry_sparse(partition: u32, entry: &DenseEntry) -> bool
-    ensures { IsTrue result → IsSparse partition entry.now.act }
+// Whether the class of the slots that the entry handed out is one of the version.
+fn is_entry_of(version: u32, partition: u32, entry: &DenseEntry) -> bool
+    ensures { IsTrue result → IsActOf version partition entry.now.act }
 {
     match entry.act() {
-        Act::Fill { class, .. } => class.number() < SPARSE_CLASSES,
+        Act::Fill { class, .. } => {
+            first_class(version) <= class.number() && class.number() < past_class(version)
+        }
         _ => true,
     }
 }
 
-fn is_journal_sparse(roots: &[DenseJournal], partition: u32, journal: &DenseJournal) -> bool
+fn is_journal_of(
+    version: u32,
+    roots: &[DenseJournal],
+    partition: u32,
+    journal: &DenseJournal,
+) -> bool
     requires journal { journal_at roots.now partition ≡ journal.now }
-    ensures { IsTrue result → AreSparseIn (journal_at roots.now) partition }
+    ensures { IsTrue result → AreActsOf version (journal_at roots.now) partition }
 {
     for entry in journal.entries() {
-        if !is_entry_sparse(partition, entry) {
+        if !is_entry_of(version, partition, entry) {
             return false;
         }
     }
     true
 }
 
-// Whether each slot of the journals has one home, of version 1 if it has a class.
-pub(crate) fn are_homed(homes: &ByKey<Home>, roots: &[DenseJournal]) -> bool
+// Whether each slot of the journals has one home, of the version if it has a class.
+pub(crate) fn are_homed(version: u32, homes: &ByKey<Home>, roots: &[DenseJournal]) -> bool
     requires { length roots.now < 4294967296 }
-    ensures { IsTrue result → (s : Name) → HasOneHome 1 (journal_at roots.now) s }
+    ensures { IsTrue result → (s : Name) → HasOneHome version (journal_at roots.now) s }
 {
     let mut partition: u32 = 0;
     for journal in roots {
         if !is_journal_homed(homes, roots, partition, journal) {
             return false;
         }
-        if !is_journal_sparse(roots, partition, journal) {
+        if !is_journal_of(version, roots, partition, journal) {
             return false;
         }
         partition += 1;
@@ -225,7 +237,7 @@ fn record(line: u32, op: Op, answer: Answer) -> Played {
         line,
         thread: 0,
         phase: 1,
-        rules: RULES,
+        rules: rules_of(1),
         op,
         answer,
     }
@@ -297,10 +309,15 @@ pub(crate) fn row(number: u64, second: u32) -> Batch {
     batch
 }
 
-// A slot of a fill of eight is made, freed and goes back with the others in a purge, and the next allocation fills again. The second slot
-// that goes back starts at `second`, and one more entry is on line `more`.
-fn purge_roots(alloc: Global, second: u32, more: u32) -> Result<Vec<DenseJournal>, Fail> {
-    let class = Class::of(0).ok_or("no such class")?;
+// A slot of a fill of eight of this class is made, freed and goes back with the others in a purge, and the next allocation fills again.
+// The second slot that goes back starts at `second`, and one more entry is on line `more`.
+pub(crate) fn purge_roots(
+    alloc: Global,
+    class: u32,
+    second: u32,
+    more: u32,
+) -> Result<Vec<DenseJournal>, Fail> {
+    let class = Class::of(class).ok_or("no such class")?;
     let mut entries = Vec::new(alloc);
     entries.push(fill(2, class, Some(0), row(0, 0x4010)))?;
     entries.push(give(4, row(2, second)))?;
@@ -312,7 +329,7 @@ fn purge_roots(alloc: Global, second: u32, more: u32) -> Result<Vec<DenseJournal
     Ok(roots)
 }
 
-fn purge_records(slots: u32, thread: u32, start: u32) -> [Played; 4] {
+pub(crate) fn purge_records(slots: u32, thread: u32, start: u32) -> [Played; 4] {
     let mut records = [
         record(2, alloc_of(8), made(0x4000, 0, 0)),
         record(3, FREE, done(0x4000, 0, 0x1000001)),
@@ -326,8 +343,8 @@ fn purge_records(slots: u32, thread: u32, start: u32) -> [Played; 4] {
 #[test]
 fn a_purge_gives_all_back(rt: HostRuntime) -> Result<(), Fail> {
     let alloc = rt.alloc();
-    let roots = purge_roots(alloc, 0x4010, 9)?;
-    let first = first_of(alloc, &purge_records(8, 0, 0x4000), &roots)?;
+    let roots = purge_roots(alloc, 0, 0x4010, 9)?;
+    let first = first_of(alloc, 1, &purge_records(8, 0, 0x4000), &roots)?;
     assert!(rt; first == First::Nowhere);
     Ok(())
 }
@@ -336,8 +353,8 @@ fn a_purge_gives_all_back(rt: HostRuntime) -> Result<(), Fail> {
 #[test]
 fn a_purge_of_seven(rt: HostRuntime) -> Result<(), Fail> {
     let alloc = rt.alloc();
-    let roots = purge_roots(alloc, 0x4010, 9)?;
-    let first = first_of(alloc, &purge_records(7, 0, 0x4000), &roots)?;
+    let roots = purge_roots(alloc, 0, 0x4010, 9)?;
+    let first = first_of(alloc, 1, &purge_records(7, 0, 0x4000), &roots)?;
     assert!(rt; first == First::Record(2));
     Ok(())
 }
@@ -346,11 +363,11 @@ fn a_purge_of_seven(rt: HostRuntime) -> Result<(), Fail> {
 #[test]
 fn a_purge_of_other_lists(rt: HostRuntime) -> Result<(), Fail> {
     let alloc = rt.alloc();
-    let other = purge_roots(alloc, 0x4020, 9)?;
-    let first = first_of(alloc, &purge_records(8, 0, 0x4000), &other)?;
+    let other = purge_roots(alloc, 0, 0x4020, 9)?;
+    let first = first_of(alloc, 1, &purge_records(8, 0, 0x4000), &other)?;
     assert!(rt; first == First::Record(2));
-    let roots = purge_roots(alloc, 0x4010, 9)?;
-    let first = first_of(alloc, &purge_records(8, 1, 0x4000), &roots)?;
+    let roots = purge_roots(alloc, 0, 0x4010, 9)?;
+    let first = first_of(alloc, 1, &purge_records(8, 1, 0x4000), &roots)?;
     assert!(rt; first == First::Record(2));
     Ok(())
 }
@@ -359,8 +376,8 @@ fn a_purge_of_other_lists(rt: HostRuntime) -> Result<(), Fail> {
 #[test]
 fn a_slot_that_is_not_the_front(rt: HostRuntime) -> Result<(), Fail> {
     let alloc = rt.alloc();
-    let roots = purge_roots(alloc, 0x4010, 9)?;
-    let first = first_of(alloc, &purge_records(8, 0, 0x4010), &roots)?;
+    let roots = purge_roots(alloc, 0, 0x4010, 9)?;
+    let first = first_of(alloc, 1, &purge_records(8, 0, 0x4010), &roots)?;
     assert!(rt; first == First::Record(3));
     Ok(())
 }
@@ -369,8 +386,8 @@ fn a_slot_that_is_not_the_front(rt: HostRuntime) -> Result<(), Fail> {
 #[test]
 fn an_entry_too_many(rt: HostRuntime) -> Result<(), Fail> {
     let alloc = rt.alloc();
-    let roots = purge_roots(alloc, 0x4010, 3)?;
-    let first = first_of(alloc, &purge_records(8, 0, 0x4000), &roots)?;
+    let roots = purge_roots(alloc, 0, 0x4010, 3)?;
+    let first = first_of(alloc, 1, &purge_records(8, 0, 0x4000), &roots)?;
     assert!(rt; first == First::Record(1));
     Ok(())
 }
@@ -382,9 +399,9 @@ pub(crate) fn single(number: u64) -> Batch {
     batch
 }
 
-// A slot of class 40, of which a thread keeps none, is made and freed twice. The second time it goes back on line `back`.
-fn large_roots(alloc: Global, back: u32) -> Result<Vec<DenseJournal>, Fail> {
-    let class = Class::of(40).ok_or("no such class")?;
+// A slot of this class, of which a thread keeps none, is made and freed twice. The second time it goes back on line `back`.
+pub(crate) fn large_roots(alloc: Global, class: u32, back: u32) -> Result<Vec<DenseJournal>, Fail> {
+    let class = Class::of(class).ok_or("no such class")?;
     let mut entries = Vec::new(alloc);
     entries.push(fill(2, class, Some(0), single(0)))?;
     entries.push(give(3, single(2)))?;
@@ -395,11 +412,11 @@ fn large_roots(alloc: Global, back: u32) -> Result<Vec<DenseJournal>, Fail> {
     Ok(roots)
 }
 
-fn large_records() -> [Played; 4] {
+pub(crate) fn large_records(size: u32) -> [Played; 4] {
     [
-        record(2, alloc_of(40000), made(0x4000, 0, 0)),
+        record(2, alloc_of(size), made(0x4000, 0, 0)),
         record(3, FREE, done(0x4000, 0, 0x1000001)),
-        record(4, alloc_of(40000), made(0x4000, 0, 0x2000000)),
+        record(4, alloc_of(size), made(0x4000, 0, 0x2000000)),
         record(5, FREE, done(0x4000, 0, 0x3000001)),
     ]
 }
@@ -407,8 +424,8 @@ fn large_records() -> [Played; 4] {
 #[test]
 fn a_large_slot_goes_back_at_once(rt: HostRuntime) -> Result<(), Fail> {
     let alloc = rt.alloc();
-    let roots = large_roots(alloc, 5)?;
-    let first = first_of(alloc, &large_records(), &roots)?;
+    let roots = large_roots(alloc, 40, 5)?;
+    let first = first_of(alloc, 1, &large_records(40000), &roots)?;
     assert!(rt; first == First::Nowhere);
     Ok(())
 }
@@ -417,8 +434,8 @@ fn a_large_slot_goes_back_at_once(rt: HostRuntime) -> Result<(), Fail> {
 #[test]
 fn a_large_slot_that_stays(rt: HostRuntime) -> Result<(), Fail> {
     let alloc = rt.alloc();
-    let roots = large_roots(alloc, 9)?;
-    let first = first_of(alloc, &large_records(), &roots)?;
+    let roots = large_roots(alloc, 40, 9)?;
+    let first = first_of(alloc, 1, &large_records(40000), &roots)?;
     assert!(rt; first == First::Record(3));
     Ok(())
 }

@@ -23,6 +23,15 @@ pub(crate) const RULES: Rules = Rules {
     plain_from: 4,
 };
 
+// The rules of a version in a trace of four partitions.
+pub(crate) fn rules_of(version: u32) -> Rules {
+    let plain_from = 4;
+    Rules {
+        version,
+        plain_from,
+    }
+}
+
 const POISON: u64 = 0xefef_efef_efef_efef;
 
 pub(crate) const ALLOC: Op = Op::Alloc {
@@ -241,8 +250,8 @@ fn contents_tell_poison_where_the_same_thread_frees(rt: HostRuntime) {
     assert!(rt; told == Ok(Some(2)));
 }
 
-// Thread 1 gets a raw_ptr through a cell and reads, and thread 0, which owns the object, frees it: before that a new phase may
-// begin.
+// Thread 1 gets a raw_ptr through a cell and reads, and thread 0, which owns the object, frees it:
+// before that a new phase may begin.
 fn shared_lines(before_free: Line) -> [Line; 7] {
     [
         line(0, ALLOC),

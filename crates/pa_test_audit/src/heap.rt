@@ -147,8 +147,8 @@ const MAP: Op = Op::Alloc {
 
 pub(crate) const FREE: Op = Op::Free { reg: 0 };
 
-// The worked run of direct maps in one super page: a map that is freed, one that a raw_ptr holds while another finds no room,
-// and one after that.
+// The worked run of direct maps in one super page: a map that is freed,
+// one that a raw_ptr holds while another finds no room, and one after that.
 fn map_records() -> [Played; 8] {
     let made = |born: u32| Answer::Made {
         seen: seen(0x4000, born, 0),
@@ -205,8 +205,8 @@ pub(crate) fn roots_of(
     Ok(roots)
 }
 
-// The journal of the worked run of direct maps, in which the third entry's slot starts at `start` and the last one names this entry of
-// the pool.
+// The journal of the worked run of direct maps, in which the third entry's slot starts at
+// `start` and the last one names this entry of the pool.
 fn map_roots(alloc: Global, start: u32, last: u32) -> Result<Vec<DenseJournal>, OutOfMemory> {
     let mut entries = Vec::new(alloc);
     entries.push(mapped(2, 0, name(0x4000, 0)))?;
@@ -248,8 +248,8 @@ fn with_maps(maps: u64) -> Census
     }
 }
 
-// The censuses of the worked run of direct maps, if the phases end after the lines 3, 7, 8 and 9, and one more has no op. The journal of
-// partition 1 isn't there.
+// The censuses of the worked run of direct maps, if the phases end after the lines 3, 7, 8 and 9, and one more has no op.
+// The journal of partition 1 isn't there.
 #[test]
 fn the_censuses_of_direct_maps(rt: HostRuntime) -> Result<(), Fail> {
     let alloc = rt.alloc();

@@ -23,3 +23,5 @@ mod records;
 mod report;
 #[cfg(test)]
 mod seen;
+#[cfg(test)]
+mod versions;

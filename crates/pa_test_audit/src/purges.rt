@@ -7,10 +7,15 @@ use pa_trace::Op;
 use std::alloc::Global;
 use std::test::Fail;
 
-// The worked run of a purge: eight slots of class 0 that leave the root, come back and leave it again, the first of them at
-// the number 2. The last slot that comes back starts at `back`, the last slot of the second fill at `last`.
-fn purge_roots(alloc: Global, back: u32, last: u32) -> Result<Vec<DenseJournal>, Fail> {
-    let class = Class::of(0).ok_or("no such class")?;
+// The worked run of a purge: eight slots of this class, of 16 bytes, that leave the root, come back and leave it again, the first
+// of them at the number 2. The last slot that comes back starts at `back`, the last slot of the second fill at `last`.
+pub(crate) fn purge_roots(
+    alloc: Global,
+    class: u32,
+    back: u32,
+    last: u32,
+) -> Result<Vec<DenseJournal>, Fail> {
+    let class = Class::of(class).ok_or("no such class")?;
     let mut entries = Vec::new(alloc);
     entries.push(RootEntry {
         line: 2,
@@ -55,7 +60,7 @@ fn row(number: u64, last: u32) -> Batch {
     batch
 }
 
-fn purge_records(size: u32) -> [Played; 4] {
+pub(crate) fn purge_records(size: u32) -> [Played; 4] {
     let alloc = Op::Alloc {
         reg: 0,
         partition: 0,
@@ -79,7 +84,7 @@ fn purge_records(size: u32) -> [Played; 4] {
 #[test]
 fn a_purge_meets_all(rt: HostRuntime) -> Result<(), Fail> {
     let alloc = rt.alloc();
-    let roots = purge_roots(alloc, 0x4070, 0x4070)?;
+    let roots = purge_roots(alloc, 0, 0x4070, 0x4070)?;
     let first = first_of(alloc, 1, 1, &purge_records(8), &[took(2, Some(0))], &roots)?;
     assert!(rt; first == First::Nowhere);
     Ok(())
@@ -90,10 +95,10 @@ fn a_purge_meets_all(rt: HostRuntime) -> Result<(), Fail> {
 fn slots_that_cannot_come_back(rt: HostRuntime) -> Result<(), Fail> {
     let alloc = rt.alloc();
     let pools = [took(2, Some(0))];
-    let twice = purge_roots(alloc, 0x4060, 0x4070)?;
+    let twice = purge_roots(alloc, 0, 0x4060, 0x4070)?;
     let first = first_of(alloc, 1, 1, &purge_records(8), &pools, &twice)?;
     assert!(rt; first == First::Root(0, 1));
-    let not_out = purge_roots(alloc, 0x4080, 0x4070)?;
+    let not_out = purge_roots(alloc, 0, 0x4080, 0x4070)?;
     let first = first_of(alloc, 1, 1, &purge_records(8), &pools, &not_out)?;
     assert!(rt; first == First::Root(0, 1));
     Ok(())
@@ -103,7 +108,7 @@ fn slots_that_cannot_come_back(rt: HostRuntime) -> Result<(), Fail> {
 #[test]
 fn a_fill_of_another_slot(rt: HostRuntime) -> Result<(), Fail> {
     let alloc = rt.alloc();
-    let roots = purge_roots(alloc, 0x4070, 0x4080)?;
+    let roots = purge_roots(alloc, 0, 0x4070, 0x4080)?;
     let first = first_of(alloc, 1, 1, &purge_records(8), &[took(2, Some(0))], &roots)?;
     assert!(rt; first == First::Root(0, 3));
     Ok(())
@@ -113,7 +118,7 @@ fn a_fill_of_another_slot(rt: HostRuntime) -> Result<(), Fail> {
 #[test]
 fn a_fill_of_another_class(rt: HostRuntime) -> Result<(), Fail> {
     let alloc = rt.alloc();
-    let roots = purge_roots(alloc, 0x4070, 0x4070)?;
+    let roots = purge_roots(alloc, 0, 0x4070, 0x4070)?;
     let first = first_of(alloc, 1, 1, &purge_records(9), &[took(2, Some(0))], &roots)?;
     assert!(rt; first == First::Root(0, 0));
     Ok(())
@@ -123,7 +128,7 @@ fn a_fill_of_another_class(rt: HostRuntime) -> Result<(), Fail> {
 #[test]
 fn a_partition_too_many(rt: HostRuntime) -> Result<(), Fail> {
     let alloc = rt.alloc();
-    let roots = purge_roots(alloc, 0x4070, 0x4070)?;
+    let roots = purge_roots(alloc, 0, 0x4070, 0x4070)?;
     let first = first_of(alloc, 1, 0, &purge_records(8), &[took(2, Some(0))], &roots)?;
     assert!(rt; first == First::Root(0, 0));
     Ok(())

@@ -2,7 +2,7 @@ ghost use Rattle.std.specs.Prelude.{◌≡◌, ◌↔◌, ◌<◌, ◌-◌, ◌^
 ghost use Rattle.std.specs.Bool.{OnTrue};
 ghost use Rattle.pa_audit_records.specs.Rows.{NamesRegisters, IsPlayedWithin};
 
-use crate::contents::RULES;
+use crate::contents::{RULES, rules_of};
 use pa_audit_records::{
     Salt, exchanges_meet, lines_meet, records_of, registers_meet, slots_meet, swaps_meet,
 };
@@ -89,24 +89,20 @@ fn all_within(records: &[Played]) -> bool
     true
 }
 
-// The first record whose answer its registers don't require.
-fn registers_of(
+// The first record whose answer its registers don't require by the rules of the version.
+pub(crate) fn registers_of(
     alloc: Global,
+    version: u32,
     lines: &[Line],
     entries: &[Entry],
     cells: &[History],
 ) -> Result<Option<u32>, OutOfMemory>
     requires { length lines.now < 2 ^ 32 - 2 }
 {
-    let records = records_of(alloc, RULES, lines, entries)?;
+    let records = records_of(alloc, rules_of(version), lines, entries)?;
     if all_within(&records) {
-        registers_meet(
-            alloc,
-            Salt::of(&records, &[]),
-            RULES.version,
-            &records,
-            cells,
-        )
+        let salt = Salt::of(&records, &[]);
+        registers_meet(alloc, salt, version, &records, cells)
     } else {
         Ok(Some(u32::MAX))
     }
@@ -165,7 +161,7 @@ fn a_worked_run_meets_all(rt: HostRuntime) {
     let lines = purge_lines();
     let entries = purge_entries();
     assert!(rt; lines_meet(&lines, &entries) == None);
-    assert!(rt; registers_of(rt.alloc(), &lines, &entries, &[]) == Ok(None));
+    assert!(rt; registers_of(rt.alloc(), 1, &lines, &entries, &[]) == Ok(None));
     assert!(rt; slots_of(rt.alloc(), &lines, &entries) == Ok(None));
 }
 
@@ -186,7 +182,7 @@ fn registers_tell_a_free_of_nothing(rt: HostRuntime) {
     let mut lines = purge_lines();
     lines[1] = first(Op::Free { reg: 7 });
     let entries = purge_entries();
-    assert!(rt; registers_of(rt.alloc(), &lines, &entries, &[]) == Ok(Some(1)));
+    assert!(rt; registers_of(rt.alloc(), 1, &lines, &entries, &[]) == Ok(Some(1)));
 }
 
 #[test]
@@ -230,7 +226,7 @@ fn registers_tell_a_read_past_the_first_usable_number(rt: HostRuntime) {
             },
         ),
     ];
-    assert!(rt; registers_of(rt.alloc(), &lines, &entries, &[]) == Ok(Some(1)));
+    assert!(rt; registers_of(rt.alloc(), 1, &lines, &entries, &[]) == Ok(Some(1)));
 }
 
 #[test]
@@ -365,7 +361,7 @@ fn a_hand_over_meets_all(rt: HostRuntime) -> Result<(), Fail> {
     assert!(rt; lines_meet(&lines, &entries) == None);
     assert!(rt; swaps_of(rt.alloc(), &lines, &entries, &exchanges) == Ok(None));
     assert!(rt; exchanges_of(rt.alloc(), &lines, &entries, &exchanges) == Ok(None));
-    assert!(rt; registers_of(rt.alloc(), &lines, &entries, &cells) == Ok(None));
+    assert!(rt; registers_of(rt.alloc(), 1, &lines, &entries, &cells) == Ok(None));
     assert!(rt; slots_of(rt.alloc(), &lines, &entries) == Ok(None));
     Ok(())
 }

@@ -25,6 +25,13 @@ fn count(actor: u32, step: Step) -> Event {
     }
 }
 
+fn seal(actor: u32) -> Event {
+    Event::Sealed {
+        actor,
+        title: TITLE,
+    }
+}
+
 fn cut(actor: u32, title: Title) -> Event {
     Event::Cut { actor, title }
 }
@@ -55,8 +62,8 @@ fn uncut(actor: u32) -> Event {
     }
 }
 
-// What a core of 64 bytes shows: what some events returned and the words after them, and what one event more returned and the words after
-// it.
+// What a core of 64 bytes shows: what some events returned and the words after them,
+// and what one event more returned and the words after it.
 #[derive(Clone, Copy, PartialEq, Eq)]
 struct Shown {
     first: Result<(), (u32, StepFault)>,
@@ -151,6 +158,36 @@ fn refuses_counted_steps(rt: HostRuntime) -> Result<(), Fail> {
             count(0, Step::Write),
             count(0, Step::Reset),
         ),
+    ];
+    for (lead, refused, next) in rows {
+        assert!(rt;
+            is_refused(rt.alloc(), lead, refused, next)?,
+            "{refused:?} after {lead:?}"
+        );
+    }
+    Ok(())
+}
+
+#[test]
+fn refuses_copies_of_sealed_owns(rt: HostRuntime) -> Result<(), Fail> {
+    let sealed = [cut(0, TITLE), seal(0)];
+    let rows: [(&[Event], Event, Event); 8] = [
+        (&sealed, count(0, Step::Copy), count(0, Step::Write)),
+        (
+            &[cut(0, TITLE), seal(0), hand(0, 1, Item::Own(TITLE))],
+            count(1, Step::Copy),
+            hand(1, 0, Item::Own(TITLE)),
+        ),
+        (
+            &[cut(0, TITLE), seal(0), count(0, Step::Write)],
+            count(0, Step::Copy),
+            store(0, 0, 7),
+        ),
+        (&sealed, seal(0), poison(0)),
+        (&sealed, count(0, Step::Issue), poison(0)),
+        (&[], seal(0), cut(0, TITLE)),
+        (&[cut(0, TITLE), store(0, 0, 5)], seal(0), store(0, 0, 0)),
+        (&[cut(0, TITLE)], seal(1), seal(0)),
     ];
     for (lead, refused, next) in rows {
         assert!(rt;
@@ -273,5 +310,32 @@ fn last_reset_returns(rt: HostRuntime) -> Result<(), Fail> {
     assert!(rt; core.word(16) == 0x0500_0000);
     assert!(rt; core.step(&uncut(1)) == Err(StepFault::NotEnabled));
     assert!(rt; core.step(&uncut(2)) == Ok(()));
+    Ok(())
+}
+
+#[test]
+fn sealed_free_returns(rt: HostRuntime) -> Result<(), Fail> {
+    let mut core = Core::new(rt.alloc(), 64, 1)?;
+    let freed = [
+        cut(0, TITLE),
+        seal(0),
+        store(0, 0, 7),
+        store(0, 8, 7),
+        count(0, Step::Write),
+        poison(0),
+        poison(0),
+        count(0, Step::Free),
+    ];
+    assert!(rt; core_run(&mut core, &freed) == Ok(()));
+    assert!(rt; words(&core) == [POISON, POISON, 0x0300_0000, 0, 0, 0, 0, 0]);
+    // The next Own of the title isn't sealed.
+    let copied = [
+        store(0, 0, 0),
+        store(0, 8, 0),
+        count(0, Step::Issue),
+        count(0, Step::Copy),
+    ];
+    assert!(rt; core_run(&mut core, &copied) == Ok(()));
+    assert!(rt; core.word(16) == 0x0500_0003);
     Ok(())
 }

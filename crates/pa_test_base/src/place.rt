@@ -90,8 +90,8 @@ fn give(rt: &impl Abort, placement: &mut Placement, steps: u32, start: u32) -> R
     Ok(())
 }
 
-// Whether this entry of the pool was made, and a direct map of 2,002,944 bytes at the start of the region, or none if there is
-// no room.
+// Whether this entry of the pool was made, and a direct map of 2,002,944 bytes at
+// the start of the region, or none if there is no room.
 fn is_mapped(placed: &Placed, entry: u32, room: bool) -> bool {
     let title = Title {
         start: 16384,

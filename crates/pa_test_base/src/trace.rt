@@ -281,8 +281,8 @@ fn fault_at(n: u32, limit: bool) -> TraceFault {
     }
 }
 
-// Whether a faulty line is the one that is named, as line 2, as line 13, and before another faulty line, and whether that other line is
-// named if it comes first.
+// Whether a faulty line is the one that is named, as line 2, as line 13, and before another faulty line,
+// and whether that other line is named if it comes first.
 fn is_named(
     alloc: Global,
     line: &str,

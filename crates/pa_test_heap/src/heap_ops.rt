@@ -77,8 +77,8 @@ fn hand_over(region: &Region, seat: &mut Seat) -> Note
     region.hand(seat, &[], LINES, &[Mark::Stake(0)])
 }
 
-// A slot is made, written, pointed to, freed, read through the `raw_ptr` and let go. The handle of an empty register goes to a
-// cell.
+// A slot is made, written, pointed to, freed, read through the `raw_ptr` and let go.
+// The handle of an empty register goes to a cell.
 fn play<N: Name, R: Abort + Wait>(
     rt: &R,
     alloc: Global,

@@ -45,8 +45,8 @@ s 3 0 live 2 32 quarantined 0 0 cached 6 96 root 248 3968 committed 4096 reserve
 end
 ";
 
-// Thread 0 frees an object to which thread 1 has a raw_ptr, and thread 1 reads through it on line 8 in the same phase, and once more a
-// phase later.
+// Thread 0 frees an object to which thread 1 has a raw_ptr, and thread 1 reads through it
+// on line 8 in the same phase, and once more a phase later.
 const MEETING: &[u8] = b"trace 1 region 1 partitions 1 threads 2
 0 A r0 p0 8
 0 C r0 r1
@@ -82,8 +82,8 @@ s 3 0 live 0 0 quarantined 0 0 cached 8 128 root 248 3968 committed 4096 reserve
 end
 ";
 
-// Traces of version 2, each with what `replay` writes: a class of eight to a doubling, the greatest class, the least direct map, and a
-// region of 64 super pages.
+// Traces of version 2, each with what `replay` writes: a class of eight to a doubling, the greatest class, the least direct map,
+// and a region of 64 super pages.
 const DENSE: [(&[u8], &[u8]); 4] = [
     (
         b"trace 2 region 1 partitions 1 threads 1

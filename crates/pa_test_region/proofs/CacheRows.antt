@@ -17,7 +17,8 @@ pub limit_of-0 : limit_of 0 ≡ 64
 limit_of-0 = limit_of-first 0 (omega arith)
 
 -- an empty cache
-pub row_none : (v : View) (c : CacheParts) → IsRowOf 0 65 v → HoldsList v c → list_in v c ≡ record { class = 0; titles = [] } → IsRowCached 0 v c
+pub row_none : (v : View) (c : CacheParts) → IsRowOf 0 65 v → HoldsList v c →
+    list_in v c ≡ record { class = 0; titles = [] } → IsRowCached 0 v c
 row_none v c row has e = record {
   row = row;
   has = has;

@@ -1,6 +1,6 @@
 -- The slot of the tests is made: what the seat has then.
 use Rattle.std.proofs.Common.{false, ◌≡◌, true, ℕ, ◌<◌, List, [], ◌∷◌, refl, sym, ap, subst, lit<, arith}
-use Rattle.std.specs.Prelude.{Contains, ◌&&◌}
+use Rattle.std.specs.Prelude.{Contains, not, ◌&&◌}
 use Rattle.std.specs.List.{sum_by}
 use Rattle.std.proofs.lemmas.List.Elements.{Contains-push}
 use Rattle.pa_slot.specs.declared.title.Title.{Title}
@@ -15,7 +15,7 @@ use Rattle.pa_region.specs.declared.view.Made.{Made}
 use Rattle.pa_region.specs.declared.marks.Mark.TheVariants as mark
 use Rattle.pa_region.specs.declared.view.Entry.TheVariants.{Entered, Counted}
 use Rattle.pa_region.specs.declared.view.View.{View}
-use Rattle.pa_region.specs.Views.{own_as, ref_of, HasStake}
+use Rattle.pa_region.specs.Views.{sealed_of, own_as, unsealed_as, ref_of, HasStake}
 use Rattle.pa_region.specs.Waiting.{is_unclean, unclean_of}
 use Rattle.pa_region.specs.Hands.{left_after, given_after}
 use Rattle.pa_region.specs.Marks.{parcel_of}
@@ -38,7 +38,8 @@ abbrev pub issued_view : View → List ℕ → ℕ → View
 issued_view v ns word = after_count Issue test_slot word (entered_view v ns)
 
 -- each step leaves the stake
-pub issued_stake : EntryLeaves → (v : View) (ns : List ℕ) (word : ℕ) → HasStake v → HasStake (entered_view v ns) × HasStake (issued_view v ns word)
+pub issued_stake : EntryLeaves → (v : View) (ns : List ℕ) (word : ℕ) → HasStake v →
+    HasStake (entered_view v ns) × HasStake (issued_view v ns word)
 issued_stake leaves v ns word has =
     let cut = after_cut test_slot v in
     let one = (leaves (Entered 0 (new_entry ns cut)) cut (entered_view v ns) has refl).least in
@@ -52,9 +53,10 @@ issued_stake leaves v ns word has =
 pub copy_can : EntryLeaves → (v : View) (ns : List ℕ) (word : ℕ) → IsFresh v → CanCount Copy test_slot (issued_view v ns word)
 copy_can leaves v ns word fresh =
     let budget = fresh.budget in
-    let own : own_as (issued_view v ns word) test_slot Clean ≡ 1 =
-    ap (λ (os : List OwnTitle). sum_by (λ (o : OwnTitle). one (same_title o.title test_slot && same_state o.state Clean))
-    (record { title = test_slot; state = Clean; idle = true } ∷ os)) fresh.owns in (
+    let own : unsealed_as (issued_view v ns word) test_slot Clean ≡ 1 =
+    ap (λ (os : List OwnTitle). sum_by
+    (λ (o : OwnTitle). one ((same_title o.title test_slot && same_state o.state Clean) && not o.sealed))
+    (record { title = test_slot; state = Clean; idle = true; sealed = false } ∷ os)) fresh.owns in (
       omega arith,
       (issued_stake leaves v ns word fresh.stake).1,
       omega arith,
@@ -72,7 +74,8 @@ slot_made leaves lists v ns word found fresh is =
     let stays = stakes.1 in
     let list = (lists 0 ns cut (fresh.keeper, fresh.stake)).list in
     record {
-      owns = ap (λ (os : List OwnTitle). changed (is_own_of test_slot) busy (record { title = test_slot; state = Clean; idle = true } ∷ os)) fresh.owns;
+      owns = ap (λ (os : List OwnTitle). changed (is_own_of test_slot) busy
+          (record { title = test_slot; state = Clean; idle = true; sealed = false } ∷ os)) fresh.owns;
       refs = ap (λ (ts : List Title). test_slot ∷ ts) fresh.refs;
       stake = omega arith;
       made = record {
@@ -87,14 +90,30 @@ slot_made leaves lists v ns word found fresh is =
       };
     }
 
+-- the Own isn't sealed, nor is one when it was handed over
+pub none_sealed : (v : View) → HasTestSlot v → sealed_of v test_slot ≡ 0
+none_sealed v has =
+    ap (λ (os : List OwnTitle). sum_by (λ (o : OwnTitle). one (same_title o.title test_slot && o.sealed)) os) has.owns
+
+pub left_unsealed : GiversLackHandles → (v : View) → HasTestSlot v →
+    sealed_of (left_after (parcel_of (item.Own test_slot ∷ []) 0 []) v) test_slot ≡ 0
+left_unsealed lacks v has =
+    let own : 0 < own_as v test_slot Clean = (let e = ap (λ (os : List OwnTitle). sum_by
+    (λ (o : OwnTitle). one (same_title o.title test_slot && same_state o.state Clean)) os) has.owns in omega arith) in
+    let seals = (lacks true test_slot 0 v own).sealed test_slot in
+    let none = none_sealed v has in
+    omega arith
+
 -- after both were handed over the seat can lend its stake
-pub both_left : GiversLackHandles → (v : View) → HasTestSlot v → CanLend (left_after (parcel_of (item.Ref test_slot ∷ []) 0 []) (left_after (parcel_of (item.Own test_slot ∷ []) 0 []) v))
+pub both_left : GiversLackHandles → (v : View) → HasTestSlot v →
+    CanLend (left_after (parcel_of (item.Ref test_slot ∷ []) 0 []) (left_after (parcel_of (item.Own test_slot ∷ []) 0 []) v))
 both_left lacks v has =
     let own : 0 < own_as v test_slot Clean = (let e = ap (λ (os : List OwnTitle). sum_by
     (λ (o : OwnTitle). one (same_title o.title test_slot && same_state o.state Clean)) os) has.owns in omega arith) in
     let clean : unclean_of v ≡ 0 = ap (λ (os : List OwnTitle). sum_by (λ (o : OwnTitle). one (is_unclean o.state)) os) has.owns in
     let first = lacks true test_slot 0 v own in
-    let other : 0 < ref_of v test_slot = (let e = ap (λ (ts : List Title). sum_by (λ (t : Title). one (same_title t test_slot)) ts) has.refs in omega arith) in
+    let other : 0 < ref_of v test_slot =
+    (let e = ap (λ (ts : List Title). sum_by (λ (t : Title). one (same_title t test_slot)) ts) has.refs in omega arith) in
     (lacks false test_slot 0 (left_after (parcel_of (item.Own test_slot ∷ []) 0 []) v) other).lends (first.lends (has.stake, clean))
 
 -- a new region's first view after it handed over keeper 5 and stake 1
@@ -115,5 +134,6 @@ first_fresh cuts zeros =
       budget = refl;
     }
 
-pub second_lends : CanLend (given_after (parcel_of [] 0 (mark.Stake 1 ∷ [])) (left_after (parcel_of [] 0 (mark.Keeper 5 ∷ [])) (first_view 262144 16)))
+pub second_lends : CanLend
+    (given_after (parcel_of [] 0 (mark.Stake 1 ∷ [])) (left_after (parcel_of [] 0 (mark.Keeper 5 ∷ [])) (first_view 262144 16)))
 second_lends = (omega arith, refl)

@@ -105,7 +105,8 @@ pub row_pushed : (born n from link : ℕ) (v w : View) (c d : ChainParts) → Is
 row_pushed born n from link v w c d row e push len size = record {
   row =
       let f = row.few in
-      row_relinked born n v w (subst (Relinked v) (sym e) (relinked_once (chain_slot born from) link v (row.row.free from (omega arith)))) row.row;
+      row_relinked born n v w
+      (subst (Relinked v) (sym e) (relinked_once (chain_slot born from) link v (row.row.free from (omega arith)))) row.row;
   size = size ∙ row.size;
   few = let f = row.few in omega arith;
   titles = chain_slot born from ∷ row.titles;

@@ -18,7 +18,10 @@ use Rattle.pa_pool.proofs.Gave.{seen_stays}
 
 -- who is as before has seen what it had seen
 pub begins_same : (a b : Share) → b ≡ a → IsBeginning (list_of 4 a.view) (list_of 4 b.view)
-begins_same a b same = ([], subst (λ (s : Share). list_of 4 s.view ≡ list_of 4 a.view ++ []) (sym same) (sym (append-nil (list_of 4 a.view))))
+begins_same a b same = (
+  [],
+  subst (λ (s : Share). list_of 4 s.view ≡ list_of 4 a.view ++ []) (sym same) (sym (append-nil (list_of 4 a.view))),
+)
 
 -- the note of a take can come back at once
 pub comes_back : (partition first count index : ℕ) (seat note : View) (p : PoolValue) → HasSeenTake partition index first count seat
@@ -36,14 +39,16 @@ comes_back partition first count index seat note p seen is = record {
 }
 
 -- what holds of a result that is Ok holds of its value
-pub some_of : {A B : Type 0} (r : Result A B) (o : Option A) (P Q R : A → Type 0) → o ≡ result_ok r → IfOk r P → IfOk r Q → ((x : A) → P x → Q x → R x) → IfSome o R
+pub some_of : {A B : Type 0} (r : Result A B) (o : Option A) (P Q R : A → Type 0) → o ≡ result_ok r → IfOk r P → IfOk r Q →
+    ((x : A) → P x → Q x → R x) → IfSome o R
 some_of (Ok x) o P Q R e p q f = subst (λ y. IfSome y R) (sym e) (f x p q)
 some_of (Err y) o P Q R e p q f = subst (λ z. IfSome z R) (sym e) tt
 
 -- what can come back can come back later
 pub stays_back : (partition taken first count : ℕ) (v w note : View) → IsBeginning (list_of 4 v) (list_of 4 w)
     → ComesBack partition taken first count v note → ComesBack partition taken first count w note
-stays_back partition taken first count v w note begins back = record { seen = seen_stays partition taken first count v w begins back.seen; run = back.run }
+stays_back partition taken first count v w note begins back =
+    record { seen = seen_stays partition taken first count v w begins back.seen; run = back.run }
 
 -- all that a pool's seat doesn't have
 abbrev pub others : List Mark
@@ -54,4 +59,5 @@ others =
 
 -- a view that gets it can lend a stake
 pub others_lend : (v w z : View) → v ≡ w → w ≡ given_after (parcel_of [] 0 others) z → z ≡ first_view 1048576 0 → CanLend v
-others_lend v w z e f g = subst (λ (x : View). CanLend x) (sym (e ∙ (f ∙ ap (λ (x : View). given_after (parcel_of [] 0 others) x) g))) (omega arith, omega arith)
+others_lend v w z e f g =
+    subst (λ (x : View). CanLend x) (sym (e ∙ (f ∙ ap (λ (x : View). given_after (parcel_of [] 0 others) x) g))) (omega arith, omega arith)

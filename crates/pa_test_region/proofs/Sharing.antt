@@ -30,9 +30,11 @@ use Rattle.pa_test_region.specs.Sharing.{Stays, StaysUser, GaveRef, AreTogether}
 use Rattle.pa_region.proofs.SeatStakes.{least_below}
 
 -- after a free, and after a reset
-pub freed_stays : EntryLeaves → (t : Title) (word : ℕ) (v w : View) → HasStake v → w ≡ after_count Free t word (poisoned t v) → unclean_of v ≡ 0 → Stays v w
+pub freed_stays : EntryLeaves → (t : Title) (word : ℕ) (v w : View) → HasStake v →
+    w ≡ after_count Free t word (poisoned t v) → unclean_of v ≡ 0 → Stays v w
 freed_stays law t word v w has e clean =
-    let a : unclean_of w ≡ sum_by (λ (o : OwnTitle). one (is_unclean o.state)) (without (is_own_of t) (changed (is_own_of t) (poisoned_to (content_count t)) v.owns)) = ap unclean_of e in
+    let a : unclean_of w ≡ sum_by (λ (o : OwnTitle). one (is_unclean o.state))
+    (without (is_own_of t) (changed (is_own_of t) (poisoned_to (content_count t)) v.owns)) = ap unclean_of e in
     let b : sum_by (λ (o : OwnTitle). one (is_unclean o.state))
     (without (is_own_of t) (changed (is_own_of t) (poisoned_to (content_count t)) v.owns)) ≡ sum_by
     (λ (o : OwnTitle). one (is_unclean o.state)) (without (is_own_of t) v.owns) = ap
@@ -44,7 +46,8 @@ freed_stays law t word v w has e clean =
       clean = omega arith;
     }
 
-pub released_stays : EntryLeaves → (t : Title) (word : ℕ) (v w : View) → HasStake v → w ≡ after_count Reset t word v → unclean_of v ≡ 0 → Stays v w
+pub released_stays : EntryLeaves → (t : Title) (word : ℕ) (v w : View) → HasStake v →
+    w ≡ after_count Reset t word v → unclean_of v ≡ 0 → Stays v w
 released_stays law t word v w has e clean = record {
   stakes = (law (Counted t Reset word (value_of Reset t v)) v w has (ap (λ (x : View). x.stakes) e)).stakes;
   clean = ap unclean_of e ∙ clean;
@@ -56,14 +59,16 @@ pub read_stays : EntryLeaves → OwnsChange → (t : Title) (word place value : 
 read_stays law change t word place value v w has e =
     let looked = law (Looked t word) v (after_look t word v) has refl in
     let l = looked.least in
-    let done = law (Read t place value (after_look t word v).since (has_own (after_look t word v) t) (has_unclean (after_look t word v) t)) (after_look t word v) w (omega arith)
+    let done = law (Read t place value (after_look t word v).since (has_own (after_look t word v) t) (has_unclean (after_look t word v) t))
+    (after_look t word v) w (omega arith)
     (ap (λ (x : View). x.stakes) e) in
     record {
       refs = ap (λ (x : View). ref_of x t) e;
       budget = ap (λ (x : View). x.budget) e;
       stakes = λ k. done.stakes k ∙ looked.stakes k;
       least = done.least ∙ looked.least;
-      clean = ap unclean_of e ∙ change.1 t (idle_if word) (λ (o : OwnTitle). one (is_unclean o.state)) v.owns (λ o. same o (eqb (refs_of word) 0));
+      clean = ap unclean_of e ∙ change.1 t (idle_if word) (λ (o : OwnTitle). one (is_unclean o.state)) v.owns
+          (λ o. same o (eqb (refs_of word) 0));
     }
   where
     same : (o : OwnTitle) (b : Bool) → one (is_unclean (cond b (record o { idle = true }) o).state) ≡ one (is_unclean o.state)
@@ -86,7 +91,8 @@ marks_is t stake k = go (eqb stake k)
     go false = refl
 
 given_stake : (test : ℕ → Bool) (k : ℕ) → test k ≡ true → (ss : List Stake) →
-    sum_by (λ (s : Stake). one (eqb s.number k)) (filter (λ (s : Stake). test s.number) ss) ≡ sum_by (λ (s : Stake). one (eqb s.number k)) ss
+    sum_by (λ (s : Stake). one (eqb s.number k)) (filter (λ (s : Stake). test s.number) ss) ≡
+    sum_by (λ (s : Stake). one (eqb s.number k)) ss
 given_stake test k passes [] = refl
 given_stake test k passes (s ∷ ss) =
     let again = given_stake test k passes ss in
@@ -134,16 +140,19 @@ ref_out t (u ∷ us) has = go (same_title u t) refl (λ more. ref_out t us more)
         let less = again (omega arith) in omega arith
 
 -- a view that gets them can let go of the Ref
-pub given_can : (t : Title) (stake : ℕ) (v w : View) → w ≡ given_after (one_ref t stake) v → stake < 16 → 0 < stake_of v stake → CanCount Reset t w
+pub given_can : (t : Title) (stake : ℕ) (v w : View) → w ≡ given_after (one_ref t stake) v → stake < 16 →
+    0 < stake_of v stake → CanCount Reset t w
 given_can t stake v w e few has =
     let a : stake_of w stake ≡ stake_of v stake = ap (λ (x : View). stake_of x stake) e
-    ∙ given_stake (one_ref t stake).stakes stake (marks_is t stake stake ∙ elim (eqb_tells stake stake) [ inl y ↦ y.0 | inr n ↦ absurd (n.1 refl) ]) v.stakes in
+    ∙ given_stake (one_ref t stake).stakes stake
+    (marks_is t stake stake ∙ elim (eqb_tells stake stake) [ inl y ↦ y.0 | inr n ↦ absurd (n.1 refl) ]) v.stakes in
     let r : ref_of w t ≡ 0 + one (same_title t t) = ap (λ (x : View). ref_of x t) e in
     let s : one (same_title t t) ≡ 1 = ap one (title_self t) in
     let b : w.budget ≡ 1 = ap (λ (x : View). x.budget) e in
     (omega arith, has_stake w stake few (omega arith), omega arith, tt)
 
-pub gave_ref : (t : Title) (stake : ℕ) (v l w : View) → l ≡ left_after (one_ref t stake) v → w ≡ given_after (one_ref t stake) v → IsParted v l w →
+pub gave_ref : (t : Title) (stake : ℕ) (v l w : View) → l ≡ left_after (one_ref t stake) v →
+    w ≡ given_after (one_ref t stake) v → IsParted v l w →
     0 < ref_of v t → 0 < v.budget → GaveRef t stake v l w
 gave_ref t stake v l w e f parted refs budget =
     let left : l.budget ≡ v.budget - 1 = ap (λ (x : View). x.budget) e in
@@ -154,7 +163,8 @@ gave_ref t stake v l w e f parted refs budget =
       stakes = parted.stakes;
       others = λ k ne.
           let none : stake_of w k ≡ 0 = ap (λ (x : View). stake_of x k) f
-          ∙ other_stake (one_ref t stake).stakes k (marks_is t stake k ∙ elim (eqb_tells stake k) [ inl y ↦ absurd (ne (sym y.1)) | inr n ↦ n.0 ]) v.stakes in
+          ∙ other_stake (one_ref t stake).stakes k
+          (marks_is t stake k ∙ elim (eqb_tells stake k) [ inl y ↦ absurd (ne (sym y.1)) | inr n ↦ n.0 ]) v.stakes in
           let p = parted.stakes k in omega arith;
     }
 

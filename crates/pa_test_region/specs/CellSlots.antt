@@ -37,9 +37,9 @@ pub record IsFresh (v : View) : Type 0 where
   pub stake : HasStake v
   pub budget : v.budget ≡ 16
 
--- a seat that made the slot: it has the Own and one Ref, and a stake, and has seen how the slot was made
+-- a seat that made the slot: it has the Own, which isn't sealed, and one Ref, and a stake, and has seen how the slot was made
 pub record HasTestSlot (v : View) : Type 0 where
-  pub owns : v.owns ≡ record { title = test_slot; state = Clean; idle = false } ∷ []
+  pub owns : v.owns ≡ record { title = test_slot; state = Clean; idle = false; sealed = false } ∷ []
   pub refs : v.refs ≡ test_slot ∷ []
   pub stake : HasStake v
   pub made : HasSeenMade test_handle v

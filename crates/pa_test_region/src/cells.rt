@@ -1,7 +1,7 @@
 //! Handles go into cells and come out, on one thread and on two.
 ghost use Rattle.std.specs.Prelude.{◌≡◌, ◌<◌, IfSome, IfOk, ℕ, true, false, [], ◌∷◌};
 ghost use Rattle.pa_trace.specs.Limits.{cell_count};
-ghost use Rattle.pa_region.specs.Views.{stake_of};
+ghost use Rattle.pa_region.specs.Views.{sealed_of, stake_of};
 ghost use Rattle.pa_region.specs.Lists.{keeper_of, list_of};
 ghost use Rattle.pa_region.specs.Hands.{HoldsGiven, left_after};
 ghost use Rattle.pa_region.specs.Marks.{parcel_of};
@@ -95,6 +95,7 @@ fn park(region: &Region, seat: &mut Seat, own: bool) -> Parked
     requires region { seat.old.region ≡ region.now }
     requires holds { HoldsGiven (handle_item own test_slot) seat.old.view }
     requires made { HasSeenMade test_handle seat.old.view }
+    requires sealed { sealed_of seat.old.view test_slot ≡ 0 }
     ensures regions { (seat.new.region ≡ region.now) × (result.note.region ≡ region.now) }
     ensures left { seat.new.view ≡ left_after (parcel_of (handle_item own test_slot ∷ []) 0 []) seat.old.view }
     ensures handle { (result.handle ≡ test_handle) × (result.own ≡ own) }

@@ -271,8 +271,8 @@ fn slot_with_one_ref(alloc: Global) -> Result<(Region, Seat), OutOfMemory>
     Ok((region, owner))
 }
 
-// One round: whether all that was read is what it may be, how many answers were `Last`, and at the end the first content
-// word and the count word.
+// One round: whether all that was read is what it may be, how many answers were `Last`,
+// and at the end the first content word and the count word.
 fn one_round<R: Threads + Sync>(
     rt: &R,
     alloc: Global,

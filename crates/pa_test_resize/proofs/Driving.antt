@@ -18,14 +18,16 @@ pub record IsDrivenTo (t : Trace) (i : ℕ) (p : Player) : Type 0 where
 pub driven_none : (t : Trace) (p : Player) → IsNew (head_of_trace t) p → IsDrivenTo t 0 p
 driven_none t p new = record { going = new.going; head = new.head; lines = new.lines }
 
-module _ (t : Trace) (i : ℕ) (p : Player) (line d : Line) (within : IsWithinLimits t) (lt : i < length t.lines) (is : line ≡ get_or t.lines i d) (h : IsDrivenTo t i p) where
+module _ (t : Trace) (i : ℕ) (p : Player) (line d : Line) (within : IsWithinLimits t) (lt : i < length t.lines)
+    (is : line ≡ get_or t.lines i d) (h : IsDrivenTo t i p) where
   pub driven_few : length p.lines.items < 65535
   driven_few = let few = within.few in omega (arith, ap length h.lines, length-take i t.lines, few, lt)
 
   pub driven_within : IsLineWithin p.lines.head.partitions p.lines.head.threads line
   driven_within =
       let one : IsLineWithin t.partitions t.threads line = subst (IsLineWithin t.partitions t.threads) (sym is)
-      (All-get_or (IsLineWithin t.partitions t.threads) t.lines i d lt (All-from_recursion (IsLineWithin t.partitions t.threads) t.lines within.lines)) in
+      (All-get_or (IsLineWithin t.partitions t.threads) t.lines i d lt
+      (All-from_recursion (IsLineWithin t.partitions t.threads) t.lines within.lines)) in
       subst (λ k. IsLineWithin k.partitions k.threads line) (sym h.head) one
 
   pub driven_more : (q : Player) → IsDriven p line q → IsDrivenTo t (i + 1) q

@@ -33,7 +33,10 @@ use Rattle.pa_root.proofs.Entered.{for_made}
 -- a view that keeps what it has still has these titles alone
 only_kept : (v x : View) (titles : List Title) → Keeps v x → HasOnly titles v → HasOnly titles x
 only_kept v x titles keeps has = record {
-  frees = λ t. ((λ free. (has.frees t).0 (subst (λ n. 0 < n) (free_kept v x t keeps) free)), (λ among. subst (λ n. 0 < n) (sym (free_kept v x t keeps)) ((has.frees t).1 among)));
+  frees = λ t. (
+    (λ free. (has.frees t).0 (subst (λ n. 0 < n) (free_kept v x t keeps) free)),
+    (λ among. subst (λ n. 0 < n) (sym (free_kept v x t keeps)) ((has.frees t).1 among)),
+  );
   handles = λ t. handles_kept v x t keeps ∙ has.handles t;
   raws = λ b. keeps.things (RawByte b) ∙ has.raws b;
   budget = keeps.budget ∙ has.budget;
@@ -43,7 +46,8 @@ only_kept v x titles keeps has = record {
 }
 
 -- who was shown a list has seen the entry that was made there
-entry_seen : (j r k : ℕ) (numbers : List ℕ) (v after x : View) (m : Made) → IsEnteredAt j r k numbers v after m → IsBeginning (list_of k after) (list_of k x) →
+entry_seen : (j r k : ℕ) (numbers : List ℕ) (v after x : View) (m : Made) → IsEnteredAt j r k numbers v after m →
+    IsBeginning (list_of k after) (list_of k x) →
     Contains (map (λ (n : Made). n.numbers) (list_of k x)) numbers
 entry_seen j r k numbers v after x m made begins =
     let (rest, e) = begins_on (made.earlier ++ m ∷ []) (list_of k after) (list_of k x) made.stands begins in
@@ -52,7 +56,8 @@ entry_seen j r k numbers v after x m made begins =
     subst (λ ns. Contains (map (λ (n : Made). n.numbers) (list_of k x)) ns) made.says
     (map_in (λ (n : Made). n.numbers) (list_of k x) m (subst (λ l. Contains l m) (sym e) here))
 
-pub filled_back : (r p line class : ℕ) (v after now note own : View) (titles : List Title) (s s_now : RootState) → FillTells r p line class v after note titles s s_now →
+pub filled_back : (r p line class : ℕ) (v after now note own : View) (titles : List Title) (s s_now : RootState) →
+    FillTells r p line class v after note titles s s_now →
     IsShown after now note own → CanGoBack p own titles
 filled_back r p line class v after now note own titles s s_now told shown =
     let g = told.gives in
@@ -77,7 +82,8 @@ filled_back r p line class v after now note own titles s s_now told shown =
           );
     }
 
-pub mapped_back : (r p line len : ℕ) (v after now note own : View) (t : Title) (s s_now : RootState) → MapTells r p line len v after note t s s_now →
+pub mapped_back : (r p line len : ℕ) (v after now note own : View) (t : Title) (s s_now : RootState) →
+    MapTells r p line len v after note t s s_now →
     IsShown after now note own → CanMapGoBack p own t
 mapped_back r p line len v after now note own t s s_now told shown =
     let g = told.gives in
@@ -86,16 +92,20 @@ mapped_back r p line len v after now note own t s s_now told shown =
       named = (
         line,
         t.born,
-        subst (λ n. Contains (map (λ (z : Made). z.numbers) (list_of p own)) (root_numbers (root_entry line (Map t.born (name_of t) n)))) (sym g.long)
-            (entry_seen g.index r p (root_numbers (root_entry line (Map t.born (name_of t) len))) v after own g.enters.made g.enters.is_made (shown.lists p)),
+        subst (λ n. Contains (map (λ (z : Made). z.numbers) (list_of p own))
+            (root_numbers (root_entry line (Map t.born (name_of t) n)))) (sym g.long)
+            (entry_seen g.index r p (root_numbers (root_entry line (Map t.born (name_of t) len))) v after own g.enters.made g.enters.is_made
+            (shown.lists p)),
       );
     }
 
 -- all that neither the root's seat nor the pool's has
 abbrev pub others : List Mark
 others =
-    Stake 0 ∷ Stake 1 ∷ Stake 2 ∷ Stake 3 ∷ Stake 4 ∷ Stake 5 ∷ Stake 6 ∷ Stake 7 ∷ Stake 8 ∷ Stake 9 ∷ Stake 10 ∷ Stake 11 ∷ Stake 12 ∷ Stake 13 ∷ Stake 14 ∷ Stake 15 ∷ Keeper 1 ∷ Keeper 2 ∷ Keeper 3
+    Stake 0 ∷ Stake 1 ∷ Stake 2 ∷ Stake 3 ∷ Stake 4 ∷ Stake 5 ∷ Stake 6 ∷ Stake 7 ∷ Stake 8 ∷ Stake 9 ∷ Stake 10 ∷ Stake 11 ∷ Stake 12 ∷
+    Stake 13 ∷ Stake 14 ∷ Stake 15 ∷ Keeper 1 ∷ Keeper 2 ∷ Keeper 3
     ∷ Keeper 5 ∷ []
 
 pub others_lend : (words : ℕ) (v w z : View) → v ≡ w → w ≡ given_after (parcel_of [] 0 others) z → z ≡ first_view words 0 → CanLend v
-others_lend words v w z e f g = subst (λ (x : View). CanLend x) (sym (e ∙ (f ∙ ap (λ (x : View). given_after (parcel_of [] 0 others) x) g))) (omega arith, omega arith)
+others_lend words v w z e f g =
+    subst (λ (x : View). CanLend x) (sym (e ∙ (f ∙ ap (λ (x : View). given_after (parcel_of [] 0 others) x) g))) (omega arith, omega arith)

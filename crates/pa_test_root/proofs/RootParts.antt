@@ -30,7 +30,14 @@ without_others words = left_after (parcel_of [] 0 others) (first_view words 0)
 pub root_part : (words : ℕ) → IsFirstView 0 (given_after root_parcel (without_others words))
 root_part words =
     let has : keeper_of (given_after root_parcel (without_others words)) 0 ≡ 1 = refl in
-    record { partition = omega arith; hosts = ((λ k. refl, refl), omega arith); empty = refl; frees = λ t. refl; handles = λ t. refl; budget = refl }
+    record {
+      partition = omega arith;
+      hosts = ((λ k. refl, refl), omega arith);
+      empty = refl;
+      frees = λ t. refl;
+      handles = λ t. refl;
+      budget = refl;
+    }
 
 -- what the pool gets of the first view
 abbrev pool_part : ℕ → View
@@ -39,8 +46,10 @@ pool_part words = left_after root_parcel (without_others words)
 low_there : (words b : ℕ) → b < 8 * words → 0 < low_of (pool_part words) b 0
 low_there words b below =
     let c : low_of (pool_part words) b 0 ≡ one ((nat_le 0 b && nat_lt b (0 + 8 * words)) && nat_le 0 0) + 0
-    = sum_by-cons (λ (r : RawRange). one ((nat_le r.start b && nat_lt b (r.start + r.len)) && nat_le r.floor 0)) (record { start = 0; len = 8 * words; floor = 0 }) [] in
-    let d : one ((nat_le 0 b && nat_lt b (0 + 8 * words)) && nat_le 0 0) ≡ 1 = both (nat_le 0 b) (nat_lt b (0 + 8 * words)) (le-leb 0 b (omega arith)) (lt-ltb b (0 + 8 * words) (omega arith)) in
+    = sum_by-cons (λ (r : RawRange). one ((nat_le r.start b && nat_lt b (r.start + r.len)) && nat_le r.floor 0))
+    (record { start = 0; len = 8 * words; floor = 0 }) [] in
+    let d : one ((nat_le 0 b && nat_lt b (0 + 8 * words)) && nat_le 0 0) ≡ 1 =
+    both (nat_le 0 b) (nat_lt b (0 + 8 * words)) (le-leb 0 b (omega arith)) (lt-ltb b (0 + 8 * words) (omega arith)) in
     omega arith
   where
     both : (x y : Bool) → x ≡ true → y ≡ true → one ((x && y) && nat_le 0 0) ≡ 1
@@ -57,7 +66,8 @@ lease_there words n =
 
 one_keeper : (words k : ℕ) → (k ≡ 4 → ⊥) → keeper_of (pool_part words) k ≡ 0
 one_keeper words k other =
-    let c : keeper_of (pool_part words) k ≡ one (4 == k) + 0 = sum_by-cons (λ (q : Keeper). one (q.number == k)) (record { number = 4; entries = [] }) [] in
+    let c : keeper_of (pool_part words) k ≡ one (4 == k) + 0 =
+    sum_by-cons (λ (q : Keeper). one (q.number == k)) (record { number = 4; entries = [] }) [] in
     elim (eqb_tells 4 k) [
       | inl y ↦ absurd (other (sym y.1))
       | inr n ↦ (let d : one (4 == k) ≡ 0 = ap one n.0 in omega arith)

@@ -5,7 +5,7 @@ ghost use Rattle.pa_test_root.specs.RootScripts.{IsPlayed};
 
 use crate::root_scripts::{Call, Line, play};
 use arrayvec::ArrayVec;
-use pa_buckets::{Class, fill_count};
+use pa_buckets::{CLASSES, Class, fill_count};
 use pa_direct::{Shape, shape};
 use pa_layout::{super_page_of, supers_for};
 use pa_place::{Out, Placement, PoolPlan};
@@ -17,8 +17,11 @@ use std::test::Fail;
 // How many calls there are.
 const CALLS: u32 = 400;
 
-// How many super pages the region has.
-const SUPERS: u32 = 8;
+// How many super pages the region of the drawn calls has.
+const SUPERS: u32 = 7;
+
+// How many the region has in which each class finds room.
+const ROOMY: u32 = 16;
 
 // The slot's name.
 fn named(title: Title) -> SlotName {
@@ -160,10 +163,11 @@ struct Left {
 }
 
 // Plays the calls over this many super pages. Each is at most 17 steps.
-fn play_plain(alloc: Global, script: &[Line]) -> Result<Left, OutOfMemory>
+fn play_plain(alloc: Global, supers: u32, script: &[Line]) -> Result<Left, OutOfMemory>
+    requires supers { supers ≤ 64 }
     requires few { length script.now ≤ 400 }
 {
-    let mut pool = PoolPlan::new(alloc, SUPERS)?;
+    let mut pool = PoolPlan::new(alloc, supers)?;
     let mut placement = Placement::new(alloc)?;
     let mut journal = Vec::new(alloc);
     let mut held = Vec::new(alloc);
@@ -245,11 +249,12 @@ fn next(seed: u64) -> u64 {
         .wrapping_add(1_442_695_040_888_963_407)
 }
 
-// A call by these numbers: of twenty about ten are fills, five give back one of the first few batches, two are direct maps of
-// one to three super pages, two give back one of the first few of those, and one is a purge.
+// A call by these numbers: of twenty about five are fills of any class, five are fills of one of eight classes, five give back one of the
+// first few batches, two are direct maps of one to three super pages, two give back one of the first few of those, and one is a purge.
 fn call_by(kind: u64, number: u64) -> Call {
     match kind % 20 {
-        0..=9 => Call::Fill((number % 59) as u32),
+        0..=4 => Call::Fill((number % u64::from(CLASSES)) as u32),
+        5..=9 => Call::Fill(21 * (number % 8) as u32),
         10..=14 => Call::Give((number % 6) as usize),
         15..=16 => Call::Map(917_497 + (number % 5_000_000) as u32),
         17..=18 => Call::Unmap((number % 3) as usize),
@@ -275,7 +280,7 @@ fn script(alloc: Global, seed: u64) -> Result<Vec<Line>, OutOfMemory>
 fn a_root_makes_the_journal_of_the_plain_placement(rt: HostRuntime) -> Result<(), Fail> {
     let script = script(rt.alloc(), 7)?;
     let left = play(&rt, rt.alloc(), SUPERS, &script)?;
-    let plain = play_plain(rt.alloc(), &script)?;
+    let plain = play_plain(rt.alloc(), SUPERS, &script)?;
     assert!(rt; left.journal.as_slice() == plain.journal.as_slice());
     assert!(rt; left.census == plain.census);
     assert!(rt; left.journal.len() > 300);
@@ -294,5 +299,35 @@ fn a_root_makes_the_journal_of_the_plain_placement(rt: HostRuntime) -> Result<()
     assert!(rt;
         entries.iter().any(|entry| matches!(entry.act, RootAct::Full { class: Some(_), .. }))
     );
+    Ok(())
+}
+
+// A fill of each class, and its slots go back.
+fn each_class(alloc: Global) -> Result<Vec<Line>, OutOfMemory>
+    ensures many { IfOk result (λ s. length s.items ≤ 400) }
+{
+    let mut script = Vec::new(alloc);
+    for number in 0..CLASSES {
+        let line = number + 2;
+        script.push(Line {
+            line,
+            call: Call::Fill(number),
+        })?;
+        script.push(Line {
+            line,
+            call: Call::Give(0),
+        })?;
+    }
+    Ok(script)
+}
+
+#[test]
+fn each_class_is_filled_and_comes_back(rt: HostRuntime) -> Result<(), Fail> {
+    let script = each_class(rt.alloc())?;
+    let left = play(&rt, rt.alloc(), ROOMY, &script)?;
+    let plain = play_plain(rt.alloc(), ROOMY, &script)?;
+    assert!(rt; left.journal.len() == 340);
+    assert!(rt; left.journal.as_slice() == plain.journal.as_slice());
+    assert!(rt; left.census == plain.census);
     Ok(())
 }

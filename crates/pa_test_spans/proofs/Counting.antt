@@ -31,7 +31,8 @@ turn_after at to l s = go (same_state s.state to)
     go false = let e = turn_kept at s l in omega arith
 
 -- what is kept is kept for more moves
-pub kept_more : (l m : SpanListParts) (spans others : List Span) (a b : ℕ) → m ≡ l → others ≡ spans → a ≤ b → IsTableKept l spans a → IsTableKept m others b
+pub kept_more : (l m : SpanListParts) (spans others : List Span) (a b : ℕ) → m ≡ l → others ≡ spans → a ≤ b →
+    IsTableKept l spans a → IsTableKept m others b
 kept_more l m spans others a b lists table less kept =
     let more : IsTableKept l spans b = record { stand = kept.stand; few = kept.few; turn = let t = kept.turn in omega arith } in
     subst (λ z. IsTableKept z others b) (sym lists) (subst (λ z. IsTableKept l z b) (sym table) more)

@@ -1,11 +1,13 @@
 //! Spans that enter drawn states, and their lists, kept by hand beside them.
-ghost use Rattle.std.specs.Prelude.{◌≡◌, ◌≢◌, ◌+◌, ◌<◌, false, length};
+ghost use Rattle.std.specs.Prelude.{◌≡◌, ◌≢◌, ◌+◌, ◌<◌, ◌≤◌, false, length};
+ghost use Rattle.pa_buckets.specs.Limits.{class_count};
 ghost use Rattle.pa_buckets.specs.declared.spans.State.TheVariants as state;
 ghost use Rattle.pa_test_spans.specs.Table.{IsTableKept};
 
 use crate::table::{Table, new_table};
 use pa_buckets::{Class, State};
 use pa_spans::{SpanLists, lists_begin};
+use std::alloc::Global;
 use std::test::Fail;
 
 // A number drawn after another.
@@ -72,10 +74,12 @@ fn is_list(lists: &SpanLists, table: &Table, order: &[u32], class: Class, state:
     at == 0
 }
 
-// Whether each list of the first three classes is that of the spans in this order.
-fn are_lists(lists: &SpanLists, table: &Table, order: &[u32]) -> bool {
-    for number in 0..3 {
-        let Some(class) = Class::of(number) else {
+// Whether each list of the five classes from this one on is that of the spans in this order.
+fn are_lists(lists: &SpanLists, table: &Table, order: &[u32], first: u32) -> bool
+    requires { first + 5 ≤ class_count }
+{
+    for number in 0..5 {
+        let Some(class) = Class::of(first + number) else {
             return false;
         };
         if !is_list(lists, table, order, class, State::Active)
@@ -108,13 +112,16 @@ fn to_front(order: &mut Vec<u32>, at: u32) -> Result<(), Fail> {
     Ok(())
 }
 
-#[test]
-fn drawn_moves_leave_each_list_in_turn(rt: HostRuntime) -> Result<(), Fail> {
-    let mut table = new_table(rt.alloc(), 41)?;
+// Whether 400 drawn moves of 40 spans, of five classes from this one on, leave each list in turn, and more than ten of them are of the span
+// that was empty for the longest time.
+fn are_in_turn(alloc: Global, first: u32) -> Result<bool, Fail>
+    requires classes { first + 5 ≤ class_count }
+{
+    let mut table = new_table(alloc, 41, first)?;
     let mut lists = SpanLists::new();
     lists_begin(&table);
-    let mut order: Vec<u32> = Vec::new(rt.alloc());
-    let mut key = 1;
+    let mut order: Vec<u32> = Vec::new(alloc);
+    let mut key = u64::from(first);
     let mut decommits = 0_u32;
     for done in 0..400_u32 {
         key = next_key(key);
@@ -128,20 +135,33 @@ fn drawn_moves_leave_each_list_in_turn(rt: HostRuntime) -> Result<(), Fail> {
         if !stays {
             to_front(&mut order, at)?;
         }
-        if let Some(first) = oldest {
-            assert_eq!(rt; first, last_empty(&table, &order));
+        if let Some(oldest) = oldest {
+            if oldest != last_empty(&table, &order) {
+                return Ok(false);
+            }
             decommits = decommits.wrapping_add(1);
             enter(
                 &mut lists,
                 &mut table,
-                first,
+                oldest,
                 State::Decommitted,
                 2 * done + 1,
             );
-            to_front(&mut order, first)?;
+            to_front(&mut order, oldest)?;
         }
-        assert_eq!(rt; are_lists(&lists, &table, &order), true);
+        if !are_lists(&lists, &table, &order, first) {
+            return Ok(false);
+        }
     }
-    assert_eq!(rt; decommits > 10, true);
+    Ok(decommits > 10)
+}
+
+#[test]
+fn drawn_moves_leave_each_list_in_turn(rt: HostRuntime) -> Result<(), Fail> {
+    for group in 0..34 {
+        let first = 5 * group;
+        let in_turn = are_in_turn(rt.alloc(), first)?;
+        assert!(rt; in_turn, "the classes from {first} on");
+    }
     Ok(())
 }

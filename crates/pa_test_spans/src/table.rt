@@ -1,6 +1,7 @@
 //! Spans in a vector, as a store of spans.
-ghost use Rattle.std.specs.Prelude.{◌≡◌, ◌<◌, refl, All, IfOk, length};
+ghost use Rattle.std.specs.Prelude.{◌≡◌, ◌+◌, ◌<◌, ◌≤◌, refl, All, IfOk, length};
 ghost use Rattle.std.proofs.Common.{◌∙◌};
+ghost use Rattle.pa_buckets.specs.Limits.{class_count};
 ghost use Rattle.pa_spans.specs.Lists.{IsOutside};
 ghost use Rattle.pa_test_spans.specs.Table.{listed_spans, has_number};
 
@@ -34,20 +35,21 @@ impl SpanStore for Table {
     ghost follows_on = { λ a b c p q. q ∙ p };
 }
 
-// This many spans that aren't in use, of three classes in turn.
-pub(crate) fn new_table(alloc: Global, count: u32) -> Result<Table, AllocError>
+// This many spans that aren't in use, of five classes in turn, from this one on.
+pub(crate) fn new_table(alloc: Global, count: u32, first: u32) -> Result<Table, AllocError>
+    requires classes { first + 5 ≤ class_count }
     ensures { IfOk result (λ t. All IsOutside t.spans.items) }
 {
     let mut spans = Vec::new(alloc);
     for number in 0..count {
-        spans.push(new_span(number % 3))?;
+        spans.push(new_span(first + number % 5))?;
     }
     Ok(Table { spans })
 }
 
 // A span of the class that isn't in use.
 fn new_span(class: u32) -> Span
-    requires { class < 59 }
+    requires { class < class_count }
     ensures { IsOutside result }
 {
     Span {

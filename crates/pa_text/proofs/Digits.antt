@@ -16,14 +16,16 @@ two n more few = digit_more n ((48 + n / 10 % 10) ∷ []) more (omega arith) (on
 pub three : (n : ℕ) → 100 ≤ n → n < 1000 → decimal n ≡ (48 + n / 100 % 10) ∷ (48 + n / 10 % 10) ∷ (48 + n % 10) ∷ []
 three n more few =
     let a : n / 100 ≡ n / 10 / 10 = omega arith in
-    rw a (digit_more n ((48 + n / 10 / 10 % 10) ∷ (48 + n / 10 % 10) ∷ []) (omega arith) (omega arith) (two (n / 10) (omega arith) (omega arith)))
+    rw a (digit_more n ((48 + n / 10 / 10 % 10) ∷ (48 + n / 10 % 10) ∷ []) (omega arith) (omega arith)
+    (two (n / 10) (omega arith) (omega arith)))
 
 pub four : (n : ℕ) → 1000 ≤ n → n < 10000 →
     decimal n ≡ (48 + n / 1000 % 10) ∷ (48 + n / 100 % 10) ∷ (48 + n / 10 % 10) ∷ (48 + n % 10) ∷ []
 four n more few =
     let a : n / 100 ≡ n / 10 / 10 = omega arith in
     let b : n / 1000 ≡ n / 10 / 100 = omega arith in
-    rw (a, b) (digit_more n ((48 + n / 10 / 100 % 10) ∷ (48 + n / 10 / 10 % 10) ∷ (48 + n / 10 % 10) ∷ []) (omega arith) (omega arith) (three (n / 10) (omega arith) (omega arith)))
+    rw (a, b) (digit_more n ((48 + n / 10 / 100 % 10) ∷ (48 + n / 10 / 10 % 10) ∷ (48 + n / 10 % 10) ∷ []) (omega arith) (omega arith)
+    (three (n / 10) (omega arith) (omega arith)))
 
 pub five : (n : ℕ) → 10000 ≤ n → n < 100000 →
     decimal n ≡ (48 + n / 10000 % 10) ∷ (48 + n / 1000 % 10) ∷ (48 + n / 100 % 10) ∷ (48 + n / 10 % 10) ∷ (48 + n % 10) ∷ []
@@ -32,5 +34,6 @@ five n more few =
     let b : n / 1000 ≡ n / 10 / 100 = omega arith in
     let d : n / 10000 ≡ n / 10 / 1000 = omega arith in
     rw (a, b, d)
-    (digit_more n ((48 + n / 10 / 1000 % 10) ∷ (48 + n / 10 / 100 % 10) ∷ (48 + n / 10 / 10 % 10) ∷ (48 + n / 10 % 10) ∷ []) (omega arith) (omega arith)
+    (digit_more n ((48 + n / 10 / 1000 % 10) ∷ (48 + n / 10 / 100 % 10) ∷ (48 + n / 10 / 10 % 10) ∷ (48 + n / 10 % 10) ∷ []) (omega arith)
+    (omega arith)
     (four (n / 10) (omega arith) (omega arith)))

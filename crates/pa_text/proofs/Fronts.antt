@@ -14,7 +14,8 @@ word_same a b e = (slice_eq-Decides Decides-eqb a b _ refl).0 e
 -- bytes that pass the test are the word and what follows it
 pub front_parts : (word bytes : List ℕ) → pointwise nat_eq (take (length word) bytes) word ≡ true → bytes ≡ word ++ drop (length word) bytes
 front_parts word bytes e =
-    sym (take-append-drop (length word) bytes) ∙ ap (λ (x : List ℕ). x ++ drop (length word) bytes) (word_same (take (length word) bytes) word e)
+    sym (take-append-drop (length word) bytes) ∙
+    ap (λ (x : List ℕ). x ++ drop (length word) bytes) (word_same (take (length word) bytes) word e)
 
 -- a word and what follows it pass the test
 pub front_found : (word bytes rest : List ℕ) → bytes ≡ word ++ rest

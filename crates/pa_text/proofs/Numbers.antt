@@ -45,7 +45,8 @@ reads_on value d first rest after bytes e low small read = record {
 }
 
 -- one digit more, of a number that has more than 32 bits
-pub skips_on : (value d first : ℕ) (rest after bytes : List ℕ) → digit_at rest ≡ Some (d, after) → 4294967296 ≤ value → ReadsOn value rest first bytes → ReadsOn value after first bytes
+pub skips_on : (value d first : ℕ) (rest after bytes : List ℕ) → digit_at rest ≡ Some (d, after) → 4294967296 ≤ value →
+    ReadsOn value rest first bytes → ReadsOn value after first bytes
 skips_on value d first rest after bytes e large read = record {
   number = 10 * read.number + d;
   stands = elim read.stands [ inl same ↦ inr (large, omega arith) | inr past ↦ inr (large, omega arith) ];
@@ -59,7 +60,8 @@ fit_stands value n (inl same) = ap fit same
 fit_stands value n (inr past) = rw (le-ltb value 4294967296 past.0, le-ltb n 4294967296 past.1) refl
 
 -- at the end
-pub reads_all : (value first : ℕ) (rest bytes : List ℕ) → digit_at rest ≡ None → ReadsOn value rest first bytes → (fit value ≡ fit (digits_from first bytes).0) × (rest ≡ (digits_from first bytes).1)
+pub reads_all : (value first : ℕ) (rest bytes : List ℕ) → digit_at rest ≡ None → ReadsOn value rest first bytes →
+    (fit value ≡ fit (digits_from first bytes).0) × (rest ≡ (digits_from first bytes).1)
 reads_all value first rest bytes e read =
     let all : digits_from first bytes ≡ (read.number, rest) = sym read.goes_on ∙ digit_last read.number rest e in
     (fit_stands value read.number read.stands ∙ sym (ap (λ (x : ℕ × List ℕ). fit x.0) all), sym (ap (λ (x : ℕ × List ℕ). x.1) all))

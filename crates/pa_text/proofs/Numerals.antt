@@ -47,7 +47,13 @@ digits_take n (c ∷ cs) =
       | inl one ↦
           let t = digits_take (10 * n + (c - 48)) cs in
           let made : TakesDigits n (c ∷ cs) (digits_from (10 * n + (c - 48)) cs).0 (digits_from (10 * n + (c - 48)) cs).1 =
-          record { digits = c ∷ t.digits; all = (digit_from c one, t.all); parts = ap (λ (x : List ℕ). c ∷ x) t.parts; stop = t.stop; value = t.value } in
+          record {
+            digits = c ∷ t.digits;
+            all = (digit_from c one, t.all);
+            parts = ap (λ (x : List ℕ). c ∷ x) t.parts;
+            stop = t.stop;
+            value = t.value;
+          } in
           rw one made
       | inr none ↦
           let made : TakesDigits n (c ∷ cs) n (c ∷ cs) = record { digits = []; all = tt; parts = refl; stop = none; value = refl } in
@@ -56,7 +62,8 @@ digits_take n (c ∷ cs) =
 
 digits_again : (n : ℕ) (ds rest : List ℕ) → AreDigits ds → IsStop rest → digits_from n (ds ++ rest) ≡ (value_after n ds, rest)
 digits_again n [] rest all stop = digit_last n rest (stop_none rest stop)
-digits_again n (d ∷ ds) rest all stop = digit_first n (d - 48) (d ∷ ds ++ rest) (ds ++ rest) (digit_some d (ds ++ rest) all.0) ∙ digits_again (10 * n + (d - 48)) ds rest all.1 stop
+digits_again n (d ∷ ds) rest all stop = digit_first n (d - 48) (d ∷ ds ++ rest) (ds ++ rest) (digit_some d (ds ++ rest) all.0) ∙
+    digits_again (10 * n + (d - 48)) ds rest all.1 stop
 
 -- ---- numbers
 
@@ -69,7 +76,8 @@ number_again n (d ∷ ds) rest h stop =
     elim (cases_eq d 48) [
       | inl zero' ↦ let none : ds ≡ [] = h.canonical ds (ap (λ (x : ℕ). x ∷ ds) zero') in
           rw (none, stop_none rest stop) (and_right (eqb (d - 48) 0) false refl)
-      | inr other ↦ and_left (eqb (d - 48) 0) (is_some (digit_at (ds ++ rest))) (ne_eqb (d - 48) 0 (λ same. other (omega (arith, h.digits.0.0))))
+      | inr other ↦ and_left (eqb (d - 48) 0) (is_some (digit_at (ds ++ rest)))
+          (ne_eqb (d - 48) 0 (λ same. other (omega (arith, h.digits.0.0))))
     ] in
     let value : value_after (d - 48) ds ≡ n = ap (λ (x : ℕ). value_after x ds) (omega arith) ∙ h.value in
     rw (first, alone, digits_again (d - 48) ds rest h.digits.1 stop) (ap (λ (x : ℕ). Some (x, rest)) value)
@@ -109,7 +117,8 @@ number_takes (c ∷ cs) n rest e =
               canonical = λ others same.
                   let zero' : c ≡ 48 = cc in
                   let tail : taken.digits ≡ others = cc in
-                  sym tail ∙ no_digits taken.digits (digits_from (c - 48) cs).1 taken.all (sym (ap digit_at taken.parts) ∙ alone_stops c cs t.0 zero');
+                  sym tail ∙ no_digits taken.digits (digits_from (c - 48) cs).1 taken.all
+                  (sym (ap digit_at taken.parts) ∙ alone_stops c cs t.0 zero');
               value = ap (λ (x : ℕ). value_after x taken.digits) (omega arith) ∙ taken.value;
             };
             parts = ap (λ (x : List ℕ). c ∷ x) taken.parts;
@@ -127,7 +136,8 @@ value_append n [] b = refl
 value_append n (c ∷ cs) b = value_append (10 * n + (c - 48)) cs b
 
 -- as many digits, that write one number, are the same digits
-same_digits : (m n : ℕ) (a b : List ℕ) → AreDigits a → AreDigits b → length a ≡ length b → value_after m a ≡ value_after n b → (m ≡ n) × (a ≡ b)
+same_digits : (m n : ℕ) (a b : List ℕ) → AreDigits a → AreDigits b → length a ≡ length b → value_after m a ≡ value_after n b → (m ≡ n) ×
+    (a ≡ b)
 same_digits m n [] [] da db len e = (e, refl)
 same_digits m n [] (d ∷ b) da db len e = absurd (omega arith)
 same_digits m n (c ∷ a) [] da db len e = absurd (omega arith)
@@ -151,7 +161,8 @@ AreDigits-take (suc k) [] h = tt
 AreDigits-take (suc k) (d ∷ ds) h = (h.0, AreDigits-take k ds h.1)
 
 -- zeros before further digits are no numeral
-no_zeros : (front back : List ℕ) → 0 ≡ value_after 0 front → AreDigits front → ((rest : List ℕ) → front ++ back ≡ 48 ∷ rest → rest ≡ []) → (back ≡ [] → ⊥) → front ≡ []
+no_zeros : (front back : List ℕ) → 0 ≡ value_after 0 front → AreDigits front → ((rest : List ℕ) → front ++ back ≡ 48 ∷ rest → rest ≡ []) →
+    (back ≡ [] → ⊥) → front ≡ []
 no_zeros [] back e all canonical some' = refl
 no_zeros (c ∷ cs) back e all canonical some' =
     let head : c ≡ 48 = omega (arith, e, value_grows (10 * 0 + (c - 48)) cs, all.0.0) in
@@ -164,9 +175,11 @@ not_longer n a b ha hb le =
     let k : ℕ = length b - length a in
     let split : take k b ++ drop k b ≡ b = take-append-drop k b in
     let as_long : length a ≡ length (drop k b) = omega (arith, length-drop k b) in
-    let value : value_after 0 a ≡ value_after (value_after 0 (take k b)) (drop k b) = ha.value ∙ sym hb.value ∙ ap (value_after 0) (sym split) ∙ value_append 0 (take k b) (drop k b) in
+    let value : value_after 0 a ≡ value_after (value_after 0 (take k b)) (drop k b) = ha.value ∙ sym hb.value ∙
+    ap (value_after 0) (sym split) ∙ value_append 0 (take k b) (drop k b) in
     let t = same_digits 0 (value_after 0 (take k b)) a (drop k b) ha.digits (AreDigits-drop k b hb.digits) as_long value in
-    let none = no_zeros (take k b) (drop k b) t.0 (AreDigits-take k b hb.digits) (λ rest e. hb.canonical rest (sym split ∙ e)) (λ e. ha.written (t.1 ∙ e)) in
+    let none = no_zeros (take k b) (drop k b) t.0 (AreDigits-take k b hb.digits) (λ rest e. hb.canonical rest (sym split ∙ e))
+    (λ e. ha.written (t.1 ∙ e)) in
     t.1 ∙ sym (ap (λ (x : List ℕ). x ++ drop k b) none) ∙ split
 
 pub one_numeral : (n : ℕ) (a b : List ℕ) → IsNumeral n a → IsNumeral n b → a ≡ b
@@ -231,11 +244,13 @@ found_in bytes (Some x) value rest same e =
     let parts = some_pair_parts value (fit x.0) rest x.1 e in
     (x.0, number_takes bytes x.0 rest (same ∙ ap (λ (r : List ℕ). Some (x.0, r)) (sym parts.1)), parts.0)
 
-pub is_found : (bytes : List ℕ) (value : Option ℕ) (rest : List ℕ) → Some (value, rest) ≡ option_map fitted (number_at bytes) → (n : ℕ) × BeginsWith bytes n rest × (value ≡ fit n)
+pub is_found : (bytes : List ℕ) (value : Option ℕ) (rest : List ℕ) → Some (value, rest) ≡ option_map fitted (number_at bytes) → (n : ℕ) ×
+    BeginsWith bytes n rest × (value ≡ fit n)
 is_found bytes value rest e = found_in bytes (number_at bytes) value rest refl e
 
 pub is_none : (bytes : List ℕ) → None ≡ option_map fitted (number_at bytes) → (n : ℕ) (rest : List ℕ) → BeginsWith bytes n rest → ⊥
-is_none bytes e n rest h = let same : ◌≡◌ {A = Option (Option ℕ × List ℕ)} None (Some (fit n, rest)) = e ∙ ap (option_map fitted) (begins_read bytes n rest h) in absurd cc
+is_none bytes e n rest h = let same : ◌≡◌ {A = Option (Option ℕ × List ℕ)} None (Some (fit n, rest)) = e ∙
+    ap (option_map fitted) (begins_read bytes n rest h) in absurd cc
 
 pub answers_found : (bytes : List ℕ) (r : Option (Option ℕ × Bor (List ℕ)))
     → option_map {U = Option ℕ × List ℕ} (λ x. (x.0, x.1.now)) r ≡ option_map fitted (number_at bytes)

@@ -10,7 +10,8 @@ use Rattle.pa_text.proofs.Words.{hexes_again}
 use Rattle.pa_slot.proofs.Runs.{slot_parts}
 
 -- a number with no digit after it
-pub split_number : (m n : ℕ) (x y : List ℕ) → m < 2 ^ 64 → n < 2 ^ 64 → IsStop x → IsStop y → decimal m ++ x ≡ decimal n ++ y → (m ≡ n) × (x ≡ y)
+pub split_number : (m n : ℕ) (x y : List ℕ) → m < 2 ^ 64 → n < 2 ^ 64 → IsStop x → IsStop y → decimal m ++ x ≡ decimal n ++ y → (m ≡ n) ×
+    (x ≡ y)
 split_number m n x y hm hn sx sy e =
     some_pair_parts m n x y
     (sym (number_again m (decimal m) x (decimal_numeral m hm) sx) ∙ ap number_at e ∙ number_again n (decimal n) y (decimal_numeral n hn) sy)
@@ -28,7 +29,8 @@ split_word m n x y hm hn e = split_hex 16 m n x y hm hn e
 heads : (c d : ℕ) (x y : List ℕ) → c ∷ x ≡ d ∷ y → (c ≡ d) × (x ≡ y)
 heads c d x y e = (cc, cc)
 
-pub split_slot : (s t : SlotName) (x y : List ℕ) → SlotFits s → SlotFits t → IsStop x → IsStop y → slot_text s ++ x ≡ slot_text t ++ y → (s ≡ t) × (x ≡ y)
+pub split_slot : (s t : SlotName) (x y : List ℕ) → SlotFits s → SlotFits t → IsStop x → IsStop y → slot_text s ++ x ≡ slot_text t ++ y →
+    (s ≡ t) × (x ≡ y)
 split_slot s t x y hs ht sx sy e =
     let start = split_hex 8 s.start t.start (46 ∷ decimal s.born ++ x) (46 ∷ decimal t.born ++ y) hs.0 ht.0
     (sym (append_assoc (hex 8 s.start) (46 ∷ decimal s.born) x) ∙ e ∙ append_assoc (hex 8 t.start) (46 ∷ decimal t.born) y) in

@@ -29,7 +29,8 @@ letter_takes c d true same e =
     (sym (high_digit d (omega arith) ∙ omega arith), omega arith)
 letter_takes c d false same e = absurd cc
 
-value_cases : (c d : ℕ) (b : Bool) → is_digit c ≡ b → cond b (Some (c - 48)) (cond (leb 97 c && leb c 102) (Some (c - 87)) None) ≡ Some d → (c ≡ hex_digit d) × (d < 16)
+value_cases : (c d : ℕ) (b : Bool) → is_digit c ≡ b → cond b (Some (c - 48)) (cond (leb 97 c && leb c 102) (Some (c - 87)) None) ≡ Some d →
+    (c ≡ hex_digit d) × (d < 16)
 value_cases c d true same e =
     let p = and_parts (leb 48 c) (leb c 57) same in
     let low = leb-true 48 c p.0 in
@@ -47,7 +48,8 @@ value_again d lt =
     elim (cases_lt d 10) [
       | inl low ↦
           ap hex_value (low_digit d low)
-          ∙ rw (and_from (leb 48 (48 + d)) (leb (48 + d) 57) (le-leb 48 (48 + d) (omega arith)) (le-leb (48 + d) 57 (omega arith))) (ap (λ (n : ℕ). Some n) (omega arith))
+          ∙ rw (and_from (leb 48 (48 + d)) (leb (48 + d) 57) (le-leb 48 (48 + d) (omega arith)) (le-leb (48 + d) 57 (omega arith)))
+          (ap (λ (n : ℕ). Some n) (omega arith))
       | inr high ↦
           ap hex_value (high_digit d high)
           ∙ rw (
@@ -124,14 +126,16 @@ unfolding hexes_at
 hexes_first bytes = refl
 
 -- one digit more
-pub hexes_more : (k value digit : ℕ) (bytes rest after : List ℕ) → hexes_at k bytes ≡ Some (value, rest) → hex_at rest ≡ Some (digit, after) → hexes_at (k + 1) bytes ≡ Some (16 * value + digit, after)
+pub hexes_more : (k value digit : ℕ) (bytes rest after : List ℕ) → hexes_at k bytes ≡ Some (value, rest) →
+    hex_at rest ≡ Some (digit, after) → hexes_at (k + 1) bytes ≡ Some (16 * value + digit, after)
 unfolding hexes_at
 hexes_more k value digit bytes rest after e f =
     let step : k + 1 ≡ suc k = omega arith in
     rw (step, e, f) refl
 
 -- no digit more
-pub hexes_stop : (k value : ℕ) (bytes rest : List ℕ) → hexes_at k bytes ≡ Some (value, rest) → hex_at rest ≡ None → hexes_at (k + 1) bytes ≡ None
+pub hexes_stop : (k value : ℕ) (bytes rest : List ℕ) → hexes_at k bytes ≡ Some (value, rest) → hex_at rest ≡ None →
+    hexes_at (k + 1) bytes ≡ None
 unfolding hexes_at
 hexes_stop k value bytes rest e f =
     let step : k + 1 ≡ suc k = omega arith in
@@ -145,7 +149,8 @@ hexes_small k value bytes rest e lt =
     omega (arith, (hexes_take k bytes (value, rest) e).1, most)
 
 -- what is read is the sixteen digits of a word
-pub word_found : (value : ℕ) (bytes rest : List ℕ) → hexes_at 16 bytes ≡ Some (value, rest) → (value < 18446744073709551616) × (bytes ≡ hex 16 value ++ rest)
+pub word_found : (value : ℕ) (bytes rest : List ℕ) → hexes_at 16 bytes ≡ Some (value, rest) → (value < 18446744073709551616) ×
+    (bytes ≡ hex 16 value ++ rest)
 word_found value bytes rest e = let t = hexes_take 16 bytes (value, rest) e in (t.1, t.0)
 
 -- if nothing is read no word's digits come first

@@ -37,7 +37,7 @@ abbrev pub digit_at : List ℕ → Option (ℕ × List ℕ)
 digit_at [] = None
 digit_at (c ∷ cs) = if is_digit c then Some (c - 48, cs) else None
 
--- the number that the leading digits spell after those that spelled n, and the bytes after them
+-- the number that the leading digits spell behind digits that were read already and spelled n, and the bytes after them
 unfoldable pub digits_from : ℕ → List ℕ → ℕ × List ℕ
 digits_from n [] = (n, [])
 digits_from n (c ∷ cs) = if is_digit c then digits_from (10 * n + (c - 48)) cs else (n, c ∷ cs)

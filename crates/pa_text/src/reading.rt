@@ -75,7 +75,7 @@ fn digit_at(bytes: &[u8]) -> Option<(u64, &[u8])>
     }
 }
 
-// The number that the leading digits spell after a first one, and the bytes after them.
+// The number that the leading digits spell behind a digit that was read already, and the bytes after them.
 fn digits_from(first: u64, bytes: &[u8]) -> (Option<u32>, &[u8])
     requires { first < 10 }
     ensures value { result.0 ≡ fit (digits_from first bytes.now).0 }

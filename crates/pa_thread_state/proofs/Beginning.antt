@@ -11,11 +11,13 @@ use Rattle.pa_region.specs.Waiting.{unclean_of}
 use Rattle.pa_buckets.specs.Limits.{first_class}
 use Rattle.pa_buckets.specs.Table.{slot_of}
 use Rattle.pa_rules.specs.Sizes.{class_total}
-use Rattle.pa_rules.proofs.Versions.{class_cases, real_in}
+use Rattle.pa_rules.proofs.Versions.{class_cases, place_within, real_in}
 use Rattle.pa_cache.specs.Caches.{CacheList, IsCache}
 use Rattle.pa_rules.specs.declared.register.Register.TheVariants.{Empty}
-use Rattle.pa_op_specs.specs.Stocks.{StockRegister, WorkerLists, IsStock, IsForThread, IsMadeFor, AreNoLists, titles_in, owns_one, refs_one, no_cache, cache_place}
-use Rattle.pa_thread_state.proofs.Places.{place_within, class_in_turn, turn_real, titles_here, titles_none}
+use Rattle.pa_rules.specs.Lists.{cache_place}
+use Rattle.pa_op_specs.specs.Stocks.{StockRegister, WorkerLists, IsStock, IsForThread, IsMadeFor, AreNoLists, titles_in, owns_one, refs_one, no_cache}
+use Rattle.pa_thread_state.proofs.Leaving.{seals_own}
+use Rattle.pa_thread_state.proofs.Places.{class_in_turn, turn_real, titles_here, titles_none}
 
 -- registers that are all empty
 pub all_empty : (n i : ℕ) → slice_index_or {A = StockRegister} (replicate n Empty) i Empty ≡ Empty
@@ -80,6 +82,7 @@ new_stock thread partitions v caches for clean few are = record {
     owns = λ t. let e = for.unused t in let s = sum_by-replicate (owns_one t) 64 Empty in omega arith;
     refs = λ t. let e = for.unused t in let s = sum_by-replicate (refs_one t) 64 Empty in omega arith;
     clean = clean;
+    sealed = λ t. let e = for.unused t in let s = seals_own v t in omega arith;
     made = λ i. subst (IsMadeFor v) (sym (all_empty 64 i)) tt;
   };
   lists = record {
@@ -87,7 +90,7 @@ new_stock thread partitions v caches for clean few are = record {
     sound = λ k. subst IsCache (sym (each_none caches.version count caches.lists k are))
         (empty_is (slice_index_or caches.lists k no_cache).class (real_class caches.version count caches.lists k are));
     classes = λ p c low real.
-        ap (λ (x : CacheList). x.class) (are.each (cache_place caches.version p c) (place_within caches.version p c low real))
+        ap (λ (x : CacheList). x.class) (are.each (cache_place caches.version p c) (place_within caches.version 4 p c low real))
         ∙ class_in_turn caches.version p c real;
     few = λ p c. let e = ap length (no_titles count caches p c are) in omega (arith, e);
     free = λ p c t among. absurd (not_in_none t (subst (λ ts. Contains ts t) (no_titles count caches p c are) among));

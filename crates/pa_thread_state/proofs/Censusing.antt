@@ -48,7 +48,8 @@ tells_census p s seat c law sound is listed begins list pools on entries =
       seen = list_of 4 s.view;
       begins = seen;
       pool = pools_seen s.view;
-      pool_is = read_back law.entry (list_of 4 s.view) seen.0 pools (sym (ap (λ (l : List Made). map (λ (m : Made). m.numbers) l) seen.1) ∙ entries);
+      pool_is = read_back law.entry (list_of 4 s.view) seen.0 pools
+          (sym (ap (λ (l : List Made). map (λ (m : Made). m.numbers) l) seen.1) ∙ entries);
       replays = sound.journal.fits;
       taken = is ∙ ap census sound.journal.replayed;
     }
@@ -60,7 +61,8 @@ no_further [] [] same small = refl
 no_further [] (m ∷ rest) same small =
     let e = same m.stake small.0 in
     elim (eqb_tells m.stake m.stake) [
-      | inl y ↦ (let f : length (if m.stake == m.stake then m ∷ made_with m.stake rest else made_with m.stake rest) ≡ suc (length (made_with m.stake rest)) = rw y.0 refl in absurd (omega arith))
+      | inl y ↦ (let f : length (if m.stake == m.stake then m ∷ made_with m.stake rest else made_with m.stake rest) ≡ suc
+          (length (made_with m.stake rest)) = rw y.0 refl in absurd (omega arith))
       | inr n ↦ absurd (n.1 refl)
     ]
 no_further (m ∷ list) rest same small = no_further list rest (λ r below. go r (m.stake == r) (same r below)) small.1

@@ -9,32 +9,35 @@ use Rattle.pa_slot.specs.Titles.{IsWellFormed}
 use Rattle.pa_slot.specs.Links.{AreLinked, first_word}
 use Rattle.pa_record.specs.Spans.{name_of}
 use Rattle.pa_region.specs.declared.view.View.{View}
-use Rattle.pa_region.specs.Views.{free_of, own_of, ref_of, stake_of}
+use Rattle.pa_region.specs.Views.{free_of, own_of, sealed_of, ref_of, stake_of}
 use Rattle.pa_region.specs.Waiting.{unclean_of}
 use Rattle.pa_region.specs.Aware.{IsAware}
 use Rattle.pa_rules.specs.Sizes.{HasClass, class_total}
-use Rattle.pa_rules.proofs.Versions.{class_cases}
+use Rattle.pa_rules.proofs.Versions.{class_cases, place_within}
 use Rattle.pa_link.specs.Chains.{Relinked, SameBeside, slot_names}
 use Rattle.pa_link.proofs.Gaps.{free_same}
 use Rattle.pa_cache.specs.Caches.{CacheList}
 use Rattle.pa_cache.specs.Chained.{CacheParts, HoldsList, IsInLists, OthersHaveNone, OtherListsStay, list_in}
 use Rattle.pa_cache.proofs.Lists.{lists_stay}
 use Rattle.pa_cells.specs.declared.handle.Handle.{Handle}
-use Rattle.pa_op_specs.specs.Stocks.{StockValue, IsStock, AreNoLists, register_in, cache_place, no_cache, titles_in}
+use Rattle.pa_rules.specs.Lists.{cache_place}
+use Rattle.pa_op_specs.specs.Stocks.{StockValue, IsStock, AreNoLists, register_in, no_cache, titles_in}
 use Rattle.pa_op_specs.proofs.Seeing.{made_for_kept}
 use Rattle.pa_op_specs.proofs.Stocks.{stock_with}
 use Rattle.pa_thread_state.specs.Allocating.{with_listed}
 use Rattle.pa_thread_state.specs.Changes.{CanList}
 use Rattle.pa_thread_state.specs.Lists.{WorkerCaches, RelinksCache, lists_in, no_parts, parts_of, titles_of}
 use Rattle.pa_thread_state.proofs.Beginning.{lists_more, list_in_turn}
-use Rattle.pa_thread_state.proofs.Places.{place_within, place_of_index, titles_here, titles_none}
+use Rattle.pa_thread_state.proofs.Places.{place_of_index, titles_here, titles_none}
 
 -- there are as many lists as caches
-pub as_many : (v : View) (cs : WorkerCaches) → length (lists_in v cs).lists ≡ 4 * class_total cs.version → length cs.parts ≡ 4 * class_total cs.version
+pub as_many : (v : View) (cs : WorkerCaches) → length (lists_in v cs).lists ≡ 4 * class_total cs.version →
+    length cs.parts ≡ 4 * class_total cs.version
 as_many v cs long = sym (length-map cs.parts (list_in v)) ∙ long
 
 -- the list of a partition and a class is that of the cache at their index
-pub list_at : (v : View) (cs : WorkerCaches) (p class k : ℕ) (d : CacheParts) → HasClass cs.version class → cache_place cs.version p class ≡ k →
+pub list_at : (v : View) (cs : WorkerCaches) (p class k : ℕ) (d : CacheParts) → HasClass cs.version class →
+    cache_place cs.version p class ≡ k →
     k < length cs.parts → titles_in (lists_in v cs) p class ≡ (list_in v (get_or cs.parts k d)).titles
 list_at v cs p class k d real is within =
     titles_here (lists_in v cs) p class real
@@ -42,17 +45,19 @@ list_at v cs p class k d real is within =
     ∙ ap (λ (l : CacheList). l.titles) (get_or-map (list_in v) cs.parts k d no_cache within))
 
 -- the titles that the view has of the cache of a partition and a class are their list
-pub titles_of_list : (v : View) (cs : WorkerCaches) (p class : ℕ) → p < 4 → HasClass cs.version class → length cs.parts ≡ 4 * class_total cs.version →
+pub titles_of_list : (v : View) (cs : WorkerCaches) (p class : ℕ) → p < 4 → HasClass cs.version class →
+    length cs.parts ≡ 4 * class_total cs.version →
     titles_in (lists_in v cs) p class ≡ titles_of v p class cs
 titles_of_list v cs p class low real long =
     list_at v cs p class (cache_place cs.version p class) no_parts real refl
-    (let within = place_within cs.version p class low real in omega (arith, within, long))
+    (let within = place_within cs.version 4 p class low real in omega (arith, within, long))
 
 -- the view has the list of that cache, as it has that of each
-pub holds_at : (v : View) (cs : WorkerCaches) (p class : ℕ) → p < 4 → HasClass cs.version class → length cs.parts ≡ 4 * class_total cs.version →
+pub holds_at : (v : View) (cs : WorkerCaches) (p class : ℕ) → p < 4 → HasClass cs.version class →
+    length cs.parts ≡ 4 * class_total cs.version →
     All (HoldsList v) cs.parts → HoldsList v (parts_of p class cs)
 holds_at v cs p class low real long has =
-    has (cache_place cs.version p class) no_parts (let within = place_within cs.version p class low real in omega (arith, within, long))
+    has (cache_place cs.version p class) no_parts (let within = place_within cs.version 4 p class low real in omega (arith, within, long))
 
 -- a title in the list of a cache is in that of a partition and a class
 pub listed_where : (v : View) (cs : WorkerCaches) (t : Title) → length cs.parts ≡ 4 * class_total cs.version → IsInLists v cs.parts t →
@@ -97,7 +102,8 @@ relisted law v w cs after p class ts low real long aware has re class_is well al
     let is = law v w cs.parts (cache_place cs.version p class) now.new aware has now.list re.relinked
     (subst (λ xs. SameBeside xs v.words w.words) (sym now.titles_are) re.beside) (λ t inside. well t (among t inside))
     (others_none v cs p class us long (λ t inside. alone t (among t inside))) in
-    let list : list_in w now.new ≡ record { class = class; titles = ts } = ap (λ n. record { class = n; titles = us }) (now.class_is ∙ class_is)
+    let list : list_in w now.new ≡ record { class = class; titles = ts } =
+    ap (λ n. record { class = n; titles = us }) (now.class_is ∙ class_is)
     ∙ ap (λ xs. record { class = class; titles = xs }) now.titles_are in (
       subst (λ (z : WorkerCaches). All (HoldsList w) z.parts) (sym now.after_is) is.0,
       ap (lists_in w) now.after_is
@@ -109,11 +115,13 @@ relisted law v w cs after p class ts low real long aware has re class_is well al
 pub none_more : (version n : ℕ) (w : View) (cs : List CacheParts) (c : CacheParts) → AreNoLists version n (map (list_in w) cs) →
     list_in w c ≡ list_in_turn version n → AreNoLists version (n + 1) (map (list_in w) (cs ++ c ∷ []))
 none_more version n w cs c are is =
-    subst (AreNoLists version (n + 1)) (sym (map-append (list_in w) cs (c ∷ []))) (lists_more version n (map (list_in w) cs) (list_in w c) are is)
+    subst (AreNoLists version (n + 1)) (sym (map-append (list_in w) cs (c ∷ [])))
+    (lists_more version n (map (list_in w) cs) (list_in w c) are is)
 
 -- the lists of caches of a version are none, if they are none of that version
 pub none_of : (w : View) (cs : WorkerCaches) (version : ℕ) → cs.version ≡ version →
-    AreNoLists version (4 * class_total version) (map (list_in w) cs.parts) → AreNoLists cs.version (4 * class_total cs.version) (map (list_in w) cs.parts)
+    AreNoLists version (4 * class_total version) (map (list_in w) cs.parts) →
+    AreNoLists cs.version (4 * class_total cs.version) (map (list_in w) cs.parts)
 none_of w cs version is none = subst (λ v. AreNoLists v (4 * class_total v) (map (list_in w) cs.parts)) (sym is) none
 
 -- each list is linked
@@ -131,7 +139,8 @@ linked_all v cs p class has = elim (class_cases cs.version class) [
     here : AreLinked v.words (slot_names (slice_index_or (lists_in v cs).lists k no_cache).titles)
     here = elim (cases_lt k (length cs.parts)) [
       | inl within ↦
-          subst (λ (l : CacheList). AreLinked v.words (slot_names l.titles)) (sym (get_or-map (list_in v) cs.parts k no_parts no_cache within))
+          subst (λ (l : CacheList). AreLinked v.words (slot_names l.titles))
+          (sym (get_or-map (list_in v) cs.parts k no_parts no_cache within))
           (has k no_parts within).chain.links
       | inr past ↦
           subst (λ (l : CacheList). AreLinked v.words (slot_names l.titles))
@@ -147,6 +156,7 @@ stock_relinked s w re is =
       owns = λ t. ap (λ (x : View). own_of x t) re.rest ∙ is.handles.owns t;
       refs = λ t. ap (λ (x : View). ref_of x t) re.rest ∙ is.handles.refs t;
       clean = ap unclean_of re.rest ∙ is.handles.clean;
+      sealed = λ t. ap (λ (x : View). sealed_of x t) re.rest ∙ is.handles.sealed t;
       made = λ i. made_for_kept s.view w lists (register_in s.registers i) (is.handles.made i);
     }) lists (λ t. let e = free_same s.view w re t in omega arith) (λ k. ap (λ (x : View). stake_of x k) re.rest)
 

@@ -1,9 +1,10 @@
 -- A copy of a handle: that it can be made, and the thread state after it.
 use Rattle.std.proofs.Common.{◌≡◌, ℕ, ◌<◌, List, length, refl, ◌∙◌, arith}
-use Rattle.std.specs.Prelude.{slice_set}
+use Rattle.std.specs.Prelude.{◌&&◌, slice_set}
 use Rattle.std.proofs.lemmas.List.{length-set}
 use Rattle.pa_slot.specs.declared.title.Title.{Title}
 use Rattle.pa_slot.specs.declared.word.Step.TheVariants as steps
+use Rattle.pa_slot.specs.Titles.{same_title}
 use Rattle.pa_slot.specs.Holdings.{one}
 use Rattle.pa_region.specs.declared.view.OwnTitle.{OwnTitle}
 use Rattle.pa_region.specs.Waiting.{is_unclean}
@@ -16,7 +17,7 @@ use Rattle.pa_op_specs.specs.Workers.{HasItsStake}
 use Rattle.pa_op_specs.proofs.Registers.{sum_set, made_set}
 use Rattle.pa_op_specs.proofs.Seeing.{made_kept, made_for_kept}
 use Rattle.pa_op_specs.proofs.Stakes.{least_is}
-use Rattle.pa_thread_state.proofs.Leaving.{clean_own}
+use Rattle.pa_thread_state.proofs.Leaving.{unsealed_own}
 use Rattle.pa_op_specs.proofs.Stocks.{register_has, stock_with}
 
 -- the thread state after a copy that found this word
@@ -29,7 +30,7 @@ pub can_copy : (s : StockValue) (from : ℕ) (h : Handle) → IsStock s → HasI
     HasHandleTo h (register_in s.registers from) → CanCount steps.Copy h.title s.view
 can_copy s from h is stake budget below has =
     let user = (register_has s from h is below has).0 in
-    let clean = clean_own s.view h.title is.handles.clean in
+    let own = unsealed_own s.view h.title is.handles.clean (is.handles.sealed h.title) in
     (omega arith, (least_is s.thread s.view is.stake stake).1, budget, tt)
 
 -- a register without a handle weighs nothing
@@ -48,8 +49,10 @@ none_pointed t Freed is = refl
 none_pointed t Cleared is = refl
 
 -- the thread state stays sound
-pub copied_stock : CountLeaves → OwnsChange → (s : StockValue) (from to word : ℕ) (h : Handle) → IsStock s → HasItsStake s → 0 < s.view.budget →
-    from < 64 → to < 64 → HasHandleTo h (register_in s.registers from) → HasNoHandle (register_in s.registers to) → IsStock (copied s h to word)
+pub copied_stock : CountLeaves → OwnsChange → (s : StockValue) (from to word : ℕ) (h : Handle) → IsStock s → HasItsStake s →
+    0 < s.view.budget →
+    from < 64 → to < 64 → HasHandleTo h (register_in s.registers from) → HasNoHandle (register_in s.registers to) →
+    IsStock (copied s h to word)
 copied_stock counts owns s from to word h is stake budget below within has bare =
     let t = h.title in
     let w = after_count steps.Copy t word s.view in
@@ -65,7 +68,9 @@ copied_stock counts owns s from to word h is stake budget below within has bare 
       refs = λ u. let a = leaves.refs u in let b = is.handles.refs u in let c = sum_set (refs_one u) rs to (Ref h) Empty inside in
           let d = none_pointed u (register_in rs to) bare in omega arith;
       clean = owns.1 t busy (λ (o : OwnTitle). one (is_unclean o.state)) s.view.owns (λ o. refl) ∙ is.handles.clean;
-      made = made_set w rs to (Ref h) inside (made_kept h s.view w refl made) (λ k. made_for_kept s.view w refl (register_in rs k) (is.handles.made k));
+      sealed = λ u. owns.1 t busy (λ (o : OwnTitle). one (same_title o.title u && o.sealed)) s.view.owns (λ o. refl) ∙ is.handles.sealed u;
+      made = made_set w rs to (Ref h) inside (made_kept h s.view w refl made)
+          (λ k. made_for_kept s.view w refl (register_in rs k) (is.handles.made k));
     })
     refl (λ u. let a = leaves.frees u in omega arith) leaves.entry.stakes
   where

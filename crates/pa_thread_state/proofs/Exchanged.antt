@@ -11,8 +11,10 @@ use Rattle.pa_op_specs.specs.Stocks.{StockValue}
 use Rattle.pa_thread_state.specs.Exchanging.{SwapsHandles}
 
 -- the exchange under the lock, by what the call of the cells says
-pub exchanges_is : {old new : CellsHeld} → (line cell index : ℕ) (given found : Option ParkedHandle) (s : StockValue) (w : View) → least_stake s.view.stakes ≡ s.thread →
-    MakesExchange line cell given s.view w old new → index ≡ length (made_with_cell cell (list_of 5 old.view)) → found ≡ cell_holds old.parked cell →
+pub exchanges_is : {old new : CellsHeld} → (line cell index : ℕ) (given found : Option ParkedHandle) (s : StockValue) (w : View) →
+    least_stake s.view.stakes ≡ s.thread →
+    MakesExchange line cell given s.view w old new → index ≡ length (made_with_cell cell (list_of 5 old.view)) →
+    found ≡ cell_holds old.parked cell →
     SwapsHandles line cell given found index s (record s { view = w })
 exchanges_is {old} {new} line cell index given found s w least makes place is_found =
     let (m, noted) = makes.noted in
@@ -20,7 +22,8 @@ exchanges_is {old} {new} line cell index given found s w least makes place is_fo
       older = list_of 5 old.view;
       made = m;
       list = noted.whole ∙ noted.list;
-      says = noted.says ∙ ap (λ (f : Option ParkedHandle). exchange_numbers (record { cell = cell; entry = exchange_entry line given f })) (sym is_found);
+      says = noted.says ∙ ap (λ (f : Option ParkedHandle). exchange_numbers (record { cell = cell; entry = exchange_entry line given f }))
+          (sym is_found);
       index_is = place;
       lends = subst (λ n. Lends n (Entered 5 m ∷ []) s.view w) least noted.lends;
       carries = noted.before;

@@ -29,14 +29,16 @@ use Rattle.pa_thread_state.proofs.Taking.{Asking, Took, for_asking, two_asking, 
 
 -- ---- a fill
 
-module _ (line p c want : ℕ) (s : StockValue) (u n : View) (ts : List Title) (gives : FillGives s.thread p line c want s.view u n ts) (is : IsStock s)
+module _ (line p c want : ℕ) (s : StockValue) (u n : View) (ts : List Title) (gives : FillGives s.thread p line c want s.view u n ts)
+    (is : IsStock s)
     (awares : IsAware s.view × IsAware u × IsAware n × IsAware (united u n)) (long : length u.words ≡ length n.words) (low : p < 4) where
   abbrev pub fill_act : RootAct
   fill_act = act.Fill c gives.asked (numbered_by n ts)
 
   pub fill_asking : Asking line p (act.Fill c gives.asked (numbered_by n ts) ∷ []) s.thread s.view u (united u n)
   fill_asking =
-      for_asking gives.index s.thread p line gives.asked (Some gives.first) (act.Fill c gives.asked (numbered_by n ts)) s.view u (united u n) gives.enters low refl
+      for_asking gives.index s.thread p line gives.asked (Some gives.first) (act.Fill c gives.asked (numbered_by n ts)) s.view u
+      (united u n) gives.enters low refl
       (left_begins u n 4 awares.3)
 
   pub fill_took : Took s u n ts
@@ -53,13 +55,22 @@ module _ (line p c want : ℕ) (s : StockValue) (u n : View) (ts : List Title) (
           root_entry line a,
           still_there gives.index s.thread p _ s.view u (united u n) m at (left_begins u n p awares.3),
           at.says,
-          (gives.asked, numbered_by n ts, refl, named n ts t among, All-contains (λ (x : Title). x.len ≡ slot_of c) ts t gives.long among, small),
+          (
+            gives.asked,
+            numbered_by n ts,
+            refl,
+            named n ts t among,
+            All-contains (λ (x : Title). x.len ≡ slot_of c) ts t gives.long among,
+            small,
+          ),
         );
       }
 
 -- all but the first of a fill can be loaded
-pub fill_loads : (line p c : ℕ) (s : StockValue) (u n : View) (t : Title) (rest : List Title) (gives : FillGives s.thread p line c (fill_of c) s.view u n (t ∷ rest)) → IsStock s →
-    (awares : IsAware s.view × IsAware u × IsAware n × IsAware (united u n)) → length u.words ≡ length n.words → p < 4 → HasClass s.caches.version c → titles_in s.caches p c ≡ [] →
+pub fill_loads : (line p c : ℕ) (s : StockValue) (u n : View) (t : Title) (rest : List Title)
+    (gives : FillGives s.thread p line c (fill_of c) s.view u n (t ∷ rest)) → IsStock s →
+    (awares : IsAware s.view × IsAware u × IsAware n × IsAware (united u n)) → length u.words ≡ length n.words → p < 4 →
+    HasClass s.caches.version c → titles_in s.caches p c ≡ [] →
     CanLoad p c rest (record s { view = united u n })
 fill_loads line p c s u n t rest gives is awares long low small empty =
     let took = fill_took line p c (fill_of c) s u n (t ∷ rest) gives is awares long low in
@@ -89,7 +100,8 @@ module _ (line p len : ℕ) (s : StockValue) (u n : View) (t : Title) (gives : M
     (awares : IsAware s.view × IsAware u × IsAware n × IsAware (united u n)) (long : length u.words ≡ length n.words) (low : p < 4) where
   pub map_asking : Asking line p (act.Map t.born (name_of t) len ∷ []) s.thread s.view u (united u n)
   map_asking =
-      two_asking t.born gives.index s.thread p line (take_entry line p (supers_for len) (Some gives.first)) (act.Map t.born (name_of t) len) s.view u (united u n) gives.enters low
+      two_asking t.born gives.index s.thread p line (take_entry line p (supers_for len) (Some gives.first))
+      (act.Map t.born (name_of t) len) s.view u (united u n) gives.enters low
       refl refl refl (left_begins u n 4 awares.3)
 
   pub map_took : Took s u n (t ∷ [])

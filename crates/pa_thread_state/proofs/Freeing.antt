@@ -1,6 +1,6 @@
 -- A free by the owner: that it can be made, and the thread state after it.
-use Rattle.std.proofs.Common.{◌≡◌, ℕ, ◌+◌, ◌<◌, List, length, refl, ◌∙◌, ap, arith}
-use Rattle.std.specs.Prelude.{slice_set}
+use Rattle.std.proofs.Common.{◌≡◌, ℕ, ◌+◌, ◌<◌, ◌≤◌, List, length, refl, ◌∙◌, ap, arith}
+use Rattle.std.specs.Prelude.{◌&&◌, slice_set}
 use Rattle.std.specs.List.{sum_by}
 use Rattle.std.proofs.lemmas.List.{length-set}
 use Rattle.pa_slot.specs.declared.title.Title.{Title}
@@ -36,14 +36,16 @@ abbrev pub freed : StockValue → Handle → ℕ → ℕ → StockValue
 freed s h r word = record s { view = freed_view s.view h.title word; registers = slice_set s.registers r Freed }
 
 -- an owner can free, and can make the step then
-pub can_free : (s : StockValue) (r : ℕ) (h : Handle) → IsStock s → HasItsStake s → 0 < s.view.budget → r < 64 → register_in s.registers r ≡ Own h →
+pub can_free : (s : StockValue) (r : ℕ) (h : Handle) → IsStock s → HasItsStake s → 0 < s.view.budget → r < 64 →
+    register_in s.registers r ≡ Own h →
     (0 < own_as s.view h.title Clean + own_as s.view h.title Dirty) × HasStake s.view × (0 < s.view.budget)
 can_free s r h is stake budget below own =
     let has = register_owns s r h is below own in
     let clean = clean_own s.view h.title is.handles.clean in
     (omega arith, (least_is s.thread s.view is.stake stake).1, budget)
 
-pub can_step : StatesAreOwns → OwnsChange → (s : StockValue) (r : ℕ) (h : Handle) → IsStock s → HasItsStake s → 0 < s.view.budget → r < 64 → register_in s.registers r ≡ Own h →
+pub can_step : StatesAreOwns → OwnsChange → (s : StockValue) (r : ℕ) (h : Handle) → IsStock s → HasItsStake s → 0 < s.view.budget → r < 64 →
+    register_in s.registers r ≡ Own h →
     CanCount steps.Free h.title (poisoned h.title s.view)
 can_step states owns s r h is stake budget below own =
     let can = can_free s r h is stake budget below own in
@@ -51,14 +53,27 @@ can_step states owns s r h is stake budget below own =
 
 -- an Own that isn't clean went with the free
 freed_clean : (t : Title) (os : List OwnTitle) → sum_by (λ (o : OwnTitle). one (is_unclean o.state)) os ≡ 0 →
-    sum_by (λ (o : OwnTitle). one (is_unclean o.state)) (without (is_own_of t) (changed (is_own_of t) (poisoned_to (content_count t)) os)) ≡ 0
+    sum_by (λ (o : OwnTitle). one (is_unclean o.state))
+    (without (is_own_of t) (changed (is_own_of t) (poisoned_to (content_count t)) os)) ≡ 0
 freed_clean t os clean =
     let e = ap (sum_by (λ (o : OwnTitle). one (is_unclean o.state))) (without_changed t (poisoned_to (content_count t)) (λ o. refl) os) in
     let less = without_less (is_own_of t) (λ (o : OwnTitle). one (is_unclean o.state)) os in
     omega arith
 
+-- no Own is sealed by a free
+freed_seals : (t u : Title) (os : List OwnTitle) →
+    sum_by (λ (o : OwnTitle). one (same_title o.title u && o.sealed))
+    (without (is_own_of t) (changed (is_own_of t) (poisoned_to (content_count t)) os))
+    ≤ sum_by (λ (o : OwnTitle). one (same_title o.title u && o.sealed)) os
+freed_seals t u os =
+    let e = ap (sum_by (λ (o : OwnTitle). one (same_title o.title u && o.sealed)))
+    (without_changed t (poisoned_to (content_count t)) (λ o. refl) os) in
+    let less = without_less (is_own_of t) (λ (o : OwnTitle). one (same_title o.title u && o.sealed)) os in
+    omega arith
+
 -- the thread state stays sound
-pub freed_stock : CountLeaves → OwnsChange → StatesAreOwns → (s : StockValue) (r word : ℕ) (h : Handle) → IsStock s → HasItsStake s → 0 < s.view.budget → r < 64 →
+pub freed_stock : CountLeaves → OwnsChange → StatesAreOwns → (s : StockValue) (r word : ℕ) (h : Handle) → IsStock s → HasItsStake s →
+    0 < s.view.budget → r < 64 →
     register_in s.registers r ≡ Own h → IsStock (freed s h r word)
 freed_stock counts owns states s r word h is stake budget below own =
     let t = h.title in
@@ -71,10 +86,12 @@ freed_stock counts owns states s r word h is stake budget below own =
       count = length-set rs r Freed ∙ is.handles.count;
       owns = λ u. let a = leaves.owns u in let b = is.handles.owns u in let c = sum_set (owns_one u) rs r Freed Empty inside in
           let d : owns_one u (register_in rs r) ≡ one (same_title t u) = ap (owns_one u) own in
-          let e = owns.1 t (poisoned_to (content_count t)) (λ (o : OwnTitle). one (same_title o.title u)) s.view.owns (λ o. refl) in omega arith;
+          let e = owns.1 t (poisoned_to (content_count t)) (λ (o : OwnTitle). one (same_title o.title u)) s.view.owns (λ o. refl) in
+          omega arith;
       refs = λ u. let a = leaves.refs u in let b = is.handles.refs u in let c = sum_set (refs_one u) rs r Freed Empty inside in
           let d : refs_one u (register_in rs r) ≡ 0 = ap (refs_one u) own in omega arith;
       clean = freed_clean t s.view.owns is.handles.clean;
+      sealed = λ u. let a = freed_seals t u s.view.owns in let b = is.handles.sealed u in omega arith;
       made = made_set w rs r Freed inside tt (λ k. made_for_kept s.view w refl (register_in rs k) (is.handles.made k));
     })
     refl (λ u. let a = leaves.frees u in omega arith) leaves.entry.stakes

@@ -22,7 +22,8 @@ list_there p class ts lists = go (p == p) (class == class) refl refl
     go true false e f = absurd (grind (arith, nat_tests))
     go false b e f = absurd (grind (arith, nat_tests))
 
-pub list_elsewhere : (p class q d : ℕ) (ts : List Title) (lists : ℕ → ℕ → List Title) → ((q ≡ p) × (d ≡ class) → ⊥) → with_titles p class ts lists q d ≡ lists q d
+pub list_elsewhere : (p class q d : ℕ) (ts : List Title) (lists : ℕ → ℕ → List Title) → ((q ≡ p) × (d ≡ class) → ⊥) →
+    with_titles p class ts lists q d ≡ lists q d
 list_elsewhere p class q d ts lists other = go (q == p) (d == class) refl refl
   where
     go : (a b : Bool) → (q == p) ≡ a → (d == class) ≡ b → (if a && b then ts else lists q d) ≡ lists q d
@@ -36,7 +37,8 @@ taken_few (suc n) [] = omega arith
 taken_few (suc n) (t ∷ ts) = let again = taken_few n ts in omega arith
 
 -- The slot can go to the front of what is left.
-pub can_spill : SlotsStaySeen → (line : ℕ) (h : Handle) (class keep words : ℕ) (s b : StockValue) → IsBack h s → h.class ≡ Some class → keep < limit_of class →
+pub can_spill : SlotsStaySeen → (line : ℕ) (h : Handle) (class keep words : ℕ) (s b : StockValue) → IsBack h s → h.class ≡ Some class →
+    keep < limit_of class →
     GivesTail line h.partition class keep s b → IsWellFormed words h.title → CanList h class b
 can_spill stays line h class keep words s b back class_is few given well = record {
   class_is = class_is;
@@ -45,14 +47,17 @@ can_spill stays line h class keep words s b back class_is few given well = recor
   made = stays h s.view b.view back.made (given.lists h.partition);
   well = (words, well);
   room =
-      let e = given.kept h.partition class ∙ list_there h.partition class (take keep (titles_in s.caches h.partition class)) (titles_in s.caches) in
-      let l : length (titles_in b.caches h.partition class) ≡ length (take keep (titles_in s.caches h.partition class)) = ap (λ (ts : List Title). length ts) e in
+      let e = given.kept h.partition class ∙
+      list_there h.partition class (take keep (titles_in s.caches h.partition class)) (titles_in s.caches) in
+      let l : length (titles_in b.caches h.partition class) ≡ length (take keep (titles_in s.caches h.partition class)) =
+      ap (λ (ts : List Title). length ts) e in
       let f = taken_few keep (titles_in s.caches h.partition class) in
       omega arith;
 }
 
 -- the list of partition p and the class with this at the front
-pub front_list : (cache : Cache) (p c q d : ℕ) (xs : List Numbered) → ((q ≡ p) × (d ≡ c) × (with_list cache p c xs q d ≡ xs)) ⊎ (((q ≡ p) × (d ≡ c) → ⊥) × (with_list cache p c xs q d ≡ cache q d))
+pub front_list : (cache : Cache) (p c q d : ℕ) (xs : List Numbered) → ((q ≡ p) × (d ≡ c) × (with_list cache p c xs q d ≡ xs)) ⊎
+    (((q ≡ p) × (d ≡ c) → ⊥) × (with_list cache p c xs q d ≡ cache q d))
 front_list cache p c q d xs = elim (eqb_tells q p) [
   | inl y ↦ elim (eqb_tells d c) [
     | inl z ↦ inl (y.1, z.1, rw (y.0, z.0) refl)

@@ -1,5 +1,5 @@
 -- A worker's stake handed over and taken back: the thread state in between and after.
-use Rattle.std.proofs.Common.{◌≡◌, ℕ, ◌<◌, ◌≤◌, Bool, true, false, not, List, [], ◌∷◌, length, refl, sym, ap, subst, arith, ◌⊎◌, inl, inr}
+use Rattle.std.proofs.Common.{◌≡◌, ℕ, ◌<◌, ◌≤◌, Bool, true, false, not, List, [], ◌∷◌, length, refl, sym, ◌∙◌, ap, subst, arith, ◌⊎◌, inl, inr}
 use Rattle.std.specs.Prelude.{◌==◌}
 use Rattle.std.specs.List.{sum_by, filter}
 use Rattle.std.proofs.lemmas.List.Sums.{sum_by-cons, sum_by-append}
@@ -25,6 +25,7 @@ use Rattle.pa_op_specs.specs.Stocks.{StockRegister, StockValue, IsStock, HoldsSt
 use Rattle.pa_op_specs.proofs.Quiet.{same_titles}
 use Rattle.pa_op_specs.proofs.Seeing.{made_for_kept, made_kept}
 use Rattle.pa_op_specs.proofs.Stocks.{stock_kept}
+use Rattle.pa_thread_state.proofs.Leaving.{seals_beside}
 
 -- without some members a sum isn't greater
 filter_less : {A : Type 0} (test : A → Bool) (f : A → ℕ) (xs : List A) → sum_by f (filter test xs) ≤ sum_by f xs
@@ -48,19 +49,22 @@ told_stock s is =
       owns = is.handles.owns;
       refs = is.handles.refs;
       clean = is.handles.clean;
+      sealed = is.handles.sealed;
       made = λ k. made_for_kept s.view w refl (register_in s.registers k) (is.handles.made k);
     })
     (record {
       small = is.stake.small;
       only = λ k other.
           let z = is.stake.only k other in
-          let less = filter_less (λ (x : Stake). not ((stake_parcel s.thread).stakes x.number)) (λ (x : Stake). one (x.number == k)) s.view.stakes in
+          let less = filter_less (λ (x : Stake). not ((stake_parcel s.thread).stakes x.number))
+          (λ (x : Stake). one (x.number == k)) s.view.stakes in
           omega arith;
     })
     (λ h made. made_kept h s.view w refl made) (λ t. omega arith)
 
 -- a view that has no handle has no Own that isn't clean, and none poisoned
-none_owned : (os : List OwnTitle) → ((t : Title) → sum_by (λ (o : OwnTitle). one (same_title o.title t)) os ≡ 0) → sum_by (λ (o : OwnTitle). one (is_unclean o.state)) os ≡ 0
+none_owned : (os : List OwnTitle) → ((t : Title) → sum_by (λ (o : OwnTitle). one (same_title o.title t)) os ≡ 0) →
+    sum_by (λ (o : OwnTitle). one (is_unclean o.state)) os ≡ 0
 none_owned [] none = refl
 none_owned (o ∷ os) none =
     let z = none o.title in
@@ -69,26 +73,32 @@ none_owned (o ∷ os) none =
     absurd (omega arith)
 
 -- the thread state after the stake came back
-pub heard_stock : BeginningsJoin → SlotsStaySeen → (s : StockValue) (n : View) → IsStock s → IsForThread s.thread n → IsAware (united s.view n) →
+pub heard_stock : BeginningsJoin → SlotsStaySeen → (s : StockValue) (n : View) → IsStock s → IsForThread s.thread n →
+    IsAware (united s.view n) →
     IsStock (record s { view = united s.view n })
 heard_stock joins stays s n is for aware =
     let w = united s.view n in
     stock_kept s w s.registers is
     (record {
       count = is.handles.count;
-      owns = λ t. let a = is.handles.owns t in let b = for.unused t in omega (arith, sum_by-append (λ (o : OwnTitle). one (same_title o.title t)) s.view.owns n.owns);
-      refs = λ t. let a = is.handles.refs t in let b = for.unused t in omega (arith, sum_by-append (λ (u : Title). one (same_title u t)) s.view.refs n.refs);
+      owns = λ t. let a = is.handles.owns t in let b = for.unused t in
+          omega (arith, sum_by-append (λ (o : OwnTitle). one (same_title o.title t)) s.view.owns n.owns);
+      refs = λ t. let a = is.handles.refs t in let b = for.unused t in
+          omega (arith, sum_by-append (λ (u : Title). one (same_title u t)) s.view.refs n.refs);
       clean =
           let a = is.handles.clean in
           let b = none_owned n.owns (λ t. let e = for.unused t in omega arith) in
           omega (arith, sum_by-append (λ (o : OwnTitle). one (is_unclean o.state)) s.view.owns n.owns);
+      sealed = λ t. seals_beside s.view n t (let e = for.unused t in omega arith) ∙ is.handles.sealed t;
       made = λ k. made_for (register_in s.registers k) (is.handles.made k);
     })
     (record {
       small = is.stake.small;
-      only = λ k other. let a = is.stake.only k other in let b = for.stake.only k other in omega (arith, sum_by-append (λ (x : Stake). one (x.number == k)) s.view.stakes n.stakes);
+      only = λ k other. let a = is.stake.only k other in let b = for.stake.only k other in
+          omega (arith, sum_by-append (λ (x : Stake). one (x.number == k)) s.view.stakes n.stakes);
     })
-    (λ h m. stays h s.view w m (joins s.view n h.partition aware).0) (λ t. omega (arith, sum_by-append (λ (u : Title). one (same_title u t)) s.view.frees n.frees))
+    (λ h m. stays h s.view w m (joins s.view n h.partition aware).0)
+    (λ t. omega (arith, sum_by-append (λ (u : Title). one (same_title u t)) s.view.frees n.frees))
   where
     made_for : (r : StockRegister) → IsMadeFor s.view r → IsMadeFor (united s.view n) r
     made_for Empty m = tt
@@ -98,7 +108,8 @@ heard_stock joins stays s n is for aware =
     made_for Cleared m = tt
 
 -- the lists of a worker that gets its stake back are as they were
-pub heard_lists : FreeNumbersStay → (s : StockValue) (n : View) → IsStock s → IsAware s.view → IsAware n → IsAware (united s.view n) → length s.view.words ≡ length n.words →
+pub heard_lists : FreeNumbersStay → (s : StockValue) (n : View) → IsStock s → IsAware s.view → IsAware n → IsAware (united s.view n) →
+    length s.view.words ≡ length n.words →
     SameLists (listed_in (record s { view = united s.view n })) (listed_in s)
 heard_lists law s n is aware other both long p c =
     same_titles s.view (united s.view n) (titles_in s.caches p c) (λ t among.
@@ -109,13 +120,15 @@ heard_lists law s n is aware other both long p c =
 goes_alone : (r k : ℕ) → ((r == k) ≡ true) × ((stake_parcel r).stakes k ≡ true) ⊎ ((r == k) ≡ false) × ((stake_parcel r).stakes k ≡ false)
 goes_alone r k = go (r == k) refl
   where
-    go : (b : Bool) → (r == k) ≡ b → ((r == k) ≡ true) × ((stake_parcel r).stakes k ≡ true) ⊎ ((r == k) ≡ false) × ((stake_parcel r).stakes k ≡ false)
+    go : (b : Bool) → (r == k) ≡ b → ((r == k) ≡ true) × ((stake_parcel r).stakes k ≡ true) ⊎ ((r == k) ≡ false) ×
+        ((stake_parcel r).stakes k ≡ false)
     go true is = inl (is, rw is refl)
     go false is = inr (is, rw is refl)
 
 -- all stakes of this number go
 all_go : (r : ℕ) (ss : List Stake) →
-    sum_by (λ (x : Stake). one (x.number == r)) (filter (λ (x : Stake). (stake_parcel r).stakes x.number) ss) ≡ sum_by (λ (x : Stake). one (x.number == r)) ss
+    sum_by (λ (x : Stake). one (x.number == r)) (filter (λ (x : Stake). (stake_parcel r).stakes x.number) ss) ≡ sum_by
+    (λ (x : Stake). one (x.number == r)) ss
 all_go r [] = refl
 all_go r (s ∷ ss) =
     let again = all_go r ss in
@@ -130,7 +143,8 @@ all_go r (s ∷ ss) =
     other_way a b e = grind (arith, nat_tests)
 
 -- a worker can take back the note with the stake that it lent, and has no stake in between
-pub told_again : (thread : ℕ) (v : View) → HoldsStake thread v → 0 < stake_of v thread → IsForThread thread (given_after (stake_parcel thread) v)
+pub told_again : (thread : ℕ) (v : View) → HoldsStake thread v → 0 < stake_of v thread →
+    IsForThread thread (given_after (stake_parcel thread) v)
 told_again thread v holds has = record {
   stake = record {
     small = holds.small;
@@ -143,11 +157,13 @@ told_again thread v holds has = record {
   unused = λ t. refl;
 }
 
-pub told_none : (thread : ℕ) (v : View) → HoldsStake thread v → IsParted v (left_after (stake_parcel thread) v) (given_after (stake_parcel thread) v) →
+pub told_none : (thread : ℕ) (v : View) → HoldsStake thread v →
+    IsParted v (left_after (stake_parcel thread) v) (given_after (stake_parcel thread) v) →
     (k : ℕ) → stake_of (left_after (stake_parcel thread) v) k ≡ 0
 told_none thread v holds parted k =
     let sum = parted.stakes k in
     elim (eqb_tells k thread) [
-      | inl y ↦ (let e = all_go thread v.stakes in subst (λ n. stake_of (left_after (stake_parcel thread) v) n ≡ 0) (sym y.1) (let at = parted.stakes thread in omega arith))
+      | inl y ↦ (let e = all_go thread v.stakes in
+          subst (λ n. stake_of (left_after (stake_parcel thread) v) n ≡ 0) (sym y.1) (let at = parted.stakes thread in omega arith))
       | inr n ↦ (let z = holds.only k n.1 in omega arith)
     ]

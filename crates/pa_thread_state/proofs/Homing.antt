@@ -47,6 +47,7 @@ use Rattle.pa_thread_state.specs.Changes.{IsBack}
 use Rattle.pa_thread_state.specs.Homing.{ComesHome, GoesHome, IsSettled, KeepsNoList, Spills, without_title, note_of_title}
 use Rattle.pa_op_specs.proofs.Quiet.{same_titles}
 use Rattle.pa_op_specs.proofs.Seeing.{made_kept, made_for_kept}
+use Rattle.pa_thread_state.proofs.Leaving.{seals_beside}
 use Rattle.pa_thread_state.proofs.Parking.{made_for_more}
 use Rattle.pa_thread_state.specs.Lists.{WorkerCaches, lists_in}
 use Rattle.pa_thread_state.proofs.Staying.{HasThem, kept_has, same_has, after_as}
@@ -92,19 +93,22 @@ left_enters stake line t v =
     }
 
 -- a seat that hands a title over has the other free titles
-pub left_frees : (t : Title) (v : View) → IsAware v → 0 < free_of v t → (u : Title) → (t ≡ u → ⊥) → free_of (without_title t v) u ≡ free_of v u
+pub left_frees : (t : Title) (v : View) → IsAware v → 0 < free_of v t → (u : Title) → (t ≡ u → ⊥) →
+    free_of (without_title t v) u ≡ free_of v u
 left_frees t v aware free u other =
     (keeps_but (t ∷ []) v (alone t) (free_alone t v free) aware.free_once).stays u
     (λ among. other (in_alone t u among))
 
 -- after the handle's title left the seat, each title on the thread's lists is still free with the seat
-left_listed : (s : StockValue) (h : Handle) → IsStock s → IsAware s.view → IsBack h s → (p class : ℕ) (t : Title) → Contains (titles_in s.caches p class) t →
+left_listed : (s : StockValue) (h : Handle) → IsStock s → IsAware s.view → IsBack h s → (p class : ℕ) (t : Title) →
+    Contains (titles_in s.caches p class) t →
     0 < free_of (without_title h.title s.view) t
 left_listed s h is aware back p class t among =
     let other : h.title ≡ t → ⊥ = λ same. back.new p class (subst (λ x. Contains (titles_in s.caches p class) x) (sym same) among) in
     subst (λ n. 0 < n) (sym (left_frees h.title s.view aware back.free t other)) (is.lists.free p class t among)
 
-pub left_stock : (s : StockValue) (h : Handle) → IsStock s → IsAware s.view → IsBack h s → IsStock (record s { view = without_title h.title s.view })
+pub left_stock : (s : StockValue) (h : Handle) → IsStock s → IsAware s.view → IsBack h s →
+    IsStock (record s { view = without_title h.title s.view })
 left_stock s h is aware back =
     let w = without_title h.title s.view in
     record {
@@ -114,6 +118,7 @@ left_stock s h is aware back =
         owns = is.handles.owns;
         refs = is.handles.refs;
         clean = is.handles.clean;
+        sealed = is.handles.sealed;
         made = λ k. made_for_kept s.view w refl (register_in s.registers k) (is.handles.made k);
       };
       lists = record {
@@ -138,7 +143,8 @@ entry_with e act is = ap (λ a. record e { act = a }) is
 numbers_among : (ms : List Made) (m : Made) (e : RootEntry) (act : RootAct) → Contains ms m → m.numbers ≡ root_numbers e → e.act ≡ act →
     Contains (map (λ (n : Made). n.numbers) ms) (root_numbers (root_entry e.line act))
 numbers_among ms m e act among says is =
-    subst (λ ns. Contains (map (λ (n : Made). n.numbers) ms) ns) (says ∙ ap root_numbers (entry_with e act is)) (map_in (λ (n : Made). n.numbers) ms m among)
+    subst (λ ns. Contains (map (λ (n : Made). n.numbers) ms) ns) (says ∙ ap root_numbers (entry_with e act is))
+    (map_in (λ (n : Made). n.numbers) ms m among)
 
 -- how its slot was made was seen, as the root asks for it
 pub seen_map : (h : Handle) (v : View) → HasSeenMade h v → h.class ≡ None → HasSeenMap h.partition v h.title
@@ -164,7 +170,8 @@ made_long h v class made of =
     long
 
 -- a class that the version doesn't have, or whose limit is 0, keeps no list
-pub no_list : (h : Handle) (s : StockValue) (class : ℕ) → h.class ≡ Some class → (HasClass s.caches.version class × (0 < limit_of class) → ⊥) →
+pub no_list : (h : Handle) (s : StockValue) (class : ℕ) → h.class ≡ Some class →
+    (HasClass s.caches.version class × (0 < limit_of class) → ⊥) →
     KeepsNoList h s
 no_list h s class of none k is real =
     let same : k ≡ class = cc in
@@ -180,26 +187,31 @@ home_settles line h s after (Ok x) none home = inl (none, home)
 home_settles line h s after (Err e) none home = tt
 
 pub spill_settles : {A E : Type 0} (line class : ℕ) (h : Handle) (s after : StockValue) (result : Result A E) → h.class ≡ Some class →
-    HasClass s.caches.version class → 0 < limit_of class → OnOk result (Spills line h class s after) → OnOk result (IsSettled line h s after)
+    HasClass s.caches.version class → 0 < limit_of class → OnOk result (Spills line h class s after) →
+    OnOk result (IsSettled line h s after)
 spill_settles line class h s after (Ok x) of real some spills = inr (class, of, real, some, spills)
 spill_settles line class h s after (Err e) of real some spills = tt
 
 -- the stake was lent for it
-pub comes_lends : (class : Option ℕ) (r p line : ℕ) (v w note : View) (t : Title) → ComesHome class r p line v w note t → (es : List Entry) × Lends r es v w
+pub comes_lends : (class : Option ℕ) (r p line : ℕ) (v w note : View) (t : Title) → ComesHome class r p line v w note t →
+    (es : List Entry) × Lends r es v w
 comes_lends None r p line v w note t comes = (_, comes.enters.lends)
 comes_lends (Some class) r p line v w note t comes = (_, comes.1.lends)
 
 -- The lists are as they were, each title at its number.
 pub home_lists : (s : StockValue) (h : Handle) (w : View) (r : ℕ) (es : List Entry) → IsStock s → IsAware s.view → IsBack h s →
-    IsAware (without_title h.title s.view) → IsAware w → Lends r es (without_title h.title s.view) w → SameLists (listed_in (record s { view = w })) (listed_in s)
+    IsAware (without_title h.title s.view) → IsAware w → Lends r es (without_title h.title s.view) w →
+    SameLists (listed_in (record s { view = w })) (listed_in s)
 home_lists s h w r es is aware back left_aware after_aware lends p class =
     same_titles s.view w (titles_in s.caches p class)
     (λ t among.
     let well = is.lists.well p class t among in
-    kept_number (without_title h.title s.view) w well.0 t left_aware after_aware lends.keeps well.1 (left_listed s h is aware back p class t among))
+    kept_number (without_title h.title s.view) w well.0 t left_aware after_aware lends.keeps well.1
+    (left_listed s h is aware back p class t among))
 
 -- the seat that lent its stake for it, or kept it, has a sound thread state with its lists
-pub delivered_has : {A E : Type 0} → SlotsStaySeen → (s : StockValue) (cs : WorkerCaches) (w note : View) (class : Option ℕ) (r p line : ℕ) (t : Title)
+pub delivered_has : {A E : Type 0} → SlotsStaySeen →
+    (s : StockValue) (cs : WorkerCaches) (w note : View) (class : Option ℕ) (r p line : ℕ) (t : Title)
     (result : Result A E) → s.caches ≡ lists_in s.view cs → IsStock s → All (HoldsList s.view) cs.parts →
     OnOk result (ComesHome class r p line s.view w note t) → OnErr result (w ≡ s.view) → HasThem s w s.registers cs
 delivered_has stays s cs w note class r p line t (Ok x) are is has comes same =
@@ -212,7 +224,8 @@ pub delivered_same : {A E : Type 0} (s : StockValue) (cs : WorkerCaches) (w : Vi
 delivered_same s cs w (Ok x) them same = tt
 delivered_same s cs w (Err e) them same = after_as s w s.view s.registers cs same them
 
-pub same_view : {A E : Type 0} (result : Result A E) (seat before : Share) → OnErr result (seat ≡ before) → OnErr result (seat.view ≡ before.view)
+pub same_view : {A E : Type 0} (result : Result A E) (seat before : Share) → OnErr result (seat ≡ before) →
+    OnErr result (seat.view ≡ before.view)
 same_view (Ok x) seat before same = tt
 same_view (Err e) seat before same = ap (λ (n : Share). n.view) same
 
@@ -224,14 +237,17 @@ any_ok (Err e) P is = tt
 -- By what the calls say: it was handed over, and its root took it.
 pub went_home : (line : ℕ) (h : Handle) (s part after : StockValue) (note : View) → IsStock s → IsAware s.view → IsBack h s →
     part ≡ record s { view = without_title h.title s.view } → note ≡ note_of_title h.title s.view → IsAware part.view → IsAware after.view →
-    ComesHome h.class part.thread h.partition line part.view after.view note h.title → after ≡ record part { view = after.view } → GoesHome line h s after
+    ComesHome h.class part.thread h.partition line part.view after.view note h.title → after ≡ record part { view = after.view } →
+    GoesHome line h s after
 went_home line h s part after note is aware back part_is note_is part_aware after_aware comes same =
     let left = subst (λ (z : StockValue). IsAware z.view) part_is part_aware in
-    let came : ComesHome h.class s.thread h.partition line (without_title h.title s.view) after.view (note_of_title h.title s.view) h.title =
+    let came : ComesHome h.class s.thread h.partition line (without_title h.title s.view) after.view
+    (note_of_title h.title s.view) h.title =
     subst (λ (n : View). ComesHome h.class s.thread h.partition line (without_title h.title s.view) after.view n h.title) note_is
     (subst (λ (z : StockValue). ComesHome h.class z.thread h.partition line z.view after.view note h.title) part_is comes) in
     let whole : after ≡ record s { view = after.view } = same ∙ ap (λ (z : StockValue). record z { view = after.view }) part_is in
-    let lends = comes_lends h.class s.thread h.partition line (without_title h.title s.view) after.view (note_of_title h.title s.view) h.title came in
+    let lends = comes_lends h.class s.thread h.partition line (without_title h.title s.view) after.view
+    (note_of_title h.title s.view) h.title came in
     record {
       comes = came;
       same = whole;
@@ -246,23 +262,29 @@ pub back_stake : (v n : View) (k : ℕ) → 0 < stake_of v k → 0 < stake_of (u
 back_stake v n k stake = omega (arith, sum_by-append (λ (x : Stake). one (x.number == k)) v.stakes n.stakes)
 
 -- the thread state with a note that has free titles alone
-pub back_stock : BeginningsJoin → SlotsStaySeen → (s : StockValue) (n : View) (ts : List Title) → IsStock s → HasOnly ts n → IsAware (united s.view n) →
+pub back_stock : BeginningsJoin → SlotsStaySeen → (s : StockValue) (n : View) (ts : List Title) → IsStock s → HasOnly ts n →
+    IsAware (united s.view n) →
     IsStock (record s { view = united s.view n })
 back_stock joins stays s n ts is has aware =
     let w = united s.view n in
     stock_kept s w s.registers is
     (record {
       count = is.handles.count;
-      owns = λ t. let a = is.handles.owns t in let b = has.handles t in omega (arith, sum_by-append (λ (o : OwnTitle). one (same_title o.title t)) s.view.owns n.owns);
-      refs = λ t. let a = is.handles.refs t in let b = has.handles t in omega (arith, sum_by-append (λ (u : Title). one (same_title u t)) s.view.refs n.refs);
+      owns = λ t. let a = is.handles.owns t in let b = has.handles t in
+          omega (arith, sum_by-append (λ (o : OwnTitle). one (same_title o.title t)) s.view.owns n.owns);
+      refs = λ t. let a = is.handles.refs t in let b = has.handles t in
+          omega (arith, sum_by-append (λ (u : Title). one (same_title u t)) s.view.refs n.refs);
       clean =
           let a = is.handles.clean in
           let b = no_own_clean n (λ t. let e = has.handles t in omega arith) in
           omega (arith, sum_by-append (λ (o : OwnTitle). one (is_unclean o.state)) s.view.owns n.owns);
+      sealed = λ t. seals_beside s.view n t (let e = has.handles t in omega arith) ∙ is.handles.sealed t;
       made = λ k. made_for_more stays s.view w (λ q. (joins s.view n q aware).0) (register_in s.registers k) (is.handles.made k);
     })
     (record {
       small = is.stake.small;
-      only = λ k other. let a = is.stake.only k other in let b = has.stakes k in omega (arith, sum_by-append (λ (x : Stake). one (x.number == k)) s.view.stakes n.stakes);
+      only = λ k other. let a = is.stake.only k other in let b = has.stakes k in
+          omega (arith, sum_by-append (λ (x : Stake). one (x.number == k)) s.view.stakes n.stakes);
     })
-    (λ h m. stays h s.view w m (joins s.view n h.partition aware).0) (λ t. omega (arith, sum_by-append (λ (u : Title). one (same_title u t)) s.view.frees n.frees))
+    (λ h m. stays h s.view w m (joins s.view n h.partition aware).0)
+    (λ t. omega (arith, sum_by-append (λ (u : Title). one (same_title u t)) s.view.frees n.frees))

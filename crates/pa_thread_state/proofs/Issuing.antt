@@ -1,6 +1,6 @@
 -- An issue of a free title to a register: that it can be made, and the thread state after it.
-use Rattle.std.proofs.Common.{◌≡◌, ℕ, ◌-◌, ◌<◌, ◌≤◌, true, List, ◌∷◌, length, refl, sym, ◌∙◌, ap, subst, arith, inl, inr}
-use Rattle.std.specs.Prelude.{Contains, slice_set}
+use Rattle.std.proofs.Common.{◌≡◌, ℕ, ◌-◌, ◌<◌, ◌≤◌, Bool, true, false, List, ◌∷◌, length, refl, sym, ◌∙◌, ap, subst, arith, inl, inr}
+use Rattle.std.specs.Prelude.{◌&&◌, Contains, slice_set}
 use Rattle.std.specs.List.{sum_by}
 use Rattle.std.proofs.lemmas.List.{length-set}
 use Rattle.std.proofs.lemmas.List.Sums.{sum_by-cons}
@@ -40,7 +40,8 @@ abbrev pub issued : StockValue → Handle → ℕ → ℕ → StockValue
 issued s h r word = record s { view = issued_view s.view h.title word; registers = slice_set s.registers r (Own h) }
 
 -- an issue of a free title with a zeroed content can be made
-pub can_issue : (s : StockValue) (t : Title) (z : View) → z ≡ zeroed t s.view → IsStock s → HasItsStake s → 0 < s.view.budget → 0 < free_of s.view t →
+pub can_issue : (s : StockValue) (t : Title) (z : View) → z ≡ zeroed t s.view → IsStock s → HasItsStake s → 0 < s.view.budget →
+    0 < free_of s.view t →
     HasContentFrom z.words t 0 0 → CanCount steps.Issue t z
 can_issue s t z e is stake budget free content = (
   subst (λ (v : View). 0 < free_of v t) (sym e) free,
@@ -53,13 +54,31 @@ can_issue s t z e is stake budget free content = (
 pub not_listed : (s : StockValue) (h : Handle) → IsBack h s → (p c : ℕ) (u : Title) → Contains (titles_in s.caches p c) u → h.title ≡ u → ⊥
 not_listed s h back p c u among same = back.new p c (subst (λ x. Contains (titles_in s.caches p c) x) (sym same) among)
 
+-- the Own that an issue gives
+abbrev new_own : Title → OwnTitle
+new_own t = record { title = t; state = Clean; idle = true; sealed = false }
+
 -- an Own that is new is clean
 own_clean : (t : Title) (os : List OwnTitle) → sum_by (λ (o : OwnTitle). one (is_unclean o.state)) os ≡ 0 →
-    sum_by (λ (o : OwnTitle). one (is_unclean o.state)) (record { title = t; state = Clean; idle = true } ∷ os) ≡ 0
-own_clean t os none = let e = sum_by-cons (λ (o : OwnTitle). one (is_unclean o.state)) (record { title = t; state = Clean; idle = true }) os in omega arith
+    sum_by (λ (o : OwnTitle). one (is_unclean o.state)) (new_own t ∷ os) ≡ 0
+own_clean t os none = let e = sum_by-cons (λ (o : OwnTitle). one (is_unclean o.state)) (new_own t) os in omega arith
+
+-- and not sealed
+own_seals : (t u : Title) (os : List OwnTitle) →
+    sum_by (λ (o : OwnTitle). one (same_title o.title u && o.sealed)) (new_own t ∷ os)
+    ≡ sum_by (λ (o : OwnTitle). one (same_title o.title u && o.sealed)) os
+own_seals t u os =
+    let e = sum_by-cons (λ (o : OwnTitle). one (same_title o.title u && o.sealed)) (new_own t) os in
+    let z = none (same_title t u) in
+    omega arith
+  where
+    none : (b : Bool) → one (b && false) ≡ 0
+    none true = refl
+    none false = refl
 
 -- the thread state stays sound
-pub issued_stock : CountLeaves → (s : StockValue) (r word : ℕ) (h : Handle) → IsStock s → CanCount steps.Issue h.title (zeroed h.title s.view) → r < 64 →
+pub issued_stock : CountLeaves → (s : StockValue) (r word : ℕ) (h : Handle) → IsStock s →
+    CanCount steps.Issue h.title (zeroed h.title s.view) → r < 64 →
     HasNoHandle (register_in s.registers r) → IsBack h s → IsStock (issued s h r word)
 issued_stock counts s r word h is can below bare back = record {
   partitions = is.partitions;
@@ -70,7 +89,9 @@ issued_stock counts s r word h is can below bare back = record {
     refs = λ u. let a = leaves.refs u in let b = is.handles.refs u in let c = sum_set (refs_one u) rs r (Own h) Empty inside in
         let d = none_pointed u (register_in rs r) bare in omega arith;
     clean = own_clean t s.view.owns is.handles.clean;
-    made = made_set w rs r (Own h) inside (made_kept h s.view w refl back.made) (λ k. made_for_kept s.view w refl (register_in rs k) (is.handles.made k));
+    sealed = λ u. own_seals t u s.view.owns ∙ is.handles.sealed u;
+    made = made_set w rs r (Own h) inside (made_kept h s.view w refl back.made)
+        (λ k. made_for_kept s.view w refl (register_in rs k) (is.handles.made k));
   };
   lists = record {
     count = is.lists.count;
@@ -109,7 +130,8 @@ issued_stock counts s r word h is can below bare back = record {
 -- ---- by what the calls say
 
 -- what an issue is, by what the calls of the seat say of its view
-pub issues : (s : StockValue) (r word : ℕ) (h : Handle) (z w : View) → z ≡ zeroed h.title s.view → w ≡ after_count steps.Issue h.title word z →
+pub issues : (s : StockValue) (r word : ℕ) (h : Handle) (z w : View) → z ≡ zeroed h.title s.view →
+    w ≡ after_count steps.Issue h.title word z →
     CanCount steps.Issue h.title z → IsFound h.title word z → IsAware z → 16 ≤ h.title.len →
     Issues h r (answers.Made (seen_at h word) (h.title.len - 8)) s (record s { view = w; registers = slice_set s.registers r (Own h) })
 issues s r word h z w zeros is can found aware long = record {
@@ -117,7 +139,8 @@ issues s r word h z w zeros is can found aware long = record {
   answer_is = refl;
   long = long;
   slot = refl;
-  after_is = ap (λ v. record s { view = v; registers = slice_set s.registers r (Own h) }) (is ∙ ap (after_count steps.Issue h.title word) zeros);
+  after_is = ap (λ v. record s { view = v; registers = slice_set s.registers r (Own h) })
+      (is ∙ ap (after_count steps.Issue h.title word) zeros);
   able = subst (CanCount steps.Issue h.title) zeros can;
   found = subst (IsFound h.title word) zeros found;
   number = ap number_of (found.known can.0) ∙ (aware.free_seen h.title can.0 ∙ ap (λ v. seen_of v h.title) zeros);

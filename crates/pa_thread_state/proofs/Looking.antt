@@ -33,7 +33,8 @@ idle_unclean word o = go (refs_of word == 0)
     go false = refl
 
 -- the thread state stays sound
-pub looked_stock : LookLeaves → OwnsChange → (s : StockValue) (word : ℕ) (h : Handle) → IsStock s → HasItsStake s → IsStock (looked s h word)
+pub looked_stock : LookLeaves → OwnsChange → (s : StockValue) (word : ℕ) (h : Handle) → IsStock s → HasItsStake s →
+    IsStock (looked s h word)
 looked_stock looks owns s word h is stake =
     let t = h.title in
     let w = after_look t word s.view in
@@ -44,6 +45,7 @@ looked_stock looks owns s word h is stake =
       owns = λ u. leaves.0.owns u ∙ is.handles.owns u;
       refs = λ u. leaves.0.refs u ∙ is.handles.refs u;
       clean = owns.1 t (idle_if word) (λ (o : OwnTitle). one (is_unclean o.state)) s.view.owns (idle_unclean word) ∙ is.handles.clean;
+      sealed = λ u. leaves.0.sealed u ∙ is.handles.sealed u;
       made = λ k. made_for_kept s.view w refl (register_in s.registers k) (is.handles.made k);
     })
     refl (λ u. let a = leaves.0.frees u in omega arith) leaves.1.stakes

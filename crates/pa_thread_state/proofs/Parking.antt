@@ -7,11 +7,11 @@ use Rattle.std.proofs.lemmas.List.Sums.{sum_by-cons, sum_by-append}
 use Rattle.std.proofs.lemmas.Bool.Decides.{eqb_tells}
 use Rattle.pa_slot.specs.declared.title.Title.{Title}
 use Rattle.pa_slot.specs.Titles.{same_title}
-use Rattle.pa_slot.specs.Holdings.{one, OwnOf, RefOf}
+use Rattle.pa_slot.specs.Holdings.{one, OwnOf, SealedOwn, RefOf}
 use Rattle.pa_region.specs.declared.view.OwnTitle.{OwnTitle}
 use Rattle.pa_region.specs.declared.view.Stake.{Stake}
 use Rattle.pa_region.specs.declared.view.View.{View}
-use Rattle.pa_region.specs.Views.{own_of, ref_of, stake_of}
+use Rattle.pa_region.specs.Views.{own_of, sealed_of, ref_of, stake_of}
 use Rattle.pa_region.specs.Waiting.{is_unclean}
 use Rattle.pa_region.specs.Pairs.{log_among}
 use Rattle.pa_region.specs.Lists.{list_of, IsBeginning}
@@ -20,7 +20,7 @@ use Rattle.pa_region.specs.Hands.{CanHand, HoldsGiven, left_after, united}
 use Rattle.pa_region.specs.Lending.{Keeps}
 use Rattle.pa_region.specs.Marks.{parcel_of}
 use Rattle.pa_region.specs.Aware.{IsAware}
-use Rattle.pa_region.proofs.Pieces.{owns_have, refs_have}
+use Rattle.pa_region.proofs.Pieces.{owns_have, seals_have, refs_have}
 use Rattle.pa_cells.specs.declared.handle.Handle.{Handle}
 use Rattle.pa_cells.specs.Handles.{ParkedHandle, IsParked, HasSeenMade, LacksHandle, GiversLackHandles, TakersHaveHandles, SlotsStaySeen, handle_item}
 use Rattle.pa_rules.specs.declared.register.Register.TheVariants.{Empty, Own, Ref, Freed, Cleared}
@@ -57,7 +57,8 @@ pub handle_points : (own : Bool) (h : Handle) (u : Title) → refs_one u (handle
 handle_points true h u = refl
 handle_points false h u = refl
 
-pub holds_given : (s : StockValue) (reg : ℕ) (own : Bool) (h : Handle) → IsStock s → reg < 64 → register_in s.registers reg ≡ handle_register own h →
+pub holds_given : (s : StockValue) (reg : ℕ) (own : Bool) (h : Handle) → IsStock s → reg < 64 →
+    register_in s.registers reg ≡ handle_register own h →
     HoldsGiven (handle_item own h.title) s.view
 holds_given s reg true h is below has =
     let a = register_owns s reg h is below has in
@@ -65,12 +66,15 @@ holds_given s reg true h is below has =
     omega arith
 holds_given s reg false h is below has = register_points s reg h is below has
 
-pub can_park : (s : StockValue) (reg : ℕ) (own : Bool) (h : Handle) → IsStock s → reg < 64 → register_in s.registers reg ≡ handle_register own h →
+pub can_park : (s : StockValue) (reg : ℕ) (own : Bool) (h : Handle) → IsStock s → reg < 64 →
+    register_in s.registers reg ≡ handle_register own h →
     CanHand (parcel_of (handle_item own h.title ∷ []) 0 []) s.view
-can_park s reg own h is below has = record { items = (holds_given s reg own h is below has, tt); budget = omega arith; leases = tt; clean = λ k e. cc }
+can_park s reg own h is below has =
+    record { items = (holds_given s reg own h is below has, tt); budget = omega arith; leases = tt; clean = λ k e. cc }
 
 -- the seat has seen how the slot of a register's handle was made
-pub handle_made : (s : StockValue) (reg : ℕ) (own : Bool) (h : Handle) → IsStock s → register_in s.registers reg ≡ handle_register own h → HasSeenMade h s.view
+pub handle_made : (s : StockValue) (reg : ℕ) (own : Bool) (h : Handle) → IsStock s → register_in s.registers reg ≡ handle_register own h →
+    HasSeenMade h s.view
 handle_made s reg true h is has = subst (IsMadeFor s.view) has (is.handles.made reg)
 handle_made s reg false h is has = subst (IsMadeFor s.view) has (is.handles.made reg)
 
@@ -108,10 +112,13 @@ parked_stock law s reg own h is stake below has =
     (record {
       count = length-set rs reg Empty ∙ is.handles.count;
       owns = λ u. let a = lacks.owns u in let b = is.handles.owns u in let c = sum_set (owns_one u) rs reg Empty Empty inside in
-          let d : owns_one u (register_in rs reg) ≡ one (own && same_title h.title u) = ap (owns_one u) has ∙ handle_owns own h u in omega arith;
+          let d : owns_one u (register_in rs reg) ≡ one (own && same_title h.title u) = ap (owns_one u) has ∙ handle_owns own h u in
+          omega arith;
       refs = λ u. let a = lacks.refs u in let b = is.handles.refs u in let c = sum_set (refs_one u) rs reg Empty Empty inside in
-          let d : refs_one u (register_in rs reg) ≡ one (not own && same_title h.title u) = ap (refs_one u) has ∙ handle_points own h u in omega arith;
+          let d : refs_one u (register_in rs reg) ≡ one (not own && same_title h.title u) = ap (refs_one u) has ∙ handle_points own h u in
+          omega arith;
       clean = (lacks.lends ((least_is s.thread s.view is.stake stake).1, is.handles.clean)).1;
+      sealed = λ u. let a = lacks.sealed u in let b = is.handles.sealed u in omega arith;
       made = made_set w rs reg Empty inside tt (λ k. made_for_kept s.view w refl (register_in rs k) (is.handles.made k));
     })
     refl rests.frees rests.stakes
@@ -119,7 +126,8 @@ parked_stock law s reg own h is stake below has =
 -- ---- the stake is lent, and comes back
 
 -- a view that has seen more has seen how all slots that registers have were made
-pub made_for_more : SlotsStaySeen → (v w : View) → ((k : ℕ) → IsBeginning (list_of k v) (list_of k w)) → (r : StockRegister) → IsMadeFor v r → IsMadeFor w r
+pub made_for_more : SlotsStaySeen → (v w : View) → ((k : ℕ) → IsBeginning (list_of k v) (list_of k w)) → (r : StockRegister) →
+    IsMadeFor v r → IsMadeFor w r
 made_for_more stays v w more Empty m = tt
 made_for_more stays v w more (Own h) m = stays h v w m (more h.partition)
 made_for_more stays v w more (Ref h) m = stays h v w m (more h.partition)
@@ -128,6 +136,9 @@ made_for_more stays v w more Cleared m = tt
 
 pub owns_kept : (v w : View) (t : Title) → Keeps v w → own_of w t ≡ own_of v t
 owns_kept v w t keeps = sym (owns_have w t) ∙ (keeps.things (OwnOf t) ∙ owns_have v t)
+
+pub seals_kept : (v w : View) (t : Title) → Keeps v w → sealed_of w t ≡ sealed_of v t
+seals_kept v w t keeps = sym (seals_have w t) ∙ (keeps.things (SealedOwn t) ∙ seals_have v t)
 
 pub refs_kept : (v w : View) (t : Title) → Keeps v w → ref_of w t ≡ ref_of v t
 refs_kept v w t keeps = sym (refs_have w t) ∙ (keeps.things (RefOf t) ∙ refs_have v t)
@@ -140,6 +151,7 @@ kept_stock stays s w is keeps =
       owns = λ t. owns_kept s.view w t keeps ∙ is.handles.owns t;
       refs = λ t. refs_kept s.view w t keeps ∙ is.handles.refs t;
       clean = keeps.unclean ∙ is.handles.clean;
+      sealed = λ t. seals_kept s.view w t keeps ∙ is.handles.sealed t;
       made = λ k. made_for_more stays s.view w keeps.lists (register_in s.registers k) (is.handles.made k);
     })
     (record { small = is.stake.small; only = λ k other. keeps.stakes k ∙ is.stake.only k other })
@@ -175,7 +187,8 @@ no_stakes (s ∷ ss) none = elim (eqb_tells s.number s.number) [
 ]
 
 -- what stays if the note has no stake
-pub taken_rests : BeginningsJoin → SeenJoins → FreeNumbersStay → (v n : View) → IsAware v → IsAware n → IsAware (united v n) → length v.words ≡ length n.words →
+pub taken_rests : BeginningsJoin → SeenJoins → FreeNumbersStay → (v n : View) → IsAware v → IsAware n → IsAware (united v n) →
+    length v.words ≡ length n.words →
     ((k : ℕ) → stake_of n k ≡ 0) → Rests v (united v n)
 taken_rests joins seen stay v n aware other both long none =
     let same : v.stakes ++ n.stakes ≡ v.stakes = ap (λ (ss : List Stake). v.stakes ++ ss) (no_stakes n.stakes none) ∙ append-nil v.stakes in
@@ -197,7 +210,8 @@ made_parked true h v m = m
 made_parked false h v m = m
 
 -- the thread state with it
-pub taken_stock : TakersHaveHandles → BeginningsJoin → SlotsStaySeen → (s : StockValue) (reg : ℕ) (p : ParkedHandle) → IsStock s → reg < 64 →
+pub taken_stock : TakersHaveHandles → BeginningsJoin → SlotsStaySeen → (s : StockValue) (reg : ℕ) (p : ParkedHandle) → IsStock s →
+    reg < 64 →
     HasNoHandle (register_in s.registers reg) → IsParked p → IsAware (united s.view p.note.view) →
     IsStock (record s { view = united s.view p.note.view; registers = slice_set s.registers reg (register_of p) })
 taken_stock law joins stays s reg p is below bare parked both =
@@ -213,7 +227,9 @@ taken_stock law joins stays s reg p is below bare parked both =
           let d = none_owned u (register_in rs reg) bare in let e = handle_owns p.own p.handle u in omega arith;
       refs = λ u. let a = takes.refs u in let b = is.handles.refs u in let c = sum_set (refs_one u) rs reg r Empty inside in
           let d = none_pointed u (register_in rs reg) bare in let e = handle_points p.own p.handle u in omega arith;
-      clean = let a = is.handles.clean in let b = parked.clean in omega (arith, sum_by-append (λ (o : OwnTitle). one (is_unclean o.state)) s.view.owns p.note.view.owns);
+      clean = let a = is.handles.clean in let b = parked.clean in
+          omega (arith, sum_by-append (λ (o : OwnTitle). one (is_unclean o.state)) s.view.owns p.note.view.owns);
+      sealed = λ u. let a = takes.sealed u in let b = is.handles.sealed u in let c = parked.sealed u in omega arith;
       made = made_set w rs reg r inside (made_parked p.own p.handle w takes.made)
           (λ k. made_for_more stays s.view w (λ q. (joins s.view p.note.view q both).0) (register_in rs k) (is.handles.made k));
     })

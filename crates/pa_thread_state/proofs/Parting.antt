@@ -45,26 +45,55 @@ for_pool words budget = left_after (stakes_parcel budget) (without_cells words b
 pub first_root : (words budget : ℕ) → IsFirstView 0 (given_after (keeper_parcel 0) (first_view words budget))
 first_root words budget =
     let has : keeper_of (given_after (keeper_parcel 0) (first_view words budget)) 0 ≡ 1 = refl in
-    record { partition = omega arith; hosts = ((λ k. refl, refl), omega arith); empty = refl; frees = λ t. refl; handles = λ t. refl; budget = refl }
+    record {
+      partition = omega arith;
+      hosts = ((λ k. refl, refl), omega arith);
+      empty = refl;
+      frees = λ t. refl;
+      handles = λ t. refl;
+      budget = refl;
+    }
 
 pub second_root : (words budget : ℕ) → IsFirstView 1 (given_after (keeper_parcel 1) (without_first words budget))
 second_root words budget =
     let has : keeper_of (given_after (keeper_parcel 1) (without_first words budget)) 1 ≡ 1 = refl in
-    record { partition = omega arith; hosts = ((λ k. refl, refl), omega arith); empty = refl; frees = λ t. refl; handles = λ t. refl; budget = refl }
+    record {
+      partition = omega arith;
+      hosts = ((λ k. refl, refl), omega arith);
+      empty = refl;
+      frees = λ t. refl;
+      handles = λ t. refl;
+      budget = refl;
+    }
 
 pub third_root : (words budget : ℕ) → IsFirstView 2 (given_after (keeper_parcel 2) (without_second words budget))
 third_root words budget =
     let has : keeper_of (given_after (keeper_parcel 2) (without_second words budget)) 2 ≡ 1 = refl in
-    record { partition = omega arith; hosts = ((λ k. refl, refl), omega arith); empty = refl; frees = λ t. refl; handles = λ t. refl; budget = refl }
+    record {
+      partition = omega arith;
+      hosts = ((λ k. refl, refl), omega arith);
+      empty = refl;
+      frees = λ t. refl;
+      handles = λ t. refl;
+      budget = refl;
+    }
 
 pub fourth_root : (words budget : ℕ) → IsFirstView 3 (given_after (keeper_parcel 3) (without_third words budget))
 fourth_root words budget =
     let has : keeper_of (given_after (keeper_parcel 3) (without_third words budget)) 3 ≡ 1 = refl in
-    record { partition = omega arith; hosts = ((λ k. refl, refl), omega arith); empty = refl; frees = λ t. refl; handles = λ t. refl; budget = refl }
+    record {
+      partition = omega arith;
+      hosts = ((λ k. refl, refl), omega arith);
+      empty = refl;
+      frees = λ t. refl;
+      handles = λ t. refl;
+      budget = refl;
+    }
 
 -- what the cells get
 pub cells_part : (words budget : ℕ) →
-    HostsKeeper 5 (given_after (keeper_parcel 5) (without_roots words budget)) × (list_of 5 (given_after (keeper_parcel 5) (without_roots words budget)) ≡ [])
+    HostsKeeper 5 (given_after (keeper_parcel 5) (without_roots words budget)) ×
+    (list_of 5 (given_after (keeper_parcel 5) (without_roots words budget)) ≡ [])
 cells_part words budget =
     let has : keeper_of (given_after (keeper_parcel 5) (without_roots words budget)) 5 ≡ 1 = refl in
     (((λ k. refl, refl), omega arith), refl)
@@ -73,8 +102,10 @@ cells_part words budget =
 low_there : (words budget b : ℕ) → b < 8 * words → 0 < low_of (for_pool words budget) b 0
 low_there words budget b below =
     let c : low_of (for_pool words budget) b 0 ≡ one ((nat_le 0 b && nat_lt b (0 + 8 * words)) && nat_le 0 0) + 0
-    = sum_by-cons (λ (r : RawRange). one ((nat_le r.start b && nat_lt b (r.start + r.len)) && nat_le r.floor 0)) (record { start = 0; len = 8 * words; floor = 0 }) [] in
-    let d : one ((nat_le 0 b && nat_lt b (0 + 8 * words)) && nat_le 0 0) ≡ 1 = both (nat_le 0 b) (nat_lt b (0 + 8 * words)) (le-leb 0 b (omega arith)) (lt-ltb b (0 + 8 * words) (omega arith)) in
+    = sum_by-cons (λ (r : RawRange). one ((nat_le r.start b && nat_lt b (r.start + r.len)) && nat_le r.floor 0))
+    (record { start = 0; len = 8 * words; floor = 0 }) [] in
+    let d : one ((nat_le 0 b && nat_lt b (0 + 8 * words)) && nat_le 0 0) ≡ 1 =
+    both (nat_le 0 b) (nat_lt b (0 + 8 * words)) (le-leb 0 b (omega arith)) (lt-ltb b (0 + 8 * words) (omega arith)) in
     omega arith
   where
     both : (x y : Bool) → x ≡ true → y ≡ true → one ((x && y) && nat_le 0 0) ≡ 1
@@ -91,7 +122,8 @@ lease_there words budget n =
 
 one_keeper : (words budget k : ℕ) → (k ≡ 4 → ⊥) → keeper_of (for_pool words budget) k ≡ 0
 one_keeper words budget k other =
-    let c : keeper_of (for_pool words budget) k ≡ one (4 == k) + 0 = sum_by-cons (λ (q : Keeper). one (q.number == k)) (record { number = 4; entries = [] }) [] in
+    let c : keeper_of (for_pool words budget) k ≡ one (4 == k) + 0 =
+    sum_by-cons (λ (q : Keeper). one (q.number == k)) (record { number = 4; entries = [] }) [] in
     elim (eqb_tells 4 k) [
       | inl y ↦ absurd (other (sym y.1))
       | inr n ↦ (let d : one (4 == k) ≡ 0 = ap one n.0 in omega arith)

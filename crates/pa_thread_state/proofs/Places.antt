@@ -3,29 +3,9 @@ use Rattle.std.proofs.Common.{◌≡◌, ℕ, ◌+◌, ◌-◌, ◌*◌, ◌/◌
 use Rattle.std.specs.Prelude.{nat_le, if◌then◌else◌, slice_index_or}
 use Rattle.pa_buckets.specs.Limits.{first_class}
 use Rattle.pa_rules.specs.Sizes.{HasClass, class_total}
-use Rattle.pa_rules.proofs.Versions.{class_yes, class_no, class_row}
-use Rattle.pa_op_specs.specs.Stocks.{WorkerLists, cache_place, no_cache, titles_in}
-
-within_by : (b : Bool) (p c : ℕ) → p < 4 → (if b then 0 else 59) ≤ c → c < (if b then 59 else 170)
-    → p * ((if b then 59 else 170) - (if b then 0 else 59)) + (c - (if b then 0 else 59)) < 4 * ((if b then 59 else 170) - (if b then 0 else 59))
-within_by true p c low from real = omega (arith, low, real)
-within_by false p c low from real = omega (arith, low, from, real)
-
--- it is one of the lists
-pub place_within : (version p c : ℕ) → p < 4 → HasClass version c → cache_place version p c < 4 * class_total version
-place_within version p c low h = within_by (nat_le version 1) p c low h.0 h.1
-
--- one place is of one partition and class
-pub one_place : (version p c q d : ℕ) → HasClass version c → HasClass version d → cache_place version p c ≡ cache_place version q d → (p ≡ q) × (c ≡ d)
-one_place version p c q d h k is = class_row version p q c d h k is
-
--- a version has classes
-total_by : (b : Bool) → 0 < (if b then 59 else 170) - (if b then 0 else 59)
-total_by true = omega arith
-total_by false = omega arith
-
-pub class_some : (version : ℕ) → 0 < class_total version
-class_some version = total_by (nat_le version 1)
+use Rattle.pa_rules.proofs.Versions.{class_yes, class_no}
+use Rattle.pa_rules.specs.Lists.{cache_place}
+use Rattle.pa_op_specs.specs.Stocks.{WorkerLists, no_cache, titles_in}
 
 -- each place is of some partition and class
 pub record IsPlaceOf (version k : ℕ) : Type 0 where
@@ -48,7 +28,8 @@ place_of_index version k low =
 
 -- the class in turn at a place is the one of whose list it is
 class_by : (b : Bool) (p c : ℕ) → (if b then 0 else 59) ≤ c → c < (if b then 59 else 170)
-    → (if b then 0 else 59) + (p * ((if b then 59 else 170) - (if b then 0 else 59)) + (c - (if b then 0 else 59))) % ((if b then 59 else 170) - (if b then 0 else 59)) ≡ c
+    → (if b then 0 else 59) + (p * ((if b then 59 else 170) - (if b then 0 else 59)) + (c - (if b then 0 else 59))) % ((if
+    b then 59 else 170) - (if b then 0 else 59)) ≡ c
 class_by true p c from real = omega (arith, real)
 class_by false p c from real = omega (arith, from, real)
 

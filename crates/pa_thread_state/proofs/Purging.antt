@@ -48,7 +48,8 @@ cleared_other : (p n : ℕ) (lists : ℕ → ℕ → List Title) (q c : ℕ) →
 cleared_other p n lists q c other = elim (eqb_tells q p) [ inl y ↦ absurd (other y.1) | inr n ↦ rw n.0 refl ]
 
 -- nothing went, if there was nothing
-cleared_none : (p n : ℕ) (lists : ℕ → ℕ → List Title) (q c : ℕ) → (q ≡ p → c < n → lists q c ≡ []) → without_classes p n lists q c ≡ lists q c
+cleared_none : (p n : ℕ) (lists : ℕ → ℕ → List Title) (q c : ℕ) → (q ≡ p → c < n → lists q c ≡ []) →
+    without_classes p n lists q c ≡ lists q c
 cleared_none p n lists q c none = elim (eqb_tells q p) [
   | inl y ↦ elim (cases_lt c n) [
     | inl low ↦ cleared_is p n lists q c y.1 low ∙ sym (none y.1 low)
@@ -65,7 +66,8 @@ lists_none line p s =
       acts = [];
       given = gives_left line p [] (titles_in s.caches) (without_classes p first (titles_in s.caches)) s s (gives_none line p s)
           (λ q c. sym (cleared_none p first (titles_in s.caches) q c
-          (λ here low. ap (λ r. titles_in s.caches r c) here ∙ titles_none s.caches p c (λ h. let from = h.0 in omega (arith, from, low)))));
+          (λ here low. ap (λ r. titles_in s.caches r c) here ∙
+          titles_none s.caches p c (λ h. let from = h.0 in omega (arith, from, low)))));
       rest = refl;
     }
 
@@ -83,12 +85,14 @@ next_listed line p n s now some is =
     ∙ ap (numbered_by s.view) (cleared_not p n (titles_in s.caches) p n (omega arith))
 
 -- it goes back
-next_left : (p n : ℕ) (s now : StockValue) → ((q c : ℕ) → titles_in now.caches q c ≡ without_classes p n (titles_in s.caches) q c) → (q c : ℕ) →
+next_left : (p n : ℕ) (s now : StockValue) → ((q c : ℕ) → titles_in now.caches q c ≡ without_classes p n (titles_in s.caches) q c) →
+    (q c : ℕ) →
     with_titles p n [] (titles_in now.caches) q c ≡ without_classes p (n + 1) (titles_in s.caches) q c
 next_left p n s now kept q c = elim (eqb_tells q p) [
   | inl y ↦ elim (eqb_tells c n) [
     | inl z ↦
-        this_one p n [] (titles_in now.caches) q c y.1 z.1 ∙ sym (cleared_is p (n + 1) (titles_in s.caches) q c y.1 (let e = z.1 in omega arith))
+        this_one p n [] (titles_in now.caches) q c y.1 z.1 ∙
+        sym (cleared_is p (n + 1) (titles_in s.caches) q c y.1 (let e = z.1 in omega arith))
     | inr away ↦ other_list p n [] (titles_in now.caches) q c (λ e. away.1 e.1) ∙ (kept q c ∙ by_class (nat_lt c n) refl y.1 away.1)
   ]
   | inr away ↦
@@ -96,7 +100,8 @@ next_left p n s now kept q c = elim (eqb_tells q p) [
       ∙ (kept q c ∙ (cleared_other p n (titles_in s.caches) q c away.1 ∙ sym (cleared_other p (n + 1) (titles_in s.caches) q c away.1)))
 ]
   where
-    by_class : (b : Bool) → nat_lt c n ≡ b → q ≡ p → (c ≡ n → ⊥) → without_classes p n (titles_in s.caches) q c ≡ without_classes p (n + 1) (titles_in s.caches) q c
+    by_class : (b : Bool) → nat_lt c n ≡ b → q ≡ p → (c ≡ n → ⊥) →
+        without_classes p n (titles_in s.caches) q c ≡ without_classes p (n + 1) (titles_in s.caches) q c
     by_class true is here other =
         let low : c < n = grind (arith, nat_tests) in
         cleared_is p n (titles_in s.caches) q c here low ∙ sym (cleared_is p (n + 1) (titles_in s.caches) q c here (omega arith))
@@ -116,11 +121,14 @@ lists_more line p n s now next is some tail below =
     let more = gives (listed_in now p n) in
     let e : end - n ≡ suc (end - (n + 1)) = omega (arith, below) in
     let step : more ++ purge_acts lists (n + 1) (end - (n + 1)) ≡ purge_acts lists n (end - n) =
-    ap (λ xs. gives xs ++ purge_acts lists (n + 1) (end - (n + 1))) (next_listed line p n s now some is) ∙ sym (ap (purge_acts lists n) e) in
+    ap (λ xs. gives xs ++ purge_acts lists (n + 1) (end - (n + 1))) (next_listed line p n s now some is) ∙
+    sym (ap (purge_acts lists n) e) in
     record {
       acts = some.acts ++ more;
-      given = gives_left line p (some.acts ++ more) (with_titles p n [] (titles_in now.caches)) (without_classes p (n + 1) (titles_in s.caches)) s next
-          (gives_on line p some.acts more (without_classes p n (titles_in s.caches)) (with_titles p n [] (titles_in now.caches)) s now next some.given tail)
+      given = gives_left line p (some.acts ++ more) (with_titles p n [] (titles_in now.caches))
+          (without_classes p (n + 1) (titles_in s.caches)) s next
+          (gives_on line p some.acts more (without_classes p n (titles_in s.caches))
+          (with_titles p n [] (titles_in now.caches)) s now next some.given tail)
           (next_left p n s now some.given.kept);
       rest = append_assoc some.acts more (purge_acts lists (n + 1) (end - (n + 1))) ∙ (ap (λ acts. some.acts ++ acts) step ∙ some.rest);
     }
@@ -140,7 +148,8 @@ none_but s p c out =
     let from = h.0 in let real = h.1 in let end = class_end s.caches.version in
     elim out [ inl low ↦ omega (arith, low, from) | inr past ↦ omega (arith, past, real, end) ]))
 
-pub left_start : (s : StockValue) (p slots : ℕ) → slots ≡ listed_slots (listed_in s p) 0 170 → AreLeft s p (first_class s.caches.version) slots
+pub left_start : (s : StockValue) (p slots : ℕ) → slots ≡ listed_slots (listed_in s p) 0 170 →
+    AreLeft s p (first_class s.caches.version) slots
 left_start s p slots all = record {
   from = omega arith;
   to = let end = class_end s.caches.version in omega (arith, end);
@@ -175,9 +184,11 @@ left_next s p n left h some =
     h.slots ∙ (ap (listed_slots (listed_in s p) n) e ∙ next_by (listed_in s p) n (past_class s.caches.version - (n + 1)))
 
 -- the next list has as many slots as the worker's list has titles now
-next_long : (line p n : ℕ) (s now : StockValue) → IsStock now → GivesLists line p n s now → length (titles_in now.caches p n) ≡ length (listed_in s p n)
+next_long : (line p n : ℕ) (s now : StockValue) → IsStock now → GivesLists line p n s now →
+    length (titles_in now.caches p n) ≡ length (listed_in s p n)
 next_long line p n s now is some =
-    sym (length-map (titles_in now.caches p n) (at_number_seen now.view)) ∙ ap (λ (xs : List Numbered). length xs) (next_listed line p n s now some is)
+    sym (length-map (titles_in now.caches p n) (at_number_seen now.view)) ∙
+    ap (λ (xs : List Numbered). length xs) (next_listed line p n s now some is)
 
 pub left_part : (line p n left count : ℕ) (s now : StockValue) → IsStock now → GivesLists line p n s now → AreLeft s p n left → 0 < left →
     count ≡ length (titles_in now.caches p n) → count ≤ left
@@ -219,7 +230,8 @@ left_none s p n h c from = elim (class_cases s.caches.version c) [
 
 -- ---- the root is purged
 
-pub purged_gives : KeptNumbersStay → (s : StockValue) (w : View) (line p : ℕ) → IsAware s.view → IsAware w → p < 4 → PurgeEnters s.thread p line s.view w →
+pub purged_gives : KeptNumbersStay → (s : StockValue) (w : View) (line p : ℕ) → IsAware s.view → IsAware w → p < 4 →
+    PurgeEnters s.thread p line s.view w →
     Gives line p (Purge ∷ []) (titles_in s.caches) s (record s { view = w })
 purged_gives law s w line p aware now low (j, it) =
     let enters = one_enters j s.thread p line Purge s.view w it (omega arith) in
@@ -262,13 +274,16 @@ none_left p n s empty q c = elim (eqb_tells q p) [
 purge_none : (lists : ℕ → List Numbered) (n m : ℕ) → ((c : ℕ) → n ≤ c → lists c ≡ []) → purge_acts lists n m ≡ Purge ∷ []
 purge_none lists n zero none = refl
 purge_none lists n (suc m) none =
-    ap (λ xs. gives xs ++ purge_acts lists (n + 1) m) (none n (omega arith)) ∙ purge_none lists (n + 1) m (λ c low. none c (omega (arith, low)))
+    ap (λ xs. gives xs ++ purge_acts lists (n + 1) m) (none n (omega arith)) ∙
+    purge_none lists (n + 1) m (λ c low. none c (omega (arith, low)))
 
 pub is_cleared : (line p n : ℕ) (s now : StockValue) → GivesLists line p n s now → AreLeft s p n 0 → IsCleared p now
 is_cleared line p n s now some none c =
-    some.given.kept p c ∙ (none_left p n s (left_none s p n none) p c ∙ elim (eqb_tells p p) [ inl y ↦ rw y.0 refl | inr differs ↦ absurd (differs.1 refl) ])
+    some.given.kept p c ∙ (none_left p n s (left_none s p n none) p c ∙
+    elim (eqb_tells p p) [ inl y ↦ rw y.0 refl | inr differs ↦ absurd (differs.1 refl) ])
 
-pub purges_root : KeptNumbersStay → (s now : StockValue) (w : View) (line p n slots : ℕ) → IsAware now.view → IsAware w → p < 4 → GivesLists line p n s now →
+pub purges_root : KeptNumbersStay → (s now : StockValue) (w : View) (line p n slots : ℕ) → IsAware now.view → IsAware w → p < 4 →
+    GivesLists line p n s now →
     AreLeft s p n 0 → PurgeEnters now.thread p line now.view w → slots ≡ listed_slots (listed_in s p) 0 170 →
     PurgesRoot line p slots s (record now { view = w })
 purges_root law s now w line p n slots aware both low some none enters count =
@@ -279,8 +294,10 @@ purges_root law s now w line p n slots aware both low some none enters count =
     sym (ap (λ acts. some.acts ++ acts) last) ∙ (some.rest ∙ sym (purge_of_version s.caches.version lists (none_but s p))) in (
       count,
       subst (λ acts. Gives line p acts (without_lists p (titles_in s.caches)) s (record now { view = w })) all
-          (gives_left line p (some.acts ++ Purge ∷ []) (titles_in now.caches) (without_lists p (titles_in s.caches)) s (record now { view = w })
-          (gives_on line p some.acts (Purge ∷ []) (without_classes p n (titles_in s.caches)) (titles_in now.caches) s now (record now { view = w }) some.given
+          (gives_left line p (some.acts ++ Purge ∷ []) (titles_in now.caches) (without_lists p (titles_in s.caches)) s
+          (record now { view = w })
+          (gives_on line p some.acts (Purge ∷ []) (without_classes p n (titles_in s.caches)) (titles_in now.caches) s now
+          (record now { view = w }) some.given
           (purged_gives law now w line p aware both low enters))
           (λ q c. some.given.kept q c ∙ none_left p n s empty q c)),
     )

@@ -37,6 +37,7 @@ read_sound looks entries owns s word place value h is stake =
       owns = there.handles.owns;
       refs = there.handles.refs;
       clean = there.handles.clean;
+      sealed = there.handles.sealed;
       made = λ k. made_for_kept u w refl (register_in s.registers k) (there.handles.made k);
     })
     refl (λ x. omega arith) leaves.stakes

@@ -23,5 +23,6 @@ inside_aware i s e aware = subst (λ (z : StockValue). IsAware z.view) (sym e) a
 pub inside_budget : (i s : StockValue) → i ≡ s → 0 < s.view.budget → 0 < i.view.budget
 inside_budget i s e some = subst (λ (z : StockValue). 0 < z.view.budget) (sym e) some
 
-pub inside_own : (i s : StockValue) (h : Handle) (reg : ℕ) → i ≡ s → register_in s.registers reg ≡ Own h → register_in i.registers reg ≡ Own h
+pub inside_own : (i s : StockValue) (h : Handle) (reg : ℕ) → i ≡ s → register_in s.registers reg ≡ Own h →
+    register_in i.registers reg ≡ Own h
 inside_own i s h reg e own = subst (λ (z : StockValue). register_in z.registers reg ≡ Own h) (sym e) own

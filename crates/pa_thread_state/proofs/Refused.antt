@@ -18,7 +18,8 @@ use Rattle.pa_root.specs.Filling.{frees_parcel}
 use Rattle.pa_root.proofs.Showing.{all_stakes, no_stakes}
 use Rattle.pa_cells.specs.declared.handle.Handle.{Handle}
 use Rattle.pa_cells.specs.Handles.{SlotsStaySeen}
-use Rattle.pa_op_specs.specs.Stocks.{StockValue, IsStock, cache_place, titles_in}
+use Rattle.pa_rules.specs.Lists.{cache_place}
+use Rattle.pa_op_specs.specs.Stocks.{StockValue, IsStock, titles_in}
 use Rattle.pa_op_specs.proofs.Seeing.{made_kept}
 use Rattle.pa_thread_state.specs.Allocating.{BecomesList, with_listed}
 use Rattle.pa_thread_state.specs.Changes.{IsBack}
@@ -76,17 +77,21 @@ came_back seen longest h s part mid after note back part_is note_is parted mid_i
     let view : after.view ≡ united part.view note = ap (λ (z : StockValue). z.view) whole in
     record {
       same = whole ∙ ap (λ (v : View). record s { view = v }) (sym view);
-      back = taken_back seen longest (h.title ∷ []) s.view part.view note after.view (ap (λ (z : StockValue). z.view) part_is) note_is parted
-          (subst (λ (z : StockValue). IsParted after.view z.view note) mid_is (subst (λ (n : View). IsParted after.view mid.view n) back_is again)) view;
+      back = taken_back seen longest (h.title ∷ []) s.view part.view note after.view
+          (ap (λ (z : StockValue). z.view) part_is) note_is parted
+          (subst (λ (z : StockValue). IsParted after.view z.view note) mid_is
+          (subst (λ (n : View). IsParted after.view mid.view n) back_is again)) view;
     }
 
 -- ---- a batch that is on no list
 
-batch_alone : (s b : StockValue) (p c keep : ℕ) → IsStock s → p < 4 → HasClass s.caches.version c → BecomesList p c (rest_after keep (titles_in s.caches p c)) s b →
+batch_alone : (s b : StockValue) (p c keep : ℕ) → IsStock s → p < 4 → HasClass s.caches.version c →
+    BecomesList p c (rest_after keep (titles_in s.caches p c)) s b →
     (t : Title) → Contains (batch_after keep (titles_in s.caches p c)) t → (q d : ℕ) → Contains (titles_in b.caches q d) t → ⊥
 batch_alone s b p c keep is low small takes t batch q d there =
     let ts = titles_in s.caches p c in
-    let whole : AllPairs ◌≢◌ ts = subst (AllPairs ◌≢◌) (sym (titles_here s.caches p c small)) (is.lists.sound (cache_place s.caches.version p c)).different in
+    let whole : AllPairs ◌≢◌ ts =
+    subst (AllPairs ◌≢◌) (sym (titles_here s.caches p c small)) (is.lists.sound (cache_place s.caches.version p c)).different in
     let now : Contains (titles_in (with_listed p c (rest_after keep ts) s.caches) q d) t =
     subst (λ (z : StockValue). Contains (titles_in z.caches q d) t) takes.after_is there in
     elim (listed_cases s.caches p c (rest_after keep ts) q d low small is.lists.count) [
@@ -96,7 +101,8 @@ batch_alone s b p c keep is low small takes t batch q d there =
 
 -- it was taken off its list, and the seat took it in again
 pub refused : (s b after : StockValue) (w : View) (p c keep : ℕ) → IsStock s → p < 4 → HasClass s.caches.version c →
-    BecomesList p c (rest_after keep (titles_in s.caches p c)) s b → TakesBack b.view w → after ≡ record b { view = w } → RefusesBatch p c keep s after
+    BecomesList p c (rest_after keep (titles_in s.caches p c)) s b → TakesBack b.view w → after ≡ record b { view = w } →
+    RefusesBatch p c keep s after
 refused s b after w p c keep is low small takes back after_is = record {
   between = b;
   off = takes;
@@ -108,7 +114,8 @@ refused s b after w p c keep is low small takes back after_is = record {
       ∙ set_titles s.caches p c (record { class = c; titles = rest_after keep (titles_in s.caches p c) }) q d low small is.lists.count;
   free = λ t among. subst (λ (z : StockValue). 0 < free_of z.view t) (sym after_is) (still t among);
   alone = λ t among q d there.
-      batch_alone s b p c keep is low small takes t among q d (subst (λ (z : StockValue). Contains (titles_in z.caches q d) t) after_is there);
+      batch_alone s b p c keep is low small takes t among q d
+      (subst (λ (z : StockValue). Contains (titles_in z.caches q d) t) after_is there);
 }
   where
     still : (t : Title) → Contains (batch_after keep (titles_in s.caches p c)) t → 0 < free_of w t
@@ -131,7 +138,8 @@ kept_is_back stays h s after back keeps = record {
 }
 
 -- a title that a step returned is still free and on no list after the tail of its list stopped
-pub stopped_is_back : SlotsStaySeen → (line p c keep : ℕ) (h : Handle) (s after : StockValue) → IsBack h s → StopsTail line p c keep s after → IsBack h after
+pub stopped_is_back : SlotsStaySeen → (line p c keep : ℕ) (h : Handle) (s after : StockValue) → IsBack h s →
+    StopsTail line p c keep s after → IsBack h after
 stopped_is_back stays line p c keep h s after back stops =
     let given = stops.gave.given in let mid = stops.between in
     let off = stops.refused.off in let b = stops.refused.between in
@@ -144,7 +152,8 @@ stopped_is_back stays line p c keep h s after back stops =
       free =
           let had = first.free in
           let r = free_same mid.view b.view off.relinked h.title in
-          let e = stops.refused.keeps.back.things (FreeTitle h.title) in let f = frees_have after.view h.title in let g = frees_have b.view h.title in
+          let e = stops.refused.keeps.back.things (FreeTitle h.title) in let f = frees_have after.view h.title in
+          let g = frees_have b.view h.title in
           omega arith;
       new = λ q d among. first.new q d
           (rest_listed (titles_in mid.caches) p c keep q d h.title (subst (λ ts. Contains ts h.title) (stops.refused.kept q d) among));

@@ -26,14 +26,17 @@ pub not_last : (fate : Fate) → fate ≡ Last → fate ≡ Kept → ⊥
 not_last fate last kept = let bad : Last ≡ Kept = sym last ∙ kept in cc
 
 -- What a call knows of the title that its reset returned.
-pub reset_back : (s mid : StockValue) (r : ℕ) (h : Handle) (seen : Seen) → IsStock s → IsAware s.view → r < 64 → register_in s.registers r ≡ Ref h → LetsGo steps.Reset h r Cleared s.view seen s mid →
+pub reset_back : (s mid : StockValue) (r : ℕ) (h : Handle) (seen : Seen) → IsStock s → IsAware s.view → r < 64 →
+    register_in s.registers r ≡ Ref h → LetsGo steps.Reset h r Cleared s.view seen s mid →
     free_of mid.view h.title ≡ 1 → IsBack h mid
 reset_back s mid r h seen is aware below ref gone free =
     let knows = register_has s r h is below (inr ref) in
     record {
       free = omega arith;
-      new = λ p class among. user_not_free s.view h.title aware knows.0 (is.lists.free p class h.title (subst (λ (z : StockValue). Contains (titles_in z.caches p class) h.title) gone.after_is among));
-      made = subst (λ (z : StockValue). HasSeenMade h z.view) (sym gone.after_is) (made_kept h s.view (after_count steps.Reset h.title seen.found.0 s.view) refl knows.1);
+      new = λ p class among. user_not_free s.view h.title aware knows.0
+          (is.lists.free p class h.title (subst (λ (z : StockValue). Contains (titles_in z.caches p class) h.title) gone.after_is among));
+      made = subst (λ (z : StockValue). HasSeenMade h z.view) (sym gone.after_is)
+          (made_kept h s.view (after_count steps.Reset h.title seen.found.0 s.view) refl knows.1);
     }
 
 pub free_back : (s mid : StockValue) (r : ℕ) (h : Handle) (seen : Seen) → IsStock s → IsAware s.view → r < 64
@@ -43,8 +46,10 @@ free_back s mid r h seen is aware below own gone free =
     let knows = register_has s r h is below (inl own) in
     record {
       free = omega arith;
-      new = λ p class among. user_not_free s.view h.title aware knows.0 (is.lists.free p class h.title (subst (λ (z : StockValue). Contains (titles_in z.caches p class) h.title) gone.after_is among));
-      made = subst (λ (z : StockValue). HasSeenMade h z.view) (sym gone.after_is) (made_kept h s.view (freed_view s.view h.title seen.found.0) refl knows.1);
+      new = λ p class among. user_not_free s.view h.title aware knows.0
+          (is.lists.free p class h.title (subst (λ (z : StockValue). Contains (titles_in z.caches p class) h.title) gone.after_is among));
+      made = subst (λ (z : StockValue). HasSeenMade h z.view) (sym gone.after_is)
+          (made_kept h s.view (freed_view s.view h.title seen.found.0) refl knows.1);
     }
 
 -- The seat has its stake still after the step.

@@ -11,16 +11,17 @@ use Rattle.pa_buckets.specs.Bands.{limit_of}
 use Rattle.pa_record.specs.declared.numbered.Numbered.{Numbered}
 use Rattle.pa_rules.specs.Caches.{SameLists, with_list}
 use Rattle.pa_rules.specs.Sizes.{HasClass, class_total}
+use Rattle.pa_rules.proofs.Versions.{place_within, one_place}
 use Rattle.pa_root.specs.Handing.{numbered_by}
 use Rattle.pa_cache.specs.Caches.{CacheList, IsCache}
 use Rattle.pa_cells.specs.Handles.{HasSeenMade}
-use Rattle.pa_op_specs.specs.Stocks.{StockValue, WorkerLists, IsStock, cache_place, no_cache, titles_in, listed_in, listed_slot}
+use Rattle.pa_rules.specs.Lists.{cache_place}
+use Rattle.pa_op_specs.specs.Stocks.{StockValue, WorkerLists, IsStock, no_cache, titles_in, listed_in, listed_slot}
 use Rattle.pa_thread_state.specs.Allocating.{with_listed}
 use Rattle.pa_op_specs.proofs.Registers.{set_at}
 use Rattle.pa_thread_state.proofs.Fronts.{front_list}
 use Rattle.pa_op_specs.proofs.Quiet.{same_titles}
 use Rattle.pa_thread_state.proofs.TitleLists.{set_titles, this_one, other_list}
-use Rattle.pa_thread_state.proofs.Places.{place_within, one_place}
 
 -- A list after it: the one that was set, or as it was.
 pub listed_cases : (caches : WorkerLists) (p c : ℕ) (ts : List Title) (q d : ℕ) → p < 4 → HasClass caches.version c →
@@ -39,7 +40,8 @@ listed_cases caches p c ts q d low real long =
 
 -- a title in a list afterwards is in the one that was set, or was there
 pub listed_from : (caches : WorkerLists) (p c : ℕ) (ts : List Title) (u : Title) (q d : ℕ) → p < 4 → HasClass caches.version c →
-    length caches.lists ≡ 4 * class_total caches.version → Contains (titles_in (with_listed p c ts caches) q d) u → ((q ≡ p) × (d ≡ c) × Contains ts u) ⊎ Contains (titles_in caches q d) u
+    length caches.lists ≡ 4 * class_total caches.version → Contains (titles_in (with_listed p c ts caches) q d) u →
+    ((q ≡ p) × (d ≡ c) × Contains ts u) ⊎ Contains (titles_in caches q d) u
 listed_from caches p c ts u q d low small long among = elim (listed_cases caches p c ts q d low small long) [
   | inl h ↦ inl (h.0, h.1, subst (λ us. Contains us u) h.2 among)
   | inr h ↦ inr (subst (λ us. Contains us u) h.1 among)
@@ -53,7 +55,8 @@ pub record CanStand (s : StockValue) (p c : ℕ) (t : Title) : Type 0 where
   pub well : (words : ℕ) × IsWellFormed words t
 
 -- the thread state stays sound, if the new list is sound
-pub relisted_stock : (s : StockValue) (p c : ℕ) (ts : List Title) → IsStock s → p < 4 → HasClass s.caches.version c → IsCache (record { class = c; titles = ts }) → length ts ≤ limit_of c →
+pub relisted_stock : (s : StockValue) (p c : ℕ) (ts : List Title) → IsStock s → p < 4 → HasClass s.caches.version c →
+    IsCache (record { class = c; titles = ts }) → length ts ≤ limit_of c →
     ((t : Title) → Contains ts t → CanStand s p c t) → IsStock (record s { caches = with_listed p c ts s.caches })
 relisted_stock s p c ts is low small new few stand = record {
   partitions = is.partitions;
@@ -81,7 +84,8 @@ relisted_stock s p c ts is low small new few stand = record {
       ]
     ];
     made = λ q d u among. elim (listed_from s.caches p c ts u q d low small long among) [
-      | inl here ↦ subst (λ k. HasSeenMade (listed_slot k d u) s.view) (sym here.0) (subst (λ k. HasSeenMade (listed_slot p k u) s.view) (sym here.1) (stand u here.2).made)
+      | inl here ↦ subst (λ k. HasSeenMade (listed_slot k d u) s.view) (sym here.0)
+          (subst (λ k. HasSeenMade (listed_slot p k u) s.view) (sym here.1) (stand u here.2).made)
       | inr there ↦ is.lists.made q d u there
     ];
     well = λ q d u among. elim (listed_from s.caches p c ts u q d low small long among) [
@@ -101,7 +105,7 @@ relisted_stock s p c ts is low small new few stand = record {
     at : (k : ℕ) → slice_index_or (with_listed p c ts s.caches).lists k no_cache
         ≡ (if k == place then record { class = c; titles = ts } else slice_index_or s.caches.lists k no_cache)
     at k = set_at s.caches.lists place k (record { class = c; titles = ts }) no_cache
-        (let within = place_within s.caches.version p c low small in omega (arith, within, long))
+        (let within = place_within s.caches.version 4 p c low small in omega (arith, within, long))
 
     pick : (P : CacheList → Type 0) (b : Bool) {x y : CacheList} → P x → P y → P (if b then x else y)
     pick P true a b = a
@@ -118,7 +122,8 @@ relisted_stock s p c ts is low small new few stand = record {
 
 -- The lists afterwards, as the rules have them, if a seat has seen these numbers of the titles that were set, and of the others what
 -- was seen before.
-pub relisted : (s : StockValue) (w : View) (p c : ℕ) (ts : List Title) (ns : List Numbered) → IsStock s → p < 4 → HasClass s.caches.version c → numbered_by w ts ≡ ns →
+pub relisted : (s : StockValue) (w : View) (p c : ℕ) (ts : List Title) (ns : List Numbered) → IsStock s → p < 4 →
+    HasClass s.caches.version c → numbered_by w ts ≡ ns →
     ((q d : ℕ) (u : Title) → Contains (titles_in s.caches q d) u → seen_of w u ≡ seen_of s.view u) →
     SameLists (listed_in (record s { view = w; caches = with_listed p c ts s.caches })) (with_list (listed_in s) p c ns)
 relisted s w p c ts ns is low small numbers others q d = elim (listed_cases s.caches p c ts q d low small is.lists.count) [

@@ -20,12 +20,14 @@ use Rattle.pa_op_specs.proofs.Stocks.{register_points, stock_with}
 abbrev pub cleared : StockValue → Handle → ℕ → ℕ → StockValue
 cleared s h r word = record s { view = after_count steps.Reset h.title word s.view; registers = slice_set s.registers r Cleared }
 
-pub can_reset : (s : StockValue) (r : ℕ) (h : Handle) → IsStock s → HasItsStake s → 0 < s.view.budget → r < 64 → register_in s.registers r ≡ Ref h →
+pub can_reset : (s : StockValue) (r : ℕ) (h : Handle) → IsStock s → HasItsStake s → 0 < s.view.budget → r < 64 →
+    register_in s.registers r ≡ Ref h →
     CanCount steps.Reset h.title s.view
 can_reset s r h is stake budget below ref = (register_points s r h is below ref, (least_is s.thread s.view is.stake stake).1, budget, tt)
 
 -- the thread state stays sound
-pub cleared_stock : CountLeaves → (s : StockValue) (r word : ℕ) (h : Handle) → IsStock s → HasItsStake s → 0 < s.view.budget → r < 64 → register_in s.registers r ≡ Ref h →
+pub cleared_stock : CountLeaves → (s : StockValue) (r word : ℕ) (h : Handle) → IsStock s → HasItsStake s → 0 < s.view.budget → r < 64 →
+    register_in s.registers r ≡ Ref h →
     IsStock (cleared s h r word)
 cleared_stock counts s r word h is stake budget below ref =
     let t = h.title in
@@ -41,6 +43,7 @@ cleared_stock counts s r word h is stake budget below ref =
       refs = λ u. let a = leaves.refs u in let b = is.handles.refs u in let c = sum_set (refs_one u) rs r Cleared Empty inside in
           let d : refs_one u (register_in rs r) ≡ one (same_title t u) = ap (refs_one u) ref in omega arith;
       clean = is.handles.clean;
+      sealed = is.handles.sealed;
       made = made_set w rs r Cleared inside tt (λ k. made_for_kept s.view w refl (register_in rs k) (is.handles.made k));
     })
     refl (λ u. let a = leaves.frees u in omega arith) leaves.entry.stakes

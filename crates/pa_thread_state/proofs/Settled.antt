@@ -12,7 +12,8 @@ use Rattle.pa_op_specs.proofs.Seeing.{made_for_kept}
 use Rattle.pa_op_specs.proofs.Stakes.{least_is, can_settle}
 use Rattle.pa_op_specs.proofs.Stocks.{stock_with}
 
-module _ (leaves : SettleAllLeaves) (owed : List Owed) (s : StockValue) (is : IsStock s) (stake : HasItsStake s) (covered : IsCovered owed s) where
+module _ (leaves : SettleAllLeaves) (owed : List Owed) (s : StockValue) (is : IsStock s) (stake : HasItsStake s)
+    (covered : IsCovered owed s) where
   abbrev pub settled : StockValue
   settled = record s { view = after_settle_all owed s.view }
 
@@ -27,6 +28,7 @@ module _ (leaves : SettleAllLeaves) (owed : List Owed) (s : StockValue) (is : Is
         owns = is.handles.owns;
         refs = is.handles.refs;
         clean = is.handles.clean;
+        sealed = is.handles.sealed;
         made = λ k. made_for_kept s.view (after_settle_all owed s.view) refl (register_in s.registers k) (is.handles.made k);
       })
       refl (λ t. omega arith) left.stakes

@@ -32,7 +32,8 @@ stock_of thread partitions v rs cs = record { thread = thread; partitions = part
 -- each listed title has in the other view the first word that it has
 abbrev pub FirstsStay : StockValue → View → Type 0
 FirstsStay s w =
-    (p class : ℕ) (t : Title) → Contains (titles_in s.caches p class) t → first_word w.words (name_of t) ≡ first_word s.view.words (name_of t)
+    (p class : ℕ) (t : Title) → Contains (titles_in s.caches p class) t →
+    first_word w.words (name_of t) ≡ first_word s.view.words (name_of t)
 
 -- A seat with view w has of the caches the lists that the thread state has, which is sound with it.
 pub record HasThem (s : StockValue) (w : View) (rs : List StockRegister) (cs : WorkerCaches) : Type 0 where
@@ -57,7 +58,8 @@ has_still s w rs cs are was has now firsts =
     }
 
 -- a seat whose view w is x has the thread's lists, if with x the thread state is sound and first words of listed titles stay
-pub has_as : (s : StockValue) (w x : View) (rs : List StockRegister) (cs : WorkerCaches) → w ≡ x → s.caches ≡ lists_in s.view cs → IsStock s →
+pub has_as : (s : StockValue) (w x : View) (rs : List StockRegister) (cs : WorkerCaches) → w ≡ x → s.caches ≡ lists_in s.view cs →
+    IsStock s →
     All (HoldsList s.view) cs.parts → IsStock (record s { view = x; registers = rs }) → FirstsStay s x → HasThem s w rs cs
 has_as s w x rs cs e are was has now firsts = subst (λ v. HasThem s v rs cs) (sym e) (has_still s x rs cs are was has now firsts)
 
@@ -70,7 +72,8 @@ after_as s w x rs cs e them =
 -- ---- why first words stay
 
 -- the seat knows them
-pub knows_first : (s : StockValue) (p class : ℕ) (t : Title) → IsStock s → Contains (titles_in s.caches p class) t → Knows s.view (t.start / 8)
+pub knows_first : (s : StockValue) (p class : ℕ) (t : Title) → IsStock s → Contains (titles_in s.caches p class) t →
+    Knows s.view (t.start / 8)
 knows_first s p class t is among =
     let (n, well) = is.lists.well p class t among in
     let a = well.start_aligned in let b = well.long in
@@ -85,7 +88,8 @@ pub kept_has : SlotsStaySeen → (s : StockValue) (w : View) (cs : WorkerCaches)
     All (HoldsList s.view) cs.parts → Keeps s.view w → HasThem s w s.registers cs
 kept_has stays s w cs are is has keeps = has_still s w s.registers cs are is has (kept_stock stays s w is keeps) (firsts_keep s w is keeps)
 
-pub same_has : (s : StockValue) (w : View) (cs : WorkerCaches) → s.caches ≡ lists_in s.view cs → IsStock s → All (HoldsList s.view) cs.parts →
+pub same_has : (s : StockValue) (w : View) (cs : WorkerCaches) → s.caches ≡ lists_in s.view cs → IsStock s →
+    All (HoldsList s.view) cs.parts →
     w ≡ s.view → HasThem s w s.registers cs
 same_has s w cs are is has same = has_as s w s.view s.registers cs same are is has is (λ p class t among. refl)
 
@@ -94,7 +98,8 @@ pub firsts_join : (s : StockValue) (n : View) → IsStock s → length s.view.wo
 firsts_join s n is long p class t among = left_known s.view n (t.start / 8) long (knows_first s p class t is among)
 
 -- words that are others only in a title that the seat has, and that is on no list
-pub firsts_beside : (words : ℕ) (s : StockValue) (w : View) (u : Title) → IsStock s → IsAware s.view → IsWellFormed words u → HasTitle s.view u →
+pub firsts_beside : (words : ℕ) (s : StockValue) (w : View) (u : Title) → IsStock s → IsAware s.view → IsWellFormed words u →
+    HasTitle s.view u →
     ((p class : ℕ) (t : Title) → Contains (titles_in s.caches p class) t → u ≡ t → ⊥) →
     ((q : ℕ) → (q < u.start / 8) ⊎ (count_place u < q) → slice_index w.words q ≡ slice_index s.view.words q) → FirstsStay s w
 firsts_beside words s w u is aware placed has other others p class t among =
@@ -105,7 +110,8 @@ firsts_beside words s w u is aware placed has other others p class t among =
       | inl before ↦ others (t.start / 8) (inl before)
       | inr from ↦ elim (cases_lt (count_place u) (t.start / 8)) [
         | inl behind ↦ others (t.start / 8) (inr behind)
-        | inr to ↦ absurd (other p class t among (aware.apart u t t.start has (omega arith) (omega arith, omega arith) (omega arith, omega arith)))
+        | inr to ↦ absurd (other p class t among
+            (aware.apart u t t.start has (omega arith) (omega arith, omega arith) (omega arith, omega arith)))
       ]
     ]
 
@@ -117,7 +123,8 @@ user_unlisted s u is aware user p class t among same =
     absurd (omega arith)
 
 -- if only words in the slot of a title that the seat uses changed, the listed titles keep their first words
-pub firsts_used : (words : ℕ) (s : StockValue) (w : View) (u : Title) → IsStock s → IsAware s.view → IsWellFormed words u → IsUser u s.view →
+pub firsts_used : (words : ℕ) (s : StockValue) (w : View) (u : Title) → IsStock s → IsAware s.view → IsWellFormed words u →
+    IsUser u s.view →
     ((q : ℕ) → (q < u.start / 8) ⊎ (count_place u < q) → slice_index w.words q ≡ slice_index s.view.words q) → FirstsStay s w
 firsts_used words s w u is aware placed user others =
     firsts_beside words s w u is aware placed (omega arith) (user_unlisted s u is aware user) others
@@ -129,18 +136,21 @@ filled_others value u words q out =
     filled_beside value u (content_count u) words q (elim out [ inl before ↦ inl before | inr behind ↦ inr (omega arith) ])
 
 -- the first words of listed titles stay, if the seat keeps what it has left after it handed over what is on no list
-pub firsts_left : (s : StockValue) (w left : View) → IsStock (record s { view = w }) → left.words ≡ s.view.words → Keeps left w → FirstsStay s w
+pub firsts_left : (s : StockValue) (w left : View) → IsStock (record s { view = w }) → left.words ≡ s.view.words → Keeps left w →
+    FirstsStay s w
 firsts_left s w left now words keeps p class t among =
     let (n, well) = now.lists.well p class t among in
     let free = now.lists.free p class t among in
     let same = free_kept left w t keeps in
     let a = well.start_aligned in let b = well.long in
-    keeps.words (t.start / 8) (inr (inl (t, omega arith, (omega arith, omega arith)))) ∙ ap (λ (xs : List ℕ). slice_index xs (t.start / 8)) words
+    keeps.words (t.start / 8) (inr (inl (t, omega arith, (omega arith, omega arith)))) ∙
+    ap (λ (xs : List ℕ). slice_index xs (t.start / 8)) words
 
 -- ---- a view that was parted and put together again
 
 -- it has the words that it had
-pub words_again : (v left note : View) (q : ℕ) → left.words ≡ v.words → note.words ≡ v.words → slice_index (united left note).words q ≡ slice_index v.words q
+pub words_again : (v left note : View) (q : ℕ) → left.words ≡ v.words → note.words ≡ v.words →
+    slice_index (united left note).words q ≡ slice_index v.words q
 words_again v left note q one other =
     merged_at left 0 left.words note.words q (ap (λ (xs : List ℕ). length xs) (one ∙ sym other))
     ∙ either (ltb 0 (knowing left (0 + q))) (ap (λ (xs : List ℕ). slice_index xs q) one) (ap (λ (xs : List ℕ). slice_index xs q) other)

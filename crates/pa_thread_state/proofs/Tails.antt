@@ -18,7 +18,8 @@ use Rattle.pa_thread_state.proofs.HandedBack.{gives_none, gives_left, gives_on}
 use Rattle.pa_rules.proofs.Batches.{gives_more}
 
 -- of two stocks, lists that are the same but one
-with_same : (p c : ℕ) (ts us : List Title) (lists others : ℕ → ℕ → List Title) → ts ≡ us → ((q d : ℕ) → ((q ≡ p) × (d ≡ c) → ⊥) → lists q d ≡ others q d) →
+with_same : (p c : ℕ) (ts us : List Title) (lists others : ℕ → ℕ → List Title) → ts ≡ us →
+    ((q d : ℕ) → ((q ≡ p) × (d ≡ c) → ⊥) → lists q d ≡ others q d) →
     (q d : ℕ) → with_titles p c ts lists q d ≡ with_titles p c us others q d
 with_same p c ts us lists others same beside q d = elim (eqb_tells q p) [
   | inl y ↦ elim (eqb_tells d c) [ inl z ↦ rw (y.0, z.0) same | inr n ↦ rw (y.0, n.0) (beside q d (λ e. n.1 e.1)) ]
@@ -50,13 +51,16 @@ some_none line p c keep s =
 -- what is after the first ones, when some went back
 pub behind : (line p c keep n : ℕ) (s now : StockValue) → GivesBatches line p c keep n s now →
     titles_in now.caches p c ≡ outside keep (keep + 16 * n) (titles_in s.caches p c)
-behind line p c keep n s now some = some.given.kept p c ∙ this_list p c (outside keep (keep + 16 * n) (titles_in s.caches p c)) (titles_in s.caches)
+behind line p c keep n s now some = some.given.kept p c ∙
+    this_list p c (outside keep (keep + 16 * n) (titles_in s.caches p c)) (titles_in s.caches)
 
-pub some_left : (line p c keep n : ℕ) (s now : StockValue) → GivesBatches line p c keep n s now → keep + 16 * n < length (titles_in s.caches p c) →
+pub some_left : (line p c keep n : ℕ) (s now : StockValue) → GivesBatches line p c keep n s now →
+    keep + 16 * n < length (titles_in s.caches p c) →
     keep < length (titles_in now.caches p c)
 some_left line p c keep n s now some more =
     let ts = titles_in s.caches p c in
-    let e : length (titles_in now.caches p c) ≡ length (outside keep (keep + 16 * n) ts) = ap (λ (us : List Title). length us) (behind line p c keep n s now some) in
+    let e : length (titles_in now.caches p c) ≡ length (outside keep (keep + 16 * n) ts) =
+    ap (λ (us : List Title). length us) (behind line p c keep n s now some) in
     let f = later_count keep (keep + 16 * n) ts (omega arith) in
     omega arith
 
@@ -68,7 +72,8 @@ pub some_thread : (line p c keep n : ℕ) (s now : StockValue) → GivesBatches 
 some_thread line p c keep n s now some = some.given.same.0
 
 -- one batch more
-pub some_more : (line p c keep n : ℕ) (s now next : StockValue) → IsStock now → GivesBatches line p c keep n s now → GivesBatch line p c keep now next →
+pub some_more : (line p c keep n : ℕ) (s now next : StockValue) → IsStock now → GivesBatches line p c keep n s now →
+    GivesBatch line p c keep now next →
     keep + 16 * n < length (titles_in s.caches p c) → GivesBatches line p c keep (n + 1) s next
 some_more line p c keep n s now next is some batch more =
     let ts = titles_in s.caches p c in
@@ -101,14 +106,17 @@ some_more line p c keep n s now next is some batch more =
       acts = some.acts ++ act ∷ [];
       given = gives_left line p (some.acts ++ act ∷ []) (with_titles p c (rest_after keep us) (titles_in now.caches))
           (with_titles p c (outside keep (keep + 16 * (n + 1)) ts) (titles_in s.caches)) s next
-          (gives_on line p some.acts (act ∷ []) (with_titles p c (outside keep m ts) (titles_in s.caches)) (with_titles p c (rest_after keep us) (titles_in now.caches)) s now next some.given batch)
+          (gives_on line p some.acts (act ∷ []) (with_titles p c (outside keep m ts) (titles_in s.caches))
+          (with_titles p c (rest_after keep us) (titles_in now.caches)) s now next some.given batch)
           (with_same p c (rest_after keep us) (outside keep (keep + 16 * (n + 1)) ts) (titles_in now.caches) (titles_in s.caches) stays
           (λ q d other. some.given.kept q d ∙ other_list p c (outside keep m ts) (titles_in s.caches) q d other));
-      rest = append_assoc some.acts (act ∷ []) (gives (map f (drop (keep + 16 * (n + 1)) ts))) ∙ (ap (λ acts. some.acts ++ acts) step ∙ some.rest);
+      rest = append_assoc some.acts (act ∷ []) (gives (map f (drop (keep + 16 * (n + 1)) ts))) ∙
+          (ap (λ acts. some.acts ++ acts) step ∙ some.rest);
     }
 
 -- all of them
-pub some_all : (line p c keep n : ℕ) (s now : StockValue) → GivesBatches line p c keep n s now → length (titles_in s.caches p c) ≤ keep + 16 * n →
+pub some_all : (line p c keep n : ℕ) (s now : StockValue) → GivesBatches line p c keep n s now →
+    length (titles_in s.caches p c) ≤ keep + 16 * n →
     GivesTail line p c keep s now
 some_all line p c keep n s now some few =
     let ts = titles_in s.caches p c in
@@ -118,5 +126,6 @@ some_all line p c keep n s now some few =
     sym (append-nil some.acts) ∙ (ap (λ us. some.acts ++ gives (numbered_by s.view us)) (sym none) ∙ some.rest) in
     let stays : outside keep m ts ≡ take keep ts = ap (λ us. take keep ts ++ us) none ∙ append-nil (take keep ts) in
     subst (λ bs. Gives line p bs (with_titles p c (take keep ts) (titles_in s.caches)) s now) acts
-    (gives_left line p some.acts (with_titles p c (outside keep m ts) (titles_in s.caches)) (with_titles p c (take keep ts) (titles_in s.caches)) s now some.given
+    (gives_left line p some.acts (with_titles p c (outside keep m ts) (titles_in s.caches))
+    (with_titles p c (take keep ts) (titles_in s.caches)) s now some.given
     (with_same p c (outside keep m ts) (take keep ts) (titles_in s.caches) (titles_in s.caches) stays (λ q d other. refl)))

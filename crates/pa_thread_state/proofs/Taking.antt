@@ -56,7 +56,8 @@ pub record Asking (line p : ℕ) (acts : List RootAct) (r : ℕ) (v u w : View) 
   pub keeps : Keeps v u
 
 one_uncut : (p : ℕ) (m : Made) (t : Title) → Contains (Entered p m ∷ []) (Uncut t) → ⊥
-one_uncut p m t among = elim (in_cases (Entered p m) (Uncut t) [] among) [ inl same ↦ not_it p m same | inr none ↦ not_in_none (Uncut t) none ]
+one_uncut p m t among = elim (in_cases (Entered p m) (Uncut t) [] among)
+    [ inl same ↦ not_it p m same | inr none ↦ not_in_none (Uncut t) none ]
   where
     not_it : (p : ℕ) (m : Made) → Entered p m ≡ Uncut t → ⊥
     not_it p m e = cc
@@ -67,8 +68,10 @@ two_uncut p q k m t among = elim (in_cases (Entered q k) (Uncut t) (Entered p m 
   | inr later ↦ one_uncut p m t later
 ]
 
-pub two_asking : (a j r p line : ℕ) (taken : PoolEntry) (a_root : RootAct) (v u w : View) → EntersTwo a j r p [] taken (root_entry line a_root) v u → p < 4 →
-    asked_by a_root ≡ Some a → taken.partition ≡ p → taken.line ≡ line → IsBeginning (list_of 4 u) (list_of 4 w) → Asking line p (a_root ∷ []) r v u w
+pub two_asking : (a j r p line : ℕ) (taken : PoolEntry) (a_root : RootAct) (v u w : View) →
+    EntersTwo a j r p [] taken (root_entry line a_root) v u → p < 4 →
+    asked_by a_root ≡ Some a → taken.partition ≡ p → taken.line ≡ line → IsBeginning (list_of 4 u) (list_of 4 w) →
+    Asking line p (a_root ∷ []) r v u w
 two_asking a j r p line taken a_root v u w two low names at of more = record {
   es = Entered 4 two.pool ∷ Entered p two.made ∷ [];
   entering = two_enters a j r p line [] taken a_root v u two (omega arith) of (λ e among. absurd (not_in_none e among));
@@ -78,7 +81,8 @@ two_asking a j r p line taken a_root v u w two low names at of more = record {
   keeps = two.lends.keeps;
 }
 
-pub for_asking : (j r p line : ℕ) (asked found : Option ℕ) (a_root : RootAct) (v u w : View) → EntersFor j r p line asked found a_root v u → p < 4 →
+pub for_asking : (j r p line : ℕ) (asked found : Option ℕ) (a_root : RootAct) (v u w : View) → EntersFor j r p line asked found a_root v u →
+    p < 4 →
     asked_by a_root ≡ asked → IsBeginning (list_of 4 u) (list_of 4 w) → Asking line p (a_root ∷ []) r v u w
 for_asking j r p line None found a_root v u w one low names more = record {
   es = Entered p one.made ∷ [];
@@ -88,19 +92,23 @@ for_asking j r p line None found a_root v u w one low names more = record {
   asks = asks_one j r p line a_root v u w one low names;
   keeps = one.lends.keeps;
 }
-for_asking j r p line (Some a) found a_root v u w two low names more = two_asking a j r p line (take_entry line p 1 found) a_root v u w two low names refl refl more
+for_asking j r p line (Some a) found a_root v u w two low names more =
+    two_asking a j r p line (take_entry line p 1 found) a_root v u w two low names refl refl more
 
 -- it is among those that the seat which took the note has seen
-pub still_there : (j r p : ℕ) (numbers : List ℕ) (v u w : View) (m : Made) → IsEnteredAt j r p numbers v u m → IsBeginning (list_of p u) (list_of p w) → Contains (list_of p w) m
+pub still_there : (j r p : ℕ) (numbers : List ℕ) (v u w : View) (m : Made) → IsEnteredAt j r p numbers v u m →
+    IsBeginning (list_of p u) (list_of p w) → Contains (list_of p w) m
 still_there j r p numbers v u w m at more =
     let (rest, is) = begins_on (at.earlier ++ m ∷ []) (list_of p u) (list_of p w) at.stands more in
-    subst (λ l. Contains l m) (sym is) (Contains-append_left (at.earlier ++ m ∷ []) rest m (Contains-append_right at.earlier (m ∷ []) m (first_in m [])))
+    subst (λ l. Contains l m) (sym is)
+    (Contains-append_left (at.earlier ++ m ∷ []) rest m (Contains-append_right at.earlier (m ∷ []) m (first_in m [])))
 
 -- a numbered title has its name
 pub named : (v : View) (ts : List Title) (t : Title) → Contains ts t → Contains (names (numbered_by v ts)) (name_of t)
 named v [] t among = absurd (not_in_none t among)
 named v (u ∷ ts) t among = elim (in_cases u t ts among) [
-  | inl same ↦ subst (λ n. Contains (name_of u ∷ names (numbered_by v ts)) n) (ap (λ x. name_of x) same) (first_in (name_of u) (names (numbered_by v ts)))
+  | inl same ↦ subst (λ n. Contains (name_of u ∷ names (numbered_by v ts)) n) (ap (λ x. name_of x) same)
+      (first_in (name_of u) (names (numbered_by v ts)))
   | inr later ↦ later_in (name_of u) (name_of t) (names (numbered_by v ts)) (named v ts t later)
 ]
 
@@ -143,4 +151,5 @@ module _ (s : StockValue) (u n : View) (titles : List Title) (is : IsStock s) (t
   took_enters line es entering =
       subst (λ xs. Entering s.thread line xs s.view (united u n)) (append-nil es)
       (entering_both s.thread line es [] s.view u (united u n) entering
-      (rests_enters s.thread line u (united u n) (taken_rests joins seen_joins stay u n took.awares.1 took.awares.2 took.awares.3 took.long took.has.stakes)))
+      (rests_enters s.thread line u (united u n)
+      (taken_rests joins seen_joins stay u n took.awares.1 took.awares.2 took.awares.3 took.long took.has.stakes)))

@@ -9,11 +9,12 @@ use Rattle.pa_lists.proofs.Members.{in_cases, not_in_none}
 use Rattle.pa_lists.proofs.Pairs.{pairs_head, pairs_tail}
 use Rattle.pa_cache.specs.Caches.{CacheList, batch_after, rest_after}
 use Rattle.pa_rules.specs.Sizes.{HasClass, class_total}
-use Rattle.pa_rules.proofs.Versions.{class_cases}
-use Rattle.pa_op_specs.specs.Stocks.{WorkerLists, cache_place, no_cache, titles_in}
+use Rattle.pa_rules.proofs.Versions.{class_cases, one_place, place_within}
+use Rattle.pa_rules.specs.Lists.{cache_place}
+use Rattle.pa_op_specs.specs.Stocks.{WorkerLists, no_cache, titles_in}
 use Rattle.pa_thread_state.specs.Giving.{with_titles}
 use Rattle.pa_op_specs.proofs.Registers.{set_at}
-use Rattle.pa_thread_state.proofs.Places.{place_within, one_place, titles_here, titles_none}
+use Rattle.pa_thread_state.proofs.Places.{titles_here, titles_none}
 use Rattle.pa_lists.proofs.Elements.{take_in, drop_in}
 
 -- the list at one place, and another one
@@ -25,9 +26,11 @@ this_list p c ts lists = elim (eqb_tells p p) [
 
 pub this_one : (p c : ℕ) (ts : List Title) (lists : ℕ → ℕ → List Title) (q d : ℕ) → q ≡ p → d ≡ c → with_titles p c ts lists q d ≡ ts
 this_one p c ts lists q d one same =
-    subst (λ r. with_titles p c ts lists r d ≡ ts) (sym one) (subst (λ e. with_titles p c ts lists p e ≡ ts) (sym same) (this_list p c ts lists))
+    subst (λ r. with_titles p c ts lists r d ≡ ts) (sym one)
+    (subst (λ e. with_titles p c ts lists p e ≡ ts) (sym same) (this_list p c ts lists))
 
-pub other_list : (p c : ℕ) (ts : List Title) (lists : ℕ → ℕ → List Title) (q d : ℕ) → ((q ≡ p) × (d ≡ c) → ⊥) → with_titles p c ts lists q d ≡ lists q d
+pub other_list : (p c : ℕ) (ts : List Title) (lists : ℕ → ℕ → List Title) (q d : ℕ) → ((q ≡ p) × (d ≡ c) → ⊥) →
+    with_titles p c ts lists q d ≡ lists q d
 other_list p c ts lists q d other = elim (eqb_tells q p) [
   | inl y ↦ elim (eqb_tells d c) [ inl z ↦ absurd (other (y.1, z.1)) | inr n ↦ rw (y.0, n.0) refl ]
   | inr n ↦ rw n.0 refl
@@ -36,7 +39,8 @@ other_list p c ts lists q d other = elim (eqb_tells q p) [
 -- each list after a cache was put at the place of partition p and the class
 pub set_titles : (caches : WorkerLists) (p c : ℕ) (new : CacheList) (q d : ℕ) → p < 4 → HasClass caches.version c →
     length caches.lists ≡ 4 * class_total caches.version →
-    titles_in (record caches { lists = slice_set caches.lists (cache_place caches.version p c) new }) q d ≡ with_titles p c new.titles (titles_in caches) q d
+    titles_in (record caches { lists = slice_set caches.lists (cache_place caches.version p c) new }) q d ≡ with_titles p c new.titles
+    (titles_in caches) q d
 set_titles caches p c new q d low real long = elim (class_cases v d) [
   | inr none ↦
       titles_none after q d none ∙ (sym (titles_none caches q d none)
@@ -44,7 +48,8 @@ set_titles caches p c new q d low real long = elim (class_cases v d) [
   | inl is ↦ elim (eqb_tells (cache_place v q d) (cache_place v p c)) [
     | inl y ↦
         let same = one_place v q d p c is real y.1 in
-        titles_here after q d is ∙ (ap (λ (x : CacheList). x.titles) (rw y.0 at at) ∙ sym (this_one p c new.titles (titles_in caches) q d same.0 same.1))
+        titles_here after q d is ∙
+        (ap (λ (x : CacheList). x.titles) (rw y.0 at at) ∙ sym (this_one p c new.titles (titles_in caches) q d same.0 same.1))
     | inr n ↦
         titles_here after q d is ∙ (ap (λ (x : CacheList). x.titles) (rw n.0 at at) ∙ (sym (titles_here caches q d is)
         ∙ sym (other_list p c new.titles (titles_in caches) q d (λ e. n.1 (ap₂ (cache_place v) e.0 e.1)))))
@@ -59,7 +64,8 @@ set_titles caches p c new q d low real long = elim (class_cases v d) [
 
     at : slice_index_or (slice_set caches.lists (cache_place v p c) new) (cache_place v q d) no_cache
         ≡ (if cache_place v q d == cache_place v p c then new else slice_index_or caches.lists (cache_place v q d) no_cache)
-    at = set_at caches.lists (cache_place v p c) (cache_place v q d) new no_cache (let within = place_within v p c low real in omega (arith, within, long))
+    at = set_at caches.lists (cache_place v p c) (cache_place v q d) new no_cache
+        (let within = place_within v 4 p c low real in omega (arith, within, long))
 
 -- ---- a part of a list, and its rest
 
@@ -88,11 +94,14 @@ pairs_after zero xs once = once
 pairs_after (suc n) [] once = once
 pairs_after (suc n) (x ∷ xs) once = pairs_after n xs (pairs_tail (λ a b. a ≢ b) x xs once)
 
-pub rest_or_batch : (keep : ℕ) (ts : List Title) (t : Title) → AllPairs ◌≢◌ ts → Contains (rest_after keep ts) t → Contains (batch_after keep ts) t → ⊥
+pub rest_or_batch : (keep : ℕ) (ts : List Title) (t : Title) → AllPairs ◌≢◌ ts → Contains (rest_after keep ts) t →
+    Contains (batch_after keep ts) t → ⊥
 rest_or_batch keep ts t once rest batch = elim (Contains-append_cases (take keep ts) (drop (keep + 16) ts) t rest) [
   | inl first ↦
-      apart_append (take keep ts) (drop keep ts) t (subst (AllPairs ◌≢◌) (sym (take-append-drop keep ts)) once) first (take_in 16 (drop keep ts) t batch)
+      apart_append (take keep ts) (drop keep ts) t (subst (AllPairs ◌≢◌) (sym (take-append-drop keep ts)) once) first
+      (take_in 16 (drop keep ts) t batch)
   | inr later ↦
-      apart_append (take 16 (drop keep ts)) (drop 16 (drop keep ts)) t (subst (AllPairs ◌≢◌) (sym (take-append-drop 16 (drop keep ts))) (pairs_after keep ts once)) batch
+      apart_append (take 16 (drop keep ts)) (drop 16 (drop keep ts)) t
+      (subst (AllPairs ◌≢◌) (sym (take-append-drop 16 (drop keep ts))) (pairs_after keep ts once)) batch
       (subst (λ us. Contains us t) (sym (drop-drop 16 keep ts)) later)
 ]

@@ -1,5 +1,6 @@
 -- Stores to the slot of an Own, and the step that records them: that they can be made, and the thread state after them.
 use Rattle.std.proofs.Common.{◌≡◌, ℕ, ◌<◌, true, List, [], ◌∷◌, length, refl, ◌∙◌, ap, arith, inl, inr}
+use Rattle.std.specs.Prelude.{◌&&◌}
 use Rattle.std.specs.List.{sum_by}
 use Rattle.std.proofs.lemmas.Bool.{cases_Bool}
 use Rattle.pa_slot.specs.declared.title.Title.{Title}
@@ -31,10 +32,12 @@ abbrev pub filled_stock : StockValue → Handle → ℕ → ℕ → StockValue
 filled_stock s h value word = record s { view = filled_view s.view h.title value word }
 
 -- what is required of the step
-pub can_tell : StatesAreOwns → OwnsChange → FilledWords → (n : ℕ) (s : StockValue) (value : ℕ) (h : Handle) → IsStock s → HasItsStake s → 0 < s.view.budget →
+pub can_tell : StatesAreOwns → OwnsChange → FilledWords → (n : ℕ) (s : StockValue) (value : ℕ) (h : Handle) → IsStock s → HasItsStake s →
+    0 < s.view.budget →
     IsWellFormed n h.title → length s.view.words ≡ n → CanFill h s → CanCount steps.Write h.title (filled h.title value s.view)
 can_tell states owns fills n s value h is stake budget well long can =
-    write_told states owns fills n h.title value s.view (filled h.title value s.view) well long can (least_is s.thread s.view is.stake stake).1 budget refl
+    write_told states owns fills n h.title value s.view (filled h.title value s.view) well long can
+    (least_is s.thread s.view is.stake stake).1 budget refl
 
 -- two changes of the first Own of a title are one
 changed_both : (t : Title) (f g : OwnTitle → OwnTitle) → ((o : OwnTitle) → (f o).title ≡ o.title) → (os : List OwnTitle) →
@@ -55,8 +58,17 @@ filled_clean owns t os has clean =
     let e = ap (sum_by (λ (o : OwnTitle). one (is_unclean o.state))) (changed_both t dirty written (λ o. refl) os) in
     omega arith
 
+-- and sealed if it was
+filled_seals : OwnsChange → (t u : Title) (os : List OwnTitle) →
+    sum_by (λ (o : OwnTitle). one (same_title o.title u && o.sealed)) (changed (is_own_of t) written (changed (is_own_of t) dirty os))
+    ≡ sum_by (λ (o : OwnTitle). one (same_title o.title u && o.sealed)) os
+filled_seals owns t u os =
+    owns.1 t written (λ (o : OwnTitle). one (same_title o.title u && o.sealed)) (changed (is_own_of t) dirty os) (λ o. refl)
+    ∙ owns.1 t dirty (λ (o : OwnTitle). one (same_title o.title u && o.sealed)) os (λ o. refl)
+
 -- the thread state stays sound
-pub filled_sound : CountLeaves → OwnsChange → StatesAreOwns → FilledWords → (n : ℕ) (s : StockValue) (reg value word : ℕ) (h : Handle) → IsStock s → HasItsStake s →
+pub filled_sound : CountLeaves → OwnsChange → StatesAreOwns → FilledWords → (n : ℕ) (s : StockValue) (reg value word : ℕ) (h : Handle) →
+    IsStock s → HasItsStake s →
     0 < s.view.budget → reg < 64 → register_in s.registers reg ≡ Own h → IsWellFormed n h.title → length s.view.words ≡ n → CanFill h s →
     IsStock (filled_stock s h value word)
 filled_sound counts owns states fills n s reg value word h is stake budget below own well long can =
@@ -74,6 +86,7 @@ filled_sound counts owns states fills n s reg value word h is stake budget below
           omega arith;
       refs = λ u. let a = leaves.refs u in let b = is.handles.refs u in omega arith;
       clean = filled_clean owns t s.view.owns (register_owns s reg h is below own) is.handles.clean;
+      sealed = λ u. filled_seals owns t u s.view.owns ∙ is.handles.sealed u;
       made = λ k. made_for_kept s.view w refl (register_in s.registers k) (is.handles.made k);
     })
     refl (λ u. let a = leaves.frees u in omega arith) leaves.entry.stakes

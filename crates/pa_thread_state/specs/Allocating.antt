@@ -26,7 +26,8 @@ use Rattle.pa_cells.specs.Handles.{HasSeenMade}
 use Rattle.pa_rules.specs.Sizes.{HasClass}
 use Rattle.pa_cache.specs.Caches.{CacheList}
 use Rattle.pa_rules.specs.declared.register.Register.TheVariants.{Own}
-use Rattle.pa_op_specs.specs.Stocks.{StockValue, WorkerLists, cache_place, titles_in, listed_slot}
+use Rattle.pa_rules.specs.Lists.{cache_place}
+use Rattle.pa_op_specs.specs.Stocks.{StockValue, WorkerLists, titles_in, listed_slot}
 
 -- the caches with this one for a partition and a class
 abbrev pub with_list_at : ℕ → ℕ → CacheList → WorkerLists → WorkerLists
@@ -54,8 +55,8 @@ abbrev pub Pops : ℕ → ℕ → Option Title → (before after : StockValue) �
 Pops p class None before after = (after ≡ before) × (titles_in before.caches p class ≡ [])
 Pops p class (Some t) before after = TakesFront p class t before after
 
--- A free title was issued to a register, its content zeroed before, as the seat could do. The answer says what the step found, and
--- how many bytes are usable.
+-- A free title was issued to a register, its content zeroed before, as the seat could do. The answer says what the step found,
+-- and how many bytes are usable.
 pub record Issues (h : Handle) (reg : ℕ) (answer : Answer) (before after : StockValue) : Type 0 where
   pub seen : Seen
   pub answer_is : answer ≡ answers.Made seen (h.title.len - 8)
@@ -110,8 +111,8 @@ pub record MapsTitle (line p len : ℕ) (t : Title) (before after : StockValue) 
   pub long : length asked.words ≡ length note.words
   pub after_is : after ≡ record before { view = united asked note }
 
--- What a root that gives nothing says to a seat. Entry j of its journal says that there's no room, or it ran out of memory, and
--- nothing changed.
+-- What a root that gives nothing says to a seat. Entry j of its journal says that there's no room,
+-- or it ran out of memory, and nothing changed.
 abbrev pub GivesNone : (r line p count : ℕ) → Option ℕ → (before after : Share) → FillFault → Type 0
 GivesNone r line p count class before after (Full j) = IsFullFor j r p line count class before.view after.view
 GivesNone r line p count class before after OutOfMemory = after ≡ before

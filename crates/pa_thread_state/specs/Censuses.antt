@@ -12,7 +12,8 @@ use Rattle.pa_logs.specs.Said.{IsCensusBy}
 -- journal names, so it is the same in any list of the pool that begins with what the seat has seen.
 abbrev pub TellsCensus : ℕ → View → Census → Type 0
 TellsCensus p seat c =
-    (list : List Made) (pools : List PoolEntry) → IsBeginning (list_of 4 seat) list → IsPoolList list pools → IsCensusBy (list_of p seat) list c
+    (list : List Made) (pools : List PoolEntry) → IsBeginning (list_of 4 seat) list → IsPoolList list pools →
+    IsCensusBy (list_of p seat) list c
 
 -- the two have seen the same of each list
 abbrev pub HasSameLists : View → View → Type 0

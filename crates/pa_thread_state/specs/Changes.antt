@@ -19,7 +19,8 @@ use Rattle.pa_cells.specs.declared.handle.Handle.{Handle}
 use Rattle.pa_cells.specs.Handles.{HasSeenMade}
 use Rattle.pa_rules.specs.Sizes.{HasClass}
 use Rattle.pa_rules.specs.declared.register.Register.TheVariants.{Ref}
-use Rattle.pa_op_specs.specs.Stocks.{StockRegister, StockValue, WorkerLists, cache_place, titles_in}
+use Rattle.pa_rules.specs.Lists.{cache_place}
+use Rattle.pa_op_specs.specs.Stocks.{StockRegister, StockValue, WorkerLists, titles_in}
 
 -- The seat looked at the handle's slot, and saw this.
 pub record LooksAtSlot (h : Handle) (seen : Seen) (before after : StockValue) : Type 0 where
@@ -46,7 +47,8 @@ pub record WritesTo (h : Handle) (value : ℕ) (seen : Seen) (before after : Sto
 
 -- The seat let go of the handle of a register, by a reset or a free that found this when its view was `v`, and the register has
 -- `instead`.
-pub record LetsGo (step : Step) (h : Handle) (reg : ℕ) (instead : StockRegister) (v : View) (seen : Seen) (before after : StockValue) : Type 0 where
+pub record LetsGo (step : Step) (h : Handle) (reg : ℕ) (instead : StockRegister) (v : View) (seen : Seen)
+    (before after : StockValue) : Type 0 where
   pub slot : seen.slot ≡ name_of h.title
   pub after_is :
       after ≡ record before { view = after_count step h.title seen.found.0 v; registers = slice_set before.registers reg instead }
@@ -71,8 +73,8 @@ pub record BecomesFront (h : Handle) (class : ℕ) (before after : StockValue) :
   pub after_is : after ≡ record before { view = after.view; caches = put_in_front h.partition class h.title before.caches }
   pub relinked : Relinked before.view after.view
 
--- A title that can be put at the front of a list: it is free, well formed and on no list, its slot was seen made for that list,
--- and there is room.
+-- A title that can be put at the front of a list: it is free, well formed and on no list,
+-- its slot was seen made for that list, and there is room.
 pub record CanList (h : Handle) (class : ℕ) (s : StockValue) : Type 0 where
   pub class_is : h.class ≡ Some class
   pub free : 0 < free_of s.view h.title
@@ -87,8 +89,8 @@ pub record IsBack (h : Handle) (s : StockValue) : Type 0 where
   pub new : (p class : ℕ) → Contains (titles_in s.caches p class) h.title → ⊥
   pub made : HasSeenMade h s.view
 
--- the slot can't go to a list as that is: it is a direct map's or of a class of another version, or the list of its class is as long as it
--- may be
+-- the slot can't go to a list as that is: it is a direct map's or of a class of another version,
+-- or the list of its class is as long as it may be
 abbrev pub NeedsRoot : Handle → StockValue → Type 0
 NeedsRoot h s =
     (class : ℕ) → h.class ≡ Some class → HasClass s.caches.version class → limit_of class ≤ length (titles_in s.caches h.partition class)
@@ -96,6 +98,7 @@ NeedsRoot h s =
 -- The slot was put at the front of the list of its class, which had room, or nothing was done, and the slot needs the root.
 abbrev pub IsPut : Bool → Handle → (before after : StockValue) → Type 0
 IsPut true h before after =
-    (class : ℕ) × (h.class ≡ Some class) × HasClass before.caches.version class × (length (titles_in before.caches h.partition class) < limit_of class)
+    (class : ℕ) × (h.class ≡ Some class) × HasClass before.caches.version class ×
+    (length (titles_in before.caches h.partition class) < limit_of class)
     × BecomesFront h class before after
 IsPut false h before after = (after ≡ before) × NeedsRoot h before

@@ -1,5 +1,5 @@
--- Where a slot goes that a step returned, if its list has no room for it: alone back to its root, or to the front of its list after
--- the list's tail went back.
+-- Where a slot goes that a step returned, if its list has no room for it: alone back to its root,
+-- or to the front of its list after the list's tail went back.
 use Rattle.std.specs.Prelude.{◌≡◌, ℕ, ◌-◌, ◌/◌, ◌<◌, ◌⊎◌, [], ◌∷◌, Option, Some, None}
 use Rattle.pa_slot.specs.declared.title.Title.{Title}
 use Rattle.pa_buckets.specs.Bands.{limit_of}
@@ -34,8 +34,8 @@ pub record GoesHome (line : ℕ) (h : Handle) (before after : StockValue) : Type
   pub same : after ≡ record before { view = after.view }
   pub lists : SameLists (listed_in after) (listed_in before)
 
--- The tail of the slot's list went back to the root, and then the slot became the front of the list, which has half the limit
--- of its class then.
+-- The tail of the slot's list went back to the root, and then the slot became the front of the list,
+-- which has half the limit of its class then.
 pub record Spills (line : ℕ) (h : Handle) (class : ℕ) (before after : StockValue) : Type 0 where
   pub between : StockValue
   pub gives : GivesTail line h.partition class (limit_of class / 2 - 1) before between
@@ -45,9 +45,10 @@ pub record Spills (line : ℕ) (h : Handle) (class : ℕ) (before after : StockV
 abbrev pub KeepsNoList : Handle → StockValue → Type 0
 KeepsNoList h s = (class : ℕ) → h.class ≡ Some class → HasClass s.caches.version class → limit_of class ≡ 0
 
--- The slot is where it belongs. A direct map, or a slot of a class that keeps no list, as those of another version, is in its root. Else
--- its list spilled.
+-- The slot is where it belongs. A direct map, or a slot of a class that keeps no list, as those of another version,
+-- is in its root. Else its list spilled.
 abbrev pub IsSettled : ℕ → Handle → (before after : StockValue) → Type 0
 IsSettled line h before after =
     (KeepsNoList h before × GoesHome line h before after)
-    ⊎ ((class : ℕ) × (h.class ≡ Some class) × HasClass before.caches.version class × (0 < limit_of class) × Spills line h class before after)
+    ⊎ ((class : ℕ) × (h.class ≡ Some class) × HasClass before.caches.version class × (0 < limit_of class) ×
+    Spills line h class before after)

@@ -1,23 +1,20 @@
 -- A worker's caches over chains, in tables, and what those of a partition have together.
-use Rattle.std.specs.Prelude.{◌≡◌, ℕ, ◌+◌, ◌-◌, ◌*◌, ◌<◌, ◌≤◌, List, ◌++◌, map, length, Option, None, slice_index_or, slice_set}
+use Rattle.std.specs.Prelude.{◌≡◌, ℕ, ◌*◌, ◌≤◌, List, ◌++◌, map, length, Option, None, slice_index_or, slice_set}
 use Rattle.std.specs.Option.{option_to_list}
 use Rattle.pa_slot.specs.declared.title.Title.{Title}
-use Rattle.pa_buckets.specs.Limits.{class_count}
-use Rattle.pa_buckets.specs.Table.{slot_of}
-use Rattle.pa_record.specs.declared.numbered.Numbered.{Numbered}
 use Rattle.pa_record.specs.declared.report.Tally.{Tally}
 use Rattle.pa_trace.specs.Limits.{most_partitions}
 use Rattle.pa_region.specs.declared.view.View.{View}
-use Rattle.pa_rules.specs.Caches.{Cache, listed_slots}
-use Rattle.pa_rules.specs.Report.{listed_bytes}
+use Rattle.pa_rules.specs.Caches.{Cache}
+use Rattle.pa_rules.specs.Lists.{AreTalliesOf, cache_place}
 use Rattle.pa_rules.specs.Sizes.{class_total}
 use Rattle.pa_link.specs.Chains.{Relinked, SameBeside}
 use Rattle.pa_cache.specs.Chained.{CacheParts, HoldsList, list_in}
 use Rattle.pa_root.specs.Handing.{numbered_by}
-use Rattle.pa_op_specs.specs.Stocks.{WorkerLists, cache_place, titles_in}
+use Rattle.pa_op_specs.specs.Stocks.{WorkerLists, titles_in}
 
--- A worker's caches: the version of the run, and of each of 4 partitions the parts of a cache for each class of the version, those of
--- partition 0 first.
+-- A worker's caches: the version of the run, and of each of 4 partitions the parts of a cache
+-- for each class of the version, those of partition 0 first.
 pub record WorkerCaches : Type 0 where
   pub version : ℕ
   pub parts : List CacheParts
@@ -46,39 +43,13 @@ with_parts p class new cs = record cs { parts = slice_set cs.parts (cache_place 
 abbrev pub titles_of : View → ℕ → ℕ → WorkerCaches → List Title
 titles_of v p class cs = (list_in v (parts_of p class cs)).titles
 
--- the tally of no slots
-abbrev pub no_tally : Tally
-no_tally = record { slots = 0; bytes = 0 }
-
--- the tally is that of these lists, by their classes
-pub record IsTallyOf (lists : ℕ → List Numbered) (tally : Tally) : Type 0 where
-  pub slots : tally.slots ≡ listed_slots lists 0 class_count
-  pub bytes : tally.bytes ≡ listed_bytes (λ class. length (lists class)) 0 class_count
-
 -- What is true of a worker's caches and of their sums, whichever words a view has.
 --   many, short: there is a cache for each class of each of four partitions, with at most 8 titles more than a list may have
---   four, each: a sum of each partition is that of its lists
+--   right: the sums are those of the lists
 pub record AreSummed (cs : WorkerCaches) (sums : List Tally) : Type 0 where
   pub many : length cs.parts ≡ most_partitions * class_total cs.version
   pub short : (v : View) (p class : ℕ) → length (titles_in (lists_in v cs) p class) ≤ 72
-  pub four : length sums ≡ most_partitions
-  pub each : (v : View) (p : ℕ) → p < most_partitions → IsTallyOf (numbered_in v cs p) (slice_index_or sums p no_tally)
-
--- the tally of lists after one of a class went from the first number of slots to the second
-abbrev pub changed_by : Tally → ℕ → ℕ → ℕ → Tally
-changed_by sum class before after = record {
-  slots = sum.slots - before + after;
-  bytes = sum.bytes - slot_of class * before + slot_of class * after;
-}
-
--- The tally counts a list of this class with `before` slots, and all numbers are small enough for a change to `after` slots.
-pub record HasPart (sum : Tally) (class before after : ℕ) : Type 0 where
-  pub slots : before ≤ sum.slots
-  pub bytes : slot_of class * before ≤ sum.bytes
-  pub few : sum.slots ≤ 12240
-  pub small : sum.bytes ≤ 12032409600
-  pub short : before ≤ 72
-  pub short_too : after ≤ 72
+  pub right : (v : View) → AreTalliesOf (numbered_in v cs) sums
 
 -- The cache of a partition and a class became another one of its class, of which the view has these titles.
 pub record BecomesCache (p class : ℕ) (titles : List Title) (v : View) (before after : WorkerCaches) : Type 0 where

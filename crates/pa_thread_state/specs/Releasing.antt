@@ -15,7 +15,8 @@ IsBroughtBack line h before after = IsPut true h before after ⊎ (NeedsRoot h b
 
 -- The seat let go of the handle of a register, by a reset or a free that found this when its view was `v`. If that returned the slot,
 -- the slot came back. Else nothing more was done.
-pub record Releases (line : ℕ) (step : Step) (h : Handle) (reg : ℕ) (instead : StockRegister) (v : View) (seen : Seen) (before after : StockValue) : Type 0 where
+pub record Releases (line : ℕ) (step : Step) (h : Handle) (reg : ℕ) (instead : StockRegister) (v : View) (seen : Seen)
+    (before after : StockValue) : Type 0 where
   pub between : StockValue
   pub gone : LetsGo step h reg instead v seen before between
   pub back :

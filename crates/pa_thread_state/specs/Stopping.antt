@@ -54,7 +54,8 @@ pub record StopsPartition (line p : ℕ) (before after : StockValue) : Type 0 wh
   pub classes : ℕ
   pub between : StockValue
   pub gave : GivesLists line p classes before between
-  pub stopped : (HasClass before.caches.version classes × StopsTail line p classes 0 between after) ⊎ (IsCleared p between × (after ≡ between))
+  pub stopped : (HasClass before.caches.version classes × StopsTail line p classes 0 between after) ⊎
+      (IsCleared p between × (after ≡ between))
 
 -- A slot that a step returned isn't where it belongs: its title is free in the seat and on no list. It was to go to its root alone,
 -- and nothing else is another, or the tail of its list stopped, of which more than half the limit was to go back.
@@ -62,11 +63,13 @@ pub record IsLeftOver (line : ℕ) (h : Handle) (before after : StockValue) : Ty
   pub back : IsBack h after
   pub stopped :
       (KeepsNoList h before × KeepsAll before after)
-      ⊎ ((class : ℕ) × (h.class ≡ Some class) × (0 < limit_of class) × StopsTail line h.partition class (limit_of class / 2 - 1) before after)
+      ⊎ ((class : ℕ) × (h.class ≡ Some class) × (0 < limit_of class) ×
+      StopsTail line h.partition class (limit_of class / 2 - 1) before after)
 
 -- A reset or a free ran out of memory. Its step is made, and the register has `instead`, as if it hadn't. The step returned the slot,
 -- whose list has no room or isn't there, so that it needs the root: nowhere else does memory run out. The slot is left over.
-pub record StopsRelease (line : ℕ) (step : Step) (h : Handle) (reg : ℕ) (instead : StockRegister) (v : View) (before after : StockValue) : Type 0 where
+pub record StopsRelease (line : ℕ) (step : Step) (h : Handle) (reg : ℕ) (instead : StockRegister) (v : View)
+    (before after : StockValue) : Type 0 where
   pub seen : Seen
   pub between : StockValue
   pub gone : LetsGo step h reg instead v seen before between

@@ -130,8 +130,8 @@ impl<N: Name> Stock<N> {
     }
 }
 
-// Hands these titles, which the seat holds free, over to the root of their partition. If it runs out of memory, the seat has them
-// again.
+// Hands these titles, which the seat holds free, over to the root of their partition.
+// If it runs out of memory, the seat has them again.
 fn give_titles<N: Name, R: Wait>(
     rt: &R,
     heap: &Heap<N>,
@@ -196,8 +196,8 @@ fn free_items(titles: &[Title]) -> [Item; 16]
     items
 }
 
-// Gives the titles of a note to the root of this partition. If this runs out of memory, the note comes back, and nothing
-// changed.
+// Gives the titles of a note to the root of this partition. If this runs out of memory,
+// the note comes back, and nothing changed.
 fn give_to<N: Name, R: Wait>(
     rt: &R,
     heap: &Heap<N>,

@@ -144,7 +144,8 @@ impl<N: Name> Stock<N> {
         requires budget { 0 < self.old.view.budget }
         requires reg { reg < register_count }
         requires handle { register_in self.old.registers reg ≡ registers.Own handle.now }
-        ensures gone { LetsGo steps.Free handle.now reg registers.Freed (poisoned handle.now.title self.old.view) result.0 self.old self.new }
+        ensures gone { LetsGo steps.Free handle.now reg registers.Freed
+            (poisoned handle.now.title self.old.view) result.0 self.old self.new }
         ensures fate { (result.1 ≡ fates.Last) ↔ IsReturning steps.Free result.0.found.0 }
         ensures last { result.1 ≡ fates.Last → free_of self.new.view handle.now.title ≡ 1 }
         ensures budget { self.old.view.budget ≤ self.new.view.budget + 1 }

@@ -9,13 +9,13 @@ ghost use Rattle.pa_link.specs.Chains.{Relinked};
 ghost use Rattle.pa_op_specs.specs.Stocks.{listed_in, titles_in};
 ghost use Rattle.pa_thread_state.specs.Changes.{BecomesFront, CanList, IsBack, IsPut};
 
-use crate::lists::has_class;
 use crate::stock::Stock;
 use pa_buckets::{Class, cache_limit, rows_have_bounds};
 use pa_cache::other_lists_stay;
 use pa_cells::Handle;
 use pa_record::Tally;
 use pa_region::{Name, Region};
+use pa_rules::has_class;
 
 impl<N: Name> Stock<N> {
     // Puts the free title of a handle at the front of the list of its partition and class, which has room.

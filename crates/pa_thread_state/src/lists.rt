@@ -1,4 +1,4 @@
-ghost use Rattle.std.specs.Prelude.{◌≡◌, ◌≢◌, ◌↔◌, ℕ, ◌+◌, ◌*◌, ◌%◌, ◌-◌, ◌<◌, ◌≤◌, [], ◌∷◌, All, AllPairs, Contains, IfOk, IfSome, IsNone, IsTrue, length, map};
+ghost use Rattle.std.specs.Prelude.{◌≡◌, ◌≢◌, ◌↔◌, ◌+◌, ◌*◌, ◌%◌, ◌<◌, ◌≤◌, [], ◌∷◌, All, AllPairs, Contains, IfOk, IfSome, IsNone, length, map};
 ghost use Rattle.pa_slot.specs.declared.title.Title.{Title};
 ghost use Rattle.pa_buckets.specs.Limits.{class_count, first_class};
 ghost use Rattle.pa_buckets.specs.Table.{slot_of};
@@ -6,24 +6,26 @@ ghost use Rattle.pa_buckets.specs.Bands.{limit_of};
 ghost use Rattle.pa_trace.specs.Limits.{most_partitions};
 ghost use Rattle.pa_region.specs.declared.view.View.{View};
 ghost use Rattle.pa_region.specs.Views.{free_of};
+ghost use Rattle.pa_rules.specs.Lists.{IsTallyOf};
 ghost use Rattle.pa_rules.specs.Sizes.{HasClass, class_total};
 ghost use Rattle.pa_cache.specs.Caches.{HoldsFree, batch_after, rest_after};
 ghost use Rattle.pa_cache.specs.Chained.{HoldsList, list_in};
-ghost use Rattle.pa_op_specs.specs.Stocks.{AreNoLists, cache_place};
-ghost use Rattle.pa_thread_state.specs.Lists.{AreSummed, HasPart, IsTallyOf, PopsFrom, RelinksCache, changed_by, no_tally, numbered_in, parts_of, titles_of};
+ghost use Rattle.pa_op_specs.specs.Stocks.{AreNoLists};
+ghost use Rattle.pa_thread_state.specs.Lists.{PopsFrom, RelinksCache, numbered_in, parts_of, titles_of};
 
 use arrayvec::ArrayVec;
-use pa_buckets::{Class, first_class, past_class, rows_have_bounds, slot_size};
+use pa_buckets::{Class, first_class, rows_have_bounds};
 use pa_cache::Cache;
 use pa_record::Tally;
 use pa_region::{Region, Seat};
+use pa_rules::{cache_place, changed_by, class_total, no_sums};
 use pa_slot::{OutOfMemory, Title};
 use pa_trace::MOST_PARTITIONS;
 use std::alloc::Global;
 use std::marker::Model;
 
-// A worker's caches: of each of four partitions one of each class of the version. Beside them is what the lists of each partition
-// have together.
+// A worker's caches: of each of four partitions one of each class of the version.
+// Beside them is what the lists of each partition have together.
 #[derive(Drop)]
 pub(crate) struct Lists {
     version: u32,
@@ -45,7 +47,8 @@ impl Lists {
     // Caches that are all empty.
     pub(crate) fn new(alloc: Global, version: u32) -> Result<Lists, OutOfMemory>
         ensures version { IfOk result (λ l. l.version ≡ version) }
-        ensures lists { IfOk result (λ l. (v : View) → AreNoLists version (most_partitions * class_total version) (map (list_in v) l.parts)) }
+        ensures lists { IfOk result
+            (λ l. (v : View) → AreNoLists version (most_partitions * class_total version) (map (list_in v) l.parts)) }
         ensures holds { IfOk result (λ l. (v : View) → All (HoldsList v) l.parts) }
     {
         Ok(Lists {
@@ -69,7 +72,7 @@ impl Lists {
         ensures count { (v : View) → result ≡ length (titles_of v partition class self.now) }
         ensures few { result ≤ 72 }
     {
-        self.caches[place(self.version, partition, class)].len()
+        self.caches[cache_place(self.version, partition, class)].len()
     }
 
     // What the lists of a partition have together.
@@ -97,12 +100,12 @@ impl Lists {
         ensures pops { PopsFrom partition class result seat.old.view self.old self.new }
         ensures seat { seat.new ≡ seat.old }
     {
-        let at = place(self.version, partition, class);
+        let at = cache_place(self.version, partition, class);
         let cache = &mut self.caches[at];
         let before = cache.len();
         let title = cache.pop(region, seat);
         let after = cache.len();
-        let sum = changed(self.sums[partition as usize], class, before, after);
+        let sum = changed_by(self.sums[partition as usize], class, before, after);
         self.sums[partition as usize] = sum;
         title
     }
@@ -129,12 +132,12 @@ impl Lists {
             seat.old.view seat.new.view self.old self.new }
     {
         rows_have_bounds();
-        let at = place(self.version, partition, class);
+        let at = cache_place(self.version, partition, class);
         let cache = &mut self.caches[at];
         let before = cache.len();
         cache.push(region, seat, title);
         let after = cache.len();
-        let sum = changed(self.sums[partition as usize], class, before, after);
+        let sum = changed_by(self.sums[partition as usize], class, before, after);
         self.sums[partition as usize] = sum;
     }
 
@@ -158,12 +161,12 @@ impl Lists {
         ensures region { seat.new.region ≡ seat.old.region }
         ensures loaded { RelinksCache partition class titles.now seat.old.view seat.new.view self.old self.new }
     {
-        let at = place(self.version, partition, class);
+        let at = cache_place(self.version, partition, class);
         let cache = &mut self.caches[at];
         let before = cache.len();
         cache.load(region, seat, titles);
         let after = cache.len();
-        let sum = changed(self.sums[partition as usize], class, before, after);
+        let sum = changed_by(self.sums[partition as usize], class, before, after);
         self.sums[partition as usize] = sum;
     }
 
@@ -186,12 +189,12 @@ impl Lists {
         ensures rest { RelinksCache partition class (rest_after keep (titles_of seat.old.view partition class self.old))
             seat.old.view seat.new.view self.old self.new }
     {
-        let at = place(self.version, partition, class);
+        let at = cache_place(self.version, partition, class);
         let cache = &mut self.caches[at];
         let before = cache.len();
         let batch = cache.spill(region, seat, keep);
         let after = cache.len();
-        let sum = changed(self.sums[partition as usize], class, before, after);
+        let sum = changed_by(self.sums[partition as usize], class, before, after);
         self.sums[partition as usize] = sum;
         batch
     }
@@ -205,38 +208,12 @@ pub(crate) fn class_numbered(number: u32) -> Class
     Class::of(number).unwrap()
 }
 
-// Whether the version has the class.
-pub(crate) fn has_class(version: u32, class: Class) -> bool
-    ensures { IsTrue result ↔ HasClass version class }
-{
-    first_class(version) <= class.number() && class.number() < past_class(version)
-}
-
-// How many classes the version has.
-fn classes(version: u32) -> u32
-    ensures count { result ≡ class_total version }
-    ensures some { 0 < result }
-    ensures few { result ≤ 111 }
-{
-    past_class(version) - first_class(version)
-}
-
-// The index of the cache of a partition and a class of the version.
-fn place(version: u32, partition: u32, class: Class) -> usize
-    requires partition { partition < most_partitions }
-    requires class { HasClass version class }
-    ensures place { result ≡ cache_place version partition class }
-    ensures within { result < most_partitions * class_total version }
-{
-    (partition * classes(version) + (class.number() - first_class(version))) as usize
-}
-
 // Empty caches for the version's classes of each partition.
 fn no_lists(alloc: Global, version: u32) -> Result<Vec<Cache>, OutOfMemory>
     ensures lists { IfOk result (λ l. (v : View) → AreNoLists version (most_partitions * class_total version) (map (list_in v) l.items)) }
     ensures holds { IfOk result (λ l. (v : View) → All (HoldsList v) l.items) }
 {
-    let count = MOST_PARTITIONS * classes(version);
+    let count = MOST_PARTITIONS * class_total(version);
     let mut caches = Vec::with_capacity(alloc, count as usize)?;
     for place in 0..count {
         caches.push(Cache::new(class_at(version, place)))?;
@@ -248,25 +225,5 @@ fn no_lists(alloc: Global, version: u32) -> Result<Vec<Cache>, OutOfMemory>
 fn class_at(version: u32, place: u32) -> Class
     ensures { result ≡ first_class version + place % class_total version }
 {
-    class_numbered(first_class(version) + place % classes(version))
-}
-
-// The sums of lists that are all empty.
-fn no_sums() -> [Tally; MOST_PARTITIONS as usize]
-    ensures { result ≡ no_tally ∷ no_tally ∷ no_tally ∷ no_tally ∷ [] }
-{
-    let none = Tally { slots: 0, bytes: 0 };
-    [none, none, none, none]
-}
-
-// The tally after one list of this class went from `before` to `after` slots.
-fn changed(sum: Tally, class: Class, before: u32, after: u32) -> Tally
-    requires { HasPart sum class before after }
-    ensures { result ≡ changed_by sum class before after }
-{
-    let bytes = u64::from(slot_size(class));
-    Tally {
-        slots: sum.slots - u64::from(before) + u64::from(after),
-        bytes: sum.bytes - bytes * u64::from(before) + bytes * u64::from(after),
-    }
+    class_numbered(first_class(version) + place % class_total(version))
 }

@@ -19,8 +19,8 @@ use std::alloc::Global;
 use std::marker::PhantomData;
 
 impl<N: Name> Stock<N> {
-    /// The thread state of a thread's worker at the start, in a run of a trace of this version: its registers and lists are empty, and it
-    /// has what the note has.
+    /// The thread state of a thread's worker at the start, in a run of a trace of this version:
+    /// its registers and lists are empty, and it has what the note has.
     pub fn open(
         alloc: Global,
         note: Note,

@@ -21,8 +21,8 @@ use std::sync::{Mutex, Wait};
 
 impl<N: Name> Stock<N> {
     /// Gives all lists of a partition back, on this line, and purges its root. It goes through them while one that is left has a slot,
-    /// and returns how many slots went back. If it
-    /// runs out of memory, what was given back stays so, and the seat has the batch that the root refused, which is on no list.
+    /// and returns how many slots went back. If it runs out of memory, what was given back stays so, and the seat has the batch that the
+    /// root refused, which is on no list.
     pub fn purge_partition<R: Wait>(
         &mut self,
         rt: &R,

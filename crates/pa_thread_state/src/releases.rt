@@ -21,8 +21,8 @@ use std::sync::Wait;
 
 impl<N: Name> Stock<N> {
     /// Resets the `raw_ptr` of a register, which is cleared, and brings a slot that this returns where it belongs. It runs out
-    /// of memory only if that needs the root. The step remains made then, and the seat has the slot's title, which is on no
-    /// list.
+    /// of memory only if that needs the root. The step remains made then,
+    /// and the seat has the slot's title, which is on no list.
     pub fn reset<R: Wait>(
         &mut self,
         rt: &R,
@@ -35,7 +35,8 @@ impl<N: Name> Stock<N> {
         requires budget { 0 < self.old.view.budget }
         requires reg { reg < register_count }
         requires handle { register_in self.old.registers reg ≡ registers.Ref handle }
-        ensures releases { IfOk result (λ seen. Releases line steps.Reset handle reg registers.Cleared self.old.view seen self.old self.new) }
+        ensures releases { IfOk result
+            (λ seen. Releases line steps.Reset handle reg registers.Cleared self.old.view seen self.old self.new) }
         ensures budget { OnOk result (self.old.view.budget ≤ self.new.view.budget + 1) }
         ensures stake { OnErr result (KeepsItsStake self.old self.new) }
         ensures stops { OnErr result (StopsRelease line steps.Reset handle reg registers.Cleared self.old.view self.old self.new) }

@@ -39,10 +39,22 @@ impl<N: Name> Model for Stock<N> {
     ghost Value = { StockValue };
 
     ghost view = { λ s.
-        record { thread = s.thread; partitions = s.partitions; view = s.seat.view; registers = s.registers; caches = lists_in s.seat.view s.caches } };
+        record {
+          thread = s.thread;
+          partitions = s.partitions;
+          view = s.seat.view;
+          registers = s.registers;
+          caches = lists_in s.seat.view s.caches;
+        } };
 
     ghost invariant = { λ s. (s.seat.region ≡ N.region)
-        × IsStock (record { thread = s.thread; partitions = s.partitions; view = s.seat.view; registers = s.registers; caches = lists_in s.seat.view s.caches })
+        × IsStock (record {
+          thread = s.thread;
+          partitions = s.partitions;
+          view = s.seat.view;
+          registers = s.registers;
+          caches = lists_in s.seat.view s.caches;
+        })
         × All (HoldsList s.seat.view) s.caches.parts };
 }
 
@@ -71,8 +83,8 @@ impl<N: Name> Stock<N> {
         self.partitions
     }
 
-    /// The title of a register's handle is well formed, and the seat's list of words is as long as its region's. It
-    /// costs nothing.
+    /// The title of a register's handle is well formed, and the seat's list
+    /// of words is as long as its region's. It costs nothing.
     pub fn placed(&self, handle: &Handle, reg: u32)
         requires reg { reg < register_count }
         requires handle { HasHandleTo handle.now (register_in self.now.registers reg) }

@@ -71,7 +71,8 @@ not_true false e f = true≢false (sym f)
 turns : (ms : List Moment) → in_turn ms ≡ true → AllPairs (λ (m n : Moment). StandsBefore n.x m.x → ⊥) ms
 turns [] e = pairs_none (λ (m n : Moment). StandsBefore n.x m.x → ⊥)
 turns (m ∷ ms) e = pairs_cons (λ (m n : Moment). StandsBefore n.x m.x → ⊥) m ms
-    (λ n among back. not_true (is_before n.x m.x) (passes (λ (n : Moment). not (is_before n.x m.x)) ms n (both_true _ _ e).0 among) (before_is n.x m.x back))
+    (λ n among back. not_true (is_before n.x m.x) (passes (λ (n : Moment). not (is_before n.x m.x)) ms n (both_true _ _ e).0 among)
+    (before_is n.x m.x back))
     (turns ms (both_true _ _ e).1)
 
 -- a touch finds as many as its number says
@@ -109,13 +110,16 @@ reads_left before op answer = true
 
 given : (before : List Moment) (place value : ℕ) (seen : Seen) (answer : Answer) → gives before place answer ≡ true →
     (answer ≡ answers.Value seen value) ⊎ (answer ≡ answers.Dangling seen value) → value ≡ content_after seen.slot place 0 before
-given before place value seen answer passed (inl is) = eqb-true value (content_after seen.slot place 0 before) (sym (ap (gives before place) is) ∙ passed)
-given before place value seen answer passed (inr is) = eqb-true value (content_after seen.slot place 0 before) (sym (ap (gives before place) is) ∙ passed)
+given before place value seen answer passed (inl is) =
+    eqb-true value (content_after seen.slot place 0 before) (sym (ap (gives before place) is) ∙ passed)
+given before place value seen answer passed (inr is) =
+    eqb-true value (content_after seen.slot place 0 before) (sym (ap (gives before place) is) ∙ passed)
 
 left_is : (before : List Moment) (op : Op) (answer : Answer) (seen : Seen) (place value : ℕ) → reads_left before op answer ≡ true →
     GivesAt op answer seen place value →
     value ≡ content_after seen.slot place 0 before
-left_is before (ops.Read reg word) answer seen place value passed (same, is) = given before place value seen answer (subst (λ n. gives before n answer ≡ true) same passed) is
+left_is before (ops.Read reg word) answer seen place value passed (same, is) =
+    given before place value seen answer (subst (λ n. gives before n answer ≡ true) same passed) is
 left_is before op answer seen place value passed gives = absurd gives
 
 abbrev is_load : Part → Bool
@@ -136,7 +140,8 @@ past_one x d (suc (suc q)) other = refl
 -- ---- the run
 
 abbrev at_line : ℕ → Played
-at_line i = get_or read_records i (record { line = 0; thread = 0; phase = 0; rules = first_rules 1; op = ops.Purge; answer = answers.Nothing })
+at_line i = get_or read_records i
+    (record { line = 0; thread = 0; phase = 0; rules = first_rules 1; op = ops.Purge; answer = answers.Nothing })
 
 abbrev first_act : RootAct
 first_act = (get_or one_fill 0 (record { line = 0; act = Purge })).act
@@ -163,11 +168,19 @@ threads_have_one report = (
   read_moments,
   record {
     ordered = record {
-      whole = λ x there. All-contains (λ (x : Played). parts_in x.line read_moments ≡ due_parts (usable_in read_records) 1 (journal_at (one_fill ∷ [])) x) read_records x
-          (All-from_recursion (λ (x : Played). parts_in x.line read_moments ≡ due_parts (usable_in read_records) 1 (journal_at (one_fill ∷ [])) x) read_records
+      whole = λ x there. All-contains
+          (λ (x : Played). parts_in x.line read_moments ≡ due_parts (usable_in read_records) 1 (journal_at (one_fill ∷ [])) x) read_records
+          x
+          (All-from_recursion (λ (x : Played). parts_in x.line read_moments ≡ due_parts (usable_in read_records) 1
+          (journal_at (one_fill ∷ [])) x) read_records
           (refl, (refl, (refl, (refl, (refl, (refl, tt))))))) there;
-      only = All-from_recursion (λ (m : Moment). Contains read_records m.x) read_moments
-          (has 0 refl, (has 0 refl, (has 0 refl, (has 1 refl, (has 2 refl, (has 3 refl, (has 5 refl, (has 4 refl, (has 5 refl, (has 4 refl, tt))))))))));
+      only = All-from_recursion (λ (m : Moment). Contains read_records m.x) read_moments (
+        has 0 refl,
+        (
+          has 0 refl,
+          (has 0 refl, (has 1 refl, (has 2 refl, (has 3 refl, (has 5 refl, (has 4 refl, (has 5 refl, (has 4 refl, tt)))))))),
+        ),
+      );
       in_order = turns read_moments refl;
       found = λ before after m k cut touch is. found_is before m k (passes_after is_found [] read_moments before after m refl cut) touch is;
       journals = λ p. elim (cases_eq 0 p) [
@@ -176,11 +189,14 @@ threads_have_one report = (
       ];
       pool = refl;
       exchanges = λ k. elim (cases_eq 0 k) [
-        | inl e ↦ subst (λ q. swap_lines q read_moments ≡ map (λ (d : CellEntry). d.line) (history_at (passed_on 4 6 lower_slot ∷ []) q)) e refl
+        | inl e ↦ subst (λ q. swap_lines q read_moments ≡ map (λ (d : CellEntry). d.line) (history_at (passed_on 4 6 lower_slot ∷ []) q)) e
+            refl
         | inr other ↦ rw (ne_eqb 0 k other) (sym (ap (map (λ (d : CellEntry). d.line)) (past_one (passed_on 4 6 lower_slot) [] k other)))
       ];
     };
     reads = λ before after m seen place value cut loads gives.
-        left_is before m.x.op m.x.answer seen place value (loaded (reads_left before m.x.op m.x.answer) m.part loads (passes_after is_read [] read_moments before after m refl cut)) gives;
+        left_is before m.x.op m.x.answer seen place value
+        (loaded (reads_left before m.x.op m.x.answer) m.part loads (passes_after is_read [] read_moments before after m refl cut))
+        gives;
   },
 )

@@ -38,7 +38,8 @@ module _ {A B : Type 0} (f : A → Option B) where
   none_more : (x : A) (before : List A) (us : List B) → f x ≡ None → filter_map f before ≡ us → filter_map f (x ∷ before) ≡ us
   none_more x before us none left = ap (λ o. cons_option o (filter_map f before)) none ∙ left
 
-  one_more : (x : A) (before : List A) (w u : B) (us : List B) → f x ≡ Some w → w ≡ u → filter_map f before ≡ us → filter_map f (x ∷ before) ≡ u ∷ us
+  one_more : (x : A) (before : List A) (w u : B) (us : List B) → f x ≡ Some w → w ≡ u → filter_map f before ≡ us →
+      filter_map f (x ∷ before) ≡ u ∷ us
   one_more x before w u us is head left = ap (λ o. cons_option o (filter_map f before)) (is ∙ ap Some head) ∙ ap (λ zs. u ∷ zs) left
 
   -- the list is cut where what is kept is cut
@@ -72,7 +73,8 @@ module _ {A B : Type 0} (f : A → Option B) where
       ((a b : A) (u v : B) → Contains xs a → Contains xs b → R a b → f a ≡ Some u → f b ≡ Some v → S u v) → AllPairs S (filter_map f xs)
   kept_pairs R S [] pairs h = pairs_none S
   kept_pairs R S (x ∷ xs) pairs h =
-      let again = kept_pairs R S xs (pairs_tail R x xs pairs) (λ a b u v first second. h a b u v (later_in x a xs first) (later_in x b xs second)) in
+      let again = kept_pairs R S xs (pairs_tail R x xs pairs)
+      (λ a b u v first second. h a b u v (later_in x a xs first) (later_in x b xs second)) in
       elim (none_or_some (f x)) [
         | inl none ↦ rw none again
         | inr (u, is) ↦ rw is (pairs_cons S u (filter_map f xs)
@@ -88,11 +90,13 @@ module _ {A B : Type 0} (f : A → Option B) where
   pub pairs_kept : (S : B → B → Type 0) (xs : List A) → AllPairs S (filter_map f xs) → AllPairs (OfKept S) xs
   pairs_kept S [] pairs = pairs_none (OfKept S)
   pairs_kept S (x ∷ xs) pairs = elim (none_or_some (f x)) [
-    | inl none ↦ pairs_cons (OfKept S) x xs (λ b among u v is same. absurd (let both : None ≡ Some u = sym none ∙ is in cc)) (pairs_kept S xs (rw none at pairs))
+    | inl none ↦ pairs_cons (OfKept S) x xs (λ b among u v is same. absurd (let both : None ≡ Some u = sym none ∙ is in cc))
+        (pairs_kept S xs (rw none at pairs))
     | inr (w, here) ↦
         let rest : AllPairs S (w ∷ filter_map f xs) = rw here at pairs in
         pairs_cons (OfKept S) x xs
-        (λ b among u v is same. subst (λ z. S z v) (of_some w u (sym here ∙ is)) (pairs_head S w v (filter_map f xs) rest (kept_in xs b v among same)))
+        (λ b among u v is same. subst (λ z. S z v) (of_some w u (sym here ∙ is))
+        (pairs_head S w v (filter_map f xs) rest (kept_in xs b v among same)))
         (pairs_kept S xs (pairs_tail S w (filter_map f xs) rest))
   ]
 
@@ -106,13 +110,16 @@ kept_twice g f (x ∷ xs) = elim (none_or_some (f x)) [
 ]
 
 -- filters that agree on the members
-pub kept_same : {A B : Type 0} (f g : A → Option B) (xs : List A) → ((x : A) → Contains xs x → f x ≡ g x) → filter_map f xs ≡ filter_map g xs
+pub kept_same : {A B : Type 0} (f g : A → Option B) (xs : List A) → ((x : A) → Contains xs x → f x ≡ g x) →
+    filter_map f xs ≡ filter_map g xs
 kept_same f g [] h = refl
 kept_same f g (x ∷ xs) h =
-    ap (λ o. cons_option o (filter_map f xs)) (h x (first_in x xs)) ∙ ap (cons_option (g x)) (kept_same f g xs (λ y among. h y (later_in x y xs among)))
+    ap (λ o. cons_option o (filter_map f xs)) (h x (first_in x xs)) ∙
+    ap (cons_option (g x)) (kept_same f g xs (λ y among. h y (later_in x y xs among)))
 
 -- what is kept of those that pass a test
-pub kept_passing : {A B : Type 0} (f : A → Option B) (test : A → Bool) (xs : List A) → ((x : A) (y : B) → Contains xs x → f x ≡ Some y → test x ≡ true) →
+pub kept_passing : {A B : Type 0} (f : A → Option B) (test : A → Bool) (xs : List A) →
+    ((x : A) (y : B) → Contains xs x → f x ≡ Some y → test x ≡ true) →
     filter_map f (filter test xs) ≡ filter_map f xs
 kept_passing f test [] h = refl
 kept_passing f test (x ∷ xs) h =
@@ -127,7 +134,8 @@ kept_passing f test (x ∷ xs) h =
 
 -- ---- how many pass
 
-pub count_cons : {A : Type 0} (test : A → Bool) (x : A) (xs : List A) → count_by test (x ∷ xs) ≡ cond {A = ℕ} (test x) 1 0 + count_by test xs
+pub count_cons : {A : Type 0} (test : A → Bool) (x : A) (xs : List A) →
+    count_by test (x ∷ xs) ≡ cond {A = ℕ} (test x) 1 0 + count_by test xs
 count_cons test x xs = sum_by-cons (λ y. cond {A = ℕ} (test y) 1 0) x xs
 
 pub count_append : {A : Type 0} (test : A → Bool) (xs ys : List A) → count_by test (xs ++ ys) ≡ count_by test xs + count_by test ys
@@ -150,8 +158,10 @@ count_none test (x ∷ xs) h =
     let again = count_none test xs (λ y among. h y (later_in x y xs among)) in
     omega arith
 
--- If those before a member that pass the one test pass the other, and no others do, then the other is passed as often as the one is before it.
-pub count_before : {A : Type 0} (test both : A → Bool) (us vs : List A) (x : A) → ((u : A) → Contains us u → both u ≡ test u) → both x ≡ false →
+-- If those before a member that pass the one test pass the other, and no others do, then the other is passed as often as the one is before
+-- it.
+pub count_before : {A : Type 0} (test both : A → Bool) (us vs : List A) (x : A) → ((u : A) → Contains us u → both u ≡ test u) →
+    both x ≡ false →
     ((v : A) → Contains vs v → both v ≡ false) → count_by both (us ++ x ∷ vs) ≡ count_by test us
 count_before test both us vs x front here back =
     let parted = count_append both us (x ∷ vs) in

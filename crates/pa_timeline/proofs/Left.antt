@@ -82,7 +82,8 @@ behind_cut (u ∷ us) vs ws x y among =
 
 -- ---- in an order of steps
 
-module _ (steps : Played → List Part) (ps : List Played) (pools : List PoolEntry) (roots : Journals) (cells : ℕ → List CellEntry) (ms : List Moment)
+module _ (steps : Played → List Part) (ps : List Played) (pools : List PoolEntry) (roots : Journals) (cells : ℕ → List CellEntry)
+    (ms : List Moment)
     (t : IsStepOrder steps ps pools roots cells ms) where
   -- what m left is there at n's place, if each step that leaves something else is of a line before m's
   pub left_stays : (s : SlotName) (place value : ℕ) (i j : ℕ) (m n : Moment) → IsAt ms i m → IsAt ms j n → i < j →

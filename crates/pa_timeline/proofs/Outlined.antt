@@ -43,7 +43,8 @@ stays_is x (Spoiling word) n e = absurd cc
 stays_is x part n e = of_some (moment x part) n e
 
 -- what a filter keeps that drops poisonings
-agrees : {B : Type 0} (f : Moment → Option B) → ((x : Played) (word : ℕ) → f (moment x (Spoiling word)) ≡ None) → (x : Played) (part : Part) →
+agrees : {B : Type 0} (f : Moment → Option B) → ((x : Played) (word : ℕ) → f (moment x (Spoiling word)) ≡ None) →
+    (x : Played) (part : Part) →
     option_and_then f (stays_of x part) ≡ f (moment x part)
 agrees f none x (Spoiling word) = sym (none x word)
 agrees f none x part = refl
@@ -54,16 +55,20 @@ kept_of f ms none = kept_twice f stays ms ∙ kept_same (λ m. option_and_then f
 
 -- ---- the steps of a record
 
-entry_stays : (p : ℕ) (act : RootAct) (o : Option ℕ) → filter_map part_stays (asking_before o (Entering p act ∷ [])) ≡ asking_before o (Entering p act ∷ [])
+entry_stays : (p : ℕ) (act : RootAct) (o : Option ℕ) →
+    filter_map part_stays (asking_before o (Entering p act ∷ [])) ≡ asking_before o (Entering p act ∷ [])
 entry_stays p act None = refl
 entry_stays p act (Some j) = refl
 
-flat_stays : {X : Type 0} (f : X → List Part) (xs : List X) → ((x : X) → filter_map part_stays (f x) ≡ f x) → filter_map part_stays (flat_map f xs) ≡ flat_map f xs
+flat_stays : {X : Type 0} (f : X → List Part) (xs : List X) → ((x : X) → filter_map part_stays (f x) ≡ f x) →
+    filter_map part_stays (flat_map f xs) ≡ flat_map f xs
 flat_stays f [] each = refl
 flat_stays f (x ∷ xs) each =
-    filter_map-append part_stays (f x) (flat_map f xs) ∙ ap (λ ys. ys ++ filter_map part_stays (flat_map f xs)) (each x) ∙ ap (λ ys. f x ++ ys) (flat_stays f xs each)
+    filter_map-append part_stays (f x) (flat_map f xs) ∙ ap (λ ys. ys ++ filter_map part_stays (flat_map f xs)) (each x) ∙
+    ap (λ ys. f x ++ ys) (flat_stays f xs each)
 
-pub entries_stay : (partitions : ℕ) (roots : Journals) (line : ℕ) → filter_map part_stays (entry_parts partitions roots line) ≡ entry_parts partitions roots line
+pub entries_stay : (partitions : ℕ) (roots : Journals) (line : ℕ) →
+    filter_map part_stays (entry_parts partitions roots line) ≡ entry_parts partitions roots line
 entries_stay partitions roots line =
     flat_stays (λ p. flat_map (act_parts p) (acts_of roots line p)) (range_with_len 0 partitions)
     (λ p. flat_stays (act_parts p) (acts_of roots line p) (λ act. entry_stays p act (asked_by act)))
@@ -72,7 +77,8 @@ poisonings_go : (words : List ℕ) → filter_map part_stays (map Spoiling words
 poisonings_go [] = refl
 poisonings_go (n ∷ words) = poisonings_go words
 
-done_stays : (words : ℕ) (op : Op) (entries : List Part) → filter_map part_stays entries ≡ entries → filter_map part_stays (done_parts words op entries) ≡ done_parts 0 op entries
+done_stays : (words : ℕ) (op : Op) (entries : List Part) → filter_map part_stays entries ≡ entries →
+    filter_map part_stays (done_parts words op entries) ≡ done_parts 0 op entries
 done_stays words (ops.Free reg) entries same =
     filter_map-append part_stays (map Spoiling (range_with_len 0 words)) (Counting ∷ entries)
     ∙ ap (λ ys. ys ++ Counting ∷ filter_map part_stays entries) (poisonings_go (range_with_len 0 words)) ∙ ap (λ ys. Counting ∷ ys) same
@@ -80,7 +86,8 @@ done_stays words op entries same = ap (λ ys. Counting ∷ ys) same
 
 answer_stays : (words : ℕ) (op : Op) (entries : List Part) (answer : Answer) → filter_map part_stays entries ≡ entries →
     filter_map part_stays (answer_parts words op entries answer) ≡ answer_parts 0 op entries answer
-answer_stays words op entries (answers.Made seen usable) same = filter_map-append part_stays entries (Counting ∷ []) ∙ ap (λ ys. ys ++ Counting ∷ []) same
+answer_stays words op entries (answers.Made seen usable) same = filter_map-append part_stays entries (Counting ∷ []) ∙
+    ap (λ ys. ys ++ Counting ∷ []) same
 answer_stays words op entries (answers.Done seen) same = done_stays words op entries same
 answer_stays words op entries (answers.SecondFree None) same = refl
 answer_stays words op entries (answers.SecondFree (Some seen)) same = refl
@@ -91,7 +98,8 @@ answer_stays words op entries (answers.Purged slots) same = same
 answer_stays words op entries answer same = refl
 
 -- those of a line
-part_agrees : (line : ℕ) (x : Played) (part : Part) → option_and_then (part_on line) (stays_of x part) ≡ option_and_then part_stays (part_on line (moment x part))
+part_agrees : (line : ℕ) (x : Played) (part : Part) →
+    option_and_then (part_on line) (stays_of x part) ≡ option_and_then part_stays (part_on line (moment x part))
 part_agrees line x (Spoiling word) = elim (cases_Bool (eqb x.line line)) [ inl here ↦ rw here refl | inr other ↦ rw other refl ]
 part_agrees line x Asking = elim (cases_Bool (eqb x.line line)) [ inl here ↦ rw here refl | inr other ↦ rw other refl ]
 part_agrees line x (Entering p act) = elim (cases_Bool (eqb x.line line)) [ inl here ↦ rw here refl | inr other ↦ rw other refl ]
@@ -103,7 +111,8 @@ part_agrees line x Counting = elim (cases_Bool (eqb x.line line)) [ inl here ↦
 pub parts_stay : (line : ℕ) (ms : List Moment) → parts_in line (filter_map stays ms) ≡ filter_map part_stays (parts_in line ms)
 parts_stay line ms =
     sym (parts_kept line (filter_map stays ms)) ∙ kept_twice (part_on line) stays ms
-    ∙ kept_same (λ m. option_and_then (part_on line) (stays m)) (λ m. option_and_then part_stays (part_on line m)) ms (λ m among. part_agrees line m.x m.part)
+    ∙ kept_same (λ m. option_and_then (part_on line) (stays m)) (λ m. option_and_then part_stays (part_on line m)) ms
+    (λ m among. part_agrees line m.x m.part)
     ∙ sym (kept_twice part_stays (part_on line) ms) ∙ ap (filter_map part_stays) (parts_kept line ms)
 
 -- ---- counted steps
@@ -124,7 +133,8 @@ counts_stay s (m ∷ ms) =
           rw none (omega arith)
       | inr (n, is) ↦
           let b = count_cons test n (filter_map stays ms) in
-          let same : cond {A = ℕ} (test m) 1 0 ≡ cond {A = ℕ} (test n) 1 0 = ap (λ k. cond {A = ℕ} (test k) 1 0) (stays_is m.x m.part n is) in
+          let same : cond {A = ℕ} (test m) 1 0 ≡ cond {A = ℕ} (test n) 1 0 =
+          ap (λ k. cond {A = ℕ} (test k) 1 0) (stays_is m.x m.part n is) in
           rw is (omega arith)
     ]
 
@@ -143,19 +153,23 @@ timelines_have_outlines t r (ms, timeline) =
       record {
         whole = λ x among.
             parts_stay x.line ms ∙ ap (filter_map part_stays) (o.whole x among)
-            ∙ answer_stays (slot_words (usable_in ps) (mark_of x)) x.op (entry_parts t.partitions r.roots x.line) x.answer (entries_stay t.partitions r.roots x.line);
+            ∙ answer_stays (slot_words (usable_in ps) (mark_of x)) x.op (entry_parts t.partitions r.roots x.line) x.answer
+            (entries_stay t.partitions r.roots x.line);
         only = all_from_members (λ (m : Moment). Contains ps m.x) (filter_map stays ms) (λ m among.
             let (n, there, is) = kept_from stays ms m among in
-            subst (λ (z : Moment). Contains ps z.x) (stays_is n.x n.part m is) (All-contains (λ (z : Moment). Contains ps z.x) ms n o.only there));
+            subst (λ (z : Moment). Contains ps z.x) (stays_is n.x n.part m is)
+            (All-contains (λ (z : Moment). Contains ps z.x) ms n o.only there));
         in_order = kept_pairs stays (λ (m n : Moment). StandsBefore n.x m.x → ⊥) (λ (m n : Moment). StandsBefore n.x m.x → ⊥) ms o.in_order
             (λ a b u v first second apart is same.
-            subst (λ (z : Moment). StandsBefore v.x z.x → ⊥) (stays_is a.x a.part u is) (subst (λ (z : Moment). StandsBefore z.x a.x → ⊥) (stays_is b.x b.part v same) apart));
+            subst (λ (z : Moment). StandsBefore v.x z.x → ⊥) (stays_is a.x a.part u is)
+            (subst (λ (z : Moment). StandsBefore z.x a.x → ⊥) (stays_is b.x b.part v same) apart));
         found = λ before after m k cut touch is.
             let (us, n, vs, parts, same, left) = kept_cut stays ms before after m cut in
             let whole : ms ≡ us ++ m ∷ vs = parts ∙ ap (λ z. us ++ z ∷ vs) (stays_is n.x n.part m same) in
             o.found us vs m k whole touch is ∙ sym (counts_stay k.slot us) ∙ ap (counted_steps k.slot) left;
         journals = λ p. kept_of (λ (m : Moment). part_enters p m.x.line m.part) ms (λ x word. refl) ∙ o.journals p;
         pool = kept_of (λ (m : Moment). part_asks m.x.line m.part) ms (λ x word. refl) ∙ o.pool;
-        exchanges = λ k. kept_of (λ (m : Moment). part_swaps k m.x.line m.x.op m.part) ms (λ x word. no_swap k x.line word x.op) ∙ o.exchanges k;
+        exchanges = λ k. kept_of (λ (m : Moment). part_swaps k m.x.line m.x.op m.part) ms (λ x word. no_swap k x.line word x.op) ∙
+            o.exchanges k;
       },
     )

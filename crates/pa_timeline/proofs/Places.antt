@@ -58,7 +58,8 @@ longer (x ∷ xs) y ys = let ih = longer xs y ys in omega arith
 pub in_two : {A : Type 0} (x y u v : A) (us vs ws : List A) → x ∷ y ∷ [] ≡ us ++ v ∷ (vs ++ u ∷ ws) → (x ≡ v) × (y ≡ u)
 in_two x y u v [] [] ws e = (ap (λ zs. get_or zs 0 x) e, ap (λ zs. get_or zs 1 x) e)
 in_two x y u v [] (b ∷ vs) ws e = absurd (let n = ap length e in let more = longer vs u ws in omega arith)
-in_two x y u v (a ∷ us) vs ws e = absurd (let n = ap length e in let more = longer us v (vs ++ u ∷ ws) in let rest = longer vs u ws in omega arith)
+in_two x y u v (a ∷ us) vs ws e =
+    absurd (let n = ap length e in let more = longer us v (vs ++ u ∷ ws) in let rest = longer vs u ws in omega arith)
 
 pub in_three : {A : Type 0} (x y z u v : A) (us vs ws : List A) → x ∷ y ∷ z ∷ [] ≡ us ++ v ∷ (vs ++ u ∷ ws) →
     ((x ≡ v) × ((y ≡ u) ⊎ (z ≡ u))) ⊎ ((y ≡ v) × (z ≡ u))
@@ -67,7 +68,8 @@ in_three x y z u v [] (b ∷ []) ws e = inl (ap (λ zs. get_or zs 0 x) e, inr (a
 in_three x y z u v [] (b ∷ c ∷ vs) ws e = absurd (let n = ap length e in let more = longer vs u ws in omega arith)
 in_three x y z u v (a ∷ []) [] ws e = inr (ap (λ zs. get_or zs 1 x) e, ap (λ zs. get_or zs 2 x) e)
 in_three x y z u v (a ∷ []) (b ∷ vs) ws e = absurd (let n = ap length e in let more = longer vs u ws in omega arith)
-in_three x y z u v (a ∷ b ∷ us) vs ws e = absurd (let n = ap length e in let more = longer us v (vs ++ u ∷ ws) in let rest = longer vs u ws in omega arith)
+in_three x y z u v (a ∷ b ∷ us) vs ws e =
+    absurd (let n = ap length e in let more = longer us v (vs ++ u ∷ ws) in let rest = longer vs u ws in omega arith)
 
 -- If what a filter keeps of two members can't be there the other way round, the one comes first.
 pub by_list : {A B : Type 0} (f : A → Option B) (xs : List A) (i j : ℕ) (x y : A) (u v : B) → IsAt xs i x → IsAt xs j y → f x ≡ Some u →
@@ -83,7 +85,8 @@ by_list f xs i j x y u v at at' is is' other never = elim (cases_lt i j) [
         let (us, vs, ws, cut) = cut_two xs j i y x at' at (omega arith) in
         let second : filter_map f (x ∷ ws) ≡ u ∷ filter_map f ws = ap (λ o. cons_option o (filter_map f ws)) is in
         let first : filter_map f (y ∷ (vs ++ x ∷ ws)) ≡ v ∷ (filter_map f vs ++ u ∷ filter_map f ws) =
-        ap (λ o. cons_option o (filter_map f (vs ++ x ∷ ws))) is' ∙ ap (λ zs. v ∷ zs) (filter_map-append f vs (x ∷ ws) ∙ ap (λ zs. filter_map f vs ++ zs) second) in
+        ap (λ o. cons_option o (filter_map f (vs ++ x ∷ ws))) is' ∙
+        ap (λ zs. v ∷ zs) (filter_map-append f vs (x ∷ ws) ∙ ap (λ zs. filter_map f vs ++ zs) second) in
         absurd (never (filter_map f us) (filter_map f vs) (filter_map f ws)
         (ap (filter_map f) cut ∙ filter_map-append f us (y ∷ (vs ++ x ∷ ws)) ∙ ap (λ zs. filter_map f us ++ zs) first))
   ]
@@ -105,7 +108,8 @@ parts_kept line (m ∷ ms) = elim (cases_eq m.x.line line) [
 abbrev pub moment : Played → Part → Moment
 moment x part = record { x = x; part = part }
 
-module _ (steps : Played → List Part) (ps : List Played) (pools : List PoolEntry) (roots : Journals) (cells : ℕ → List CellEntry) (ms : List Moment)
+module _ (steps : Played → List Part) (ps : List Played) (pools : List PoolEntry) (roots : Journals) (cells : ℕ → List CellEntry)
+    (ms : List Moment)
     (t : IsStepOrder steps ps pools roots cells ms) where
   -- each step of a record has a place
   pub placed : AllPairs (λ (x y : Played). x.line ≢ y.line) ps → (x : Played) (part : Part) → Contains ps x →
@@ -132,7 +136,8 @@ module _ (steps : Played → List Part) (ps : List Played) (pools : List PoolEnt
       | inr other ↦
           let no = t.in_order j i m (omega arith) less in
           let first : get_or ms j m ≡ n = placed_at ms j m n less' is' in
-          absurd (no (subst (λ (z : Moment). StandsBefore z.x (get_or ms j m).x) (sym is) (subst (λ (z : Moment). StandsBefore m.x z.x) (sym first) before)))
+          absurd (no (subst (λ (z : Moment). StandsBefore z.x (get_or ms j m).x) (sym is)
+          (subst (λ (z : Moment). StandsBefore m.x z.x) (sym first) before)))
     ]
   ]
     where
@@ -154,7 +159,8 @@ module _ (steps : Played → List Part) (ps : List Played) (pools : List PoolEnt
       let one = t.found us (vs ++ n ∷ ws) m k cut touch is in
       let two = t.found (us ++ m ∷ vs) ws n l (cut ∙ sym (append_assoc us (m ∷ vs) (n ∷ ws))) touch' is' in
       let parted = sum_by-append (λ (z : Moment). cond {A = ℕ} (is_counted_on k.slot z.x z.part) 1 0) us (m ∷ vs) in
-      let same : counted_steps k.slot (us ++ m ∷ vs) ≡ counted_steps l.slot (us ++ m ∷ vs) = ap (λ s. counted_steps s (us ++ m ∷ vs)) slot in
+      let same : counted_steps k.slot (us ++ m ∷ vs) ≡ counted_steps l.slot (us ++ m ∷ vs) =
+      ap (λ s. counted_steps s (us ++ m ∷ vs)) slot in
       omega arith
 
   -- of two touches of a slot that found different numbers, the one with the lesser number comes first

@@ -30,7 +30,8 @@ use Rattle.pa_timeline.proofs.Left.{leaves_as, either_of, left_stays, changed_be
 
 -- the record at a place, and its steps by the journal
 abbrev record_in : List Played → ℕ → Played
-record_in records i = get_or records i (record { line = 0; thread = 0; phase = 0; rules = first_rules 1; op = ops.Purge; answer = answers.Nothing })
+record_in records i = get_or records i
+    (record { line = 0; thread = 0; phase = 0; rules = first_rules 1; op = ops.Purge; answer = answers.Nothing })
 
 abbrev due_in : List Played → List RootEntry → Played → List Part
 due_in records journal x = due_parts (usable_in records) 1 (journal_at (journal ∷ [])) x
@@ -79,7 +80,8 @@ the_poisoning records free place z differ there line of test changes =
       | inl clean ↦ absurd (both_ways _ changes clean)
       | inr both ↦
           let (at_line, part) = both_true (z.x.line == 7) (spoils place z.part) both in
-          let same : z.x ≡ free = one_by (λ (y : Played). y.line) records z.x free differ of there (eqb-true z.x.line 7 at_line ∙ sym line) in
+          let same : z.x ≡ free = one_by (λ (y : Played). y.line) records z.x free differ of there
+          (eqb-true z.x.line 7 at_line ∙ sym line) in
           ap (λ (y : Played). moment y z.part) same ∙ ap (moment free) (spoils_is place z.part part)
     ]
 
@@ -98,7 +100,8 @@ module _ (records : List Played) (journal : List RootEntry) (pools : List PoolEn
   changer_before place i y at_i loads gives =
       let (us, vs, cut, length) = cut_one ms i y at_i in
       let given = t.reads us vs y (slot_seen lower_slot 0x2000003) place poison cut loads gives in
-      let (k, z, at_z, low, of, due, changes) = changed_before _ _ _ _ _ ms t.ordered lower_slot place us vs y cut (λ zero. not_zero (given ∙ zero)) in
+      let (k, z, at_z, low, of, due, changes) =
+      changed_before _ _ _ _ _ ms t.ordered lower_slot place us vs y cut (λ zero. not_zero (given ∙ zero)) in
       (k, z, at_z, omega arith, of, among_all records journal z of due, changes)
 
   -- a read that gives poison comes after the free on line 7 poisoned the word, if nothing else leaves something other than 0 in it
@@ -109,7 +112,8 @@ module _ (records : List Played) (journal : List RootEntry) (pools : List PoolEn
   poisoned_before differ free there line place alone i y at_i loads gives =
       let (k, z, at_z, low, of, among, changes) = changer_before place i y at_i loads gives in
       let it : z ≡ moment free (Spoiling place) =
-      the_poisoning records free place z differ there line of (passes (spoils_alone place) (moments_in records journal) z alone among) changes in
+      the_poisoning records free place z differ there line of
+      (passes (spoils_alone place) (moments_in records journal) z alone among) changes in
       (k, subst (λ m. IsAt ms k m) it at_z, low)
 
   -- after a free of phase 2 poisoned the first word, no read gives 0 there if only steps of phase 1 leave something other than poison
@@ -143,12 +147,16 @@ pub gone_poison_has_none : GonePoisonHasNone
 gone_poison_has_none report (ms, t) =
     let all = gone_poison_records in
     let differ = lines_differ (rules_of gone_poison_trace) gone_poison_trace.lines gone_poison_records refl in
-    let (i, at_i) = placed _ _ _ _ _ ms t.ordered differ (gone_at 5) Loading (at_in all 5 (gone_at 5) refl) (at_in (gone_due (gone_at 5)) 1 Loading refl) in
-    let (j, at_j) = placed _ _ _ _ _ ms t.ordered differ (gone_at 6) Loading (at_in all 6 (gone_at 6) refl) (at_in (gone_due (gone_at 6)) 1 Loading refl) in
-    let a = by_line _ _ _ _ _ ms t.ordered i j (moment (gone_at 5) Loading) (moment (gone_at 6) Loading) at_i at_j (inl (refl, omega arith)) in
+    let (i, at_i) = placed _ _ _ _ _ ms t.ordered differ (gone_at 5) Loading (at_in all 5 (gone_at 5) refl)
+    (at_in (gone_due (gone_at 5)) 1 Loading refl) in
+    let (j, at_j) = placed _ _ _ _ _ ms t.ordered differ (gone_at 6) Loading (at_in all 6 (gone_at 6) refl)
+    (at_in (gone_due (gone_at 6)) 1 Loading refl) in
+    let a = by_line _ _ _ _ _ ms t.ordered i j (moment (gone_at 5) Loading) (moment (gone_at 6) Loading) at_i at_j
+    (inl (refl, omega arith)) in
     let (k, at_k, low) = poisoned_before all one_fill _ _ ms t differ (gone_at 4) (at_in all 4 (gone_at 4) refl) refl 0 gone_spoils
     i (moment (gone_at 5) Loading) at_i refl (refl, inl refl) in
-    no_content_after all one_fill _ _ ms t (gone_at 4) refl refl gone_cleans k j (moment (gone_at 6) Loading) at_k at_j (omega arith) refl (refl, inl refl)
+    no_content_after all one_fill _ _ ms t (gone_at 4) refl refl gone_cleans k j (moment (gone_at 6) Loading) at_k at_j (omega arith) refl
+    (refl, inl refl)
 
 -- ---- poison in the second word, and then the content in the first
 
@@ -178,7 +186,8 @@ first_there [] ws = refl
 first_there (u ∷ us) ws = ap (λ b. spoils 0 u || b) (first_there us ws) ∙ or_true (spoils 0 u)
 
 never_back : (us vs ws : List Part) → Spoiling 0 ∷ Spoiling 1 ∷ Spoiling 2 ∷ Counting ∷ [] ≡ us ++ Spoiling 1 ∷ (vs ++ Spoiling 0 ∷ ws) → ⊥
-never_back [] vs ws e = both_ways (has_first (Spoiling 1 ∷ Spoiling 2 ∷ Counting ∷ [])) refl (ap (λ zs. has_first (drop 1 zs)) e ∙ first_there vs ws)
+never_back [] vs ws e = both_ways (has_first (Spoiling 1 ∷ Spoiling 2 ∷ Counting ∷ [])) refl
+    (ap (λ zs. has_first (drop 1 zs)) e ∙ first_there vs ws)
 never_back (u ∷ us) vs ws e =
     let later : has_first (us ++ Spoiling 1 ∷ (vs ++ Spoiling 0 ∷ ws)) ≡ true =
     ap has_first (sym (append_assoc us (Spoiling 1 ∷ vs) (Spoiling 0 ∷ ws))) ∙ first_there (us ++ Spoiling 1 ∷ vs) ws in
@@ -191,15 +200,21 @@ pub second_word_has_none : SecondWordHasNone
 second_word_has_none report (ms, t) =
     let all = second_word_records in
     let differ = lines_differ (rules_of second_word_trace) second_word_trace.lines second_word_records refl in
-    let (i, at_i) = placed _ _ _ _ _ ms t.ordered differ (second_at 5) Loading (at_in all 5 (second_at 5) refl) (at_in (second_due (second_at 5)) 1 Loading refl) in
-    let (j, at_j) = placed _ _ _ _ _ ms t.ordered differ (second_at 6) Loading (at_in all 6 (second_at 6) refl) (at_in (second_due (second_at 6)) 1 Loading refl) in
-    let (l, at_l) = placed _ _ _ _ _ ms t.ordered differ (second_at 4) (Spoiling 0) (at_in all 4 (second_at 4) refl) (at_in (second_due (second_at 4)) 0 (Spoiling 0) refl) in
-    let a = by_line _ _ _ _ _ ms t.ordered i j (moment (second_at 5) Loading) (moment (second_at 6) Loading) at_i at_j (inl (refl, omega arith)) in
+    let (i, at_i) = placed _ _ _ _ _ ms t.ordered differ (second_at 5) Loading (at_in all 5 (second_at 5) refl)
+    (at_in (second_due (second_at 5)) 1 Loading refl) in
+    let (j, at_j) = placed _ _ _ _ _ ms t.ordered differ (second_at 6) Loading (at_in all 6 (second_at 6) refl)
+    (at_in (second_due (second_at 6)) 1 Loading refl) in
+    let (l, at_l) = placed _ _ _ _ _ ms t.ordered differ (second_at 4) (Spoiling 0) (at_in all 4 (second_at 4) refl)
+    (at_in (second_due (second_at 4)) 0 (Spoiling 0) refl) in
+    let a = by_line _ _ _ _ _ ms t.ordered i j (moment (second_at 5) Loading) (moment (second_at 6) Loading) at_i at_j
+    (inl (refl, omega arith)) in
     let (k, at_k, low) = poisoned_before all wide_fill _ _ ms t differ (second_at 4) (at_in all 4 (second_at 4) refl) refl 1 second_spoils
     i (moment (second_at 5) Loading) at_i refl (refl, inl refl) in
-    let b = by_list (part_on 7) ms l k (moment (second_at 4) (Spoiling 0)) (moment (second_at 4) (Spoiling 1)) (Spoiling 0) (Spoiling 1) at_l at_k refl refl not_the_first
+    let b = by_list (part_on 7) ms l k (moment (second_at 4) (Spoiling 0)) (moment (second_at 4) (Spoiling 1)) (Spoiling 0)
+    (Spoiling 1) at_l at_k refl refl not_the_first
     (λ us vs ws e. never_back us vs ws (sym (parts_kept 7 ms ∙ t.ordered.whole (second_at 4) (at_in all 4 (second_at 4) refl)) ∙ e)) in
-    no_content_after all wide_fill _ _ ms t (second_at 4) refl refl second_cleans l j (moment (second_at 6) Loading) at_l at_j (omega arith) refl (refl, inl refl)
+    no_content_after all wide_fill _ _ ms t (second_at 4) refl refl second_cleans l j (moment (second_at 6) Loading) at_l at_j
+    (omega arith) refl (refl, inl refl)
 
 -- ---- poison before the free
 
@@ -220,19 +235,28 @@ pub early_has_none : ReadBeforeFreeHasNone
 early_has_none report (ms, t) =
     let all = early_records in
     let differ = lines_differ (rules_of early_trace) early_trace.lines early_records refl in
-    let (i, at_i) = placed _ _ _ _ _ ms t.ordered differ (early_at 4) Loading (at_in all 4 (early_at 4) refl) (at_in (early_due (early_at 4)) 1 Loading refl) in
-    let (j, at_j) = placed _ _ _ _ _ ms t.ordered differ (early_at 5) Swapping (at_in all 5 (early_at 5) refl) (at_in (early_due (early_at 5)) 0 Swapping refl) in
-    let (k, at_k) = placed _ _ _ _ _ ms t.ordered differ (early_at 6) Swapping (at_in all 6 (early_at 6) refl) (at_in (early_due (early_at 6)) 0 Swapping refl) in
-    let a = by_line _ _ _ _ _ ms t.ordered i j (moment (early_at 4) Loading) (moment (early_at 5) Swapping) at_i at_j (inl (refl, omega arith)) in
-    let b = by_list (λ (m : Moment). part_swaps 1 m.x.line m.x.op m.part) ms j k (moment (early_at 5) Swapping) (moment (early_at 6) Swapping) 8 9 at_j at_k refl refl (λ e. omega arith)
+    let (i, at_i) = placed _ _ _ _ _ ms t.ordered differ (early_at 4) Loading (at_in all 4 (early_at 4) refl)
+    (at_in (early_due (early_at 4)) 1 Loading refl) in
+    let (j, at_j) = placed _ _ _ _ _ ms t.ordered differ (early_at 5) Swapping (at_in all 5 (early_at 5) refl)
+    (at_in (early_due (early_at 5)) 0 Swapping refl) in
+    let (k, at_k) = placed _ _ _ _ _ ms t.ordered differ (early_at 6) Swapping (at_in all 6 (early_at 6) refl)
+    (at_in (early_due (early_at 6)) 0 Swapping refl) in
+    let a = by_line _ _ _ _ _ ms t.ordered i j (moment (early_at 4) Loading) (moment (early_at 5) Swapping) at_i at_j
+    (inl (refl, omega arith)) in
+    let b = by_list (λ (m : Moment). part_swaps 1 m.x.line m.x.op m.part) ms j k (moment (early_at 5) Swapping)
+    (moment (early_at 6) Swapping) 8 9 at_j at_k refl refl (λ e. omega arith)
     (λ us vs ws e. let (first, second) = in_two 8 9 8 9 us vs ws (sym (t.ordered.exchanges 1) ∙ e) in omega arith) in
-    let (n, z, at_z, low, of, among, changes) = changer_before all one_fill _ _ ms t 0 i (moment (early_at 4) Loading) at_i refl (refl, inl refl) in
+    let (n, z, at_z, low, of, among, changes) =
+    changer_before all one_fill _ _ ms t 0 i (moment (early_at 4) Loading) at_i refl (refl, inl refl) in
     elim (either_of (leaves_as 0 (moment_leaves lower_slot 0 z)) (z.x.line == 10)
     (passes frees_last (moments_in all one_fill) z early_frees among)) [
       | inl clean ↦ both_ways _ changes clean
       | inr last ↦
-          let same : z.x ≡ early_at 7 = one_by (λ (y : Played). y.line) all z.x (early_at 7) differ of (at_in all 7 (early_at 7) refl) (eqb-true z.x.line 10 last) in
-          let c = by_line _ _ _ _ _ ms t.ordered k n (moment (early_at 6) Swapping) z at_k at_z (subst (λ y. StandsBefore (early_at 6) y) (sym same) (inl (refl, omega arith))) in
+          let same : z.x ≡ early_at 7 =
+          one_by (λ (y : Played). y.line) all z.x (early_at 7) differ of (at_in all 7 (early_at 7) refl)
+          (eqb-true z.x.line 10 last) in
+          let c = by_line _ _ _ _ _ ms t.ordered k n (moment (early_at 6) Swapping) z at_k at_z
+          (subst (λ y. StandsBefore (early_at 6) y) (sym same) (inl (refl, omega arith))) in
           omega arith
     ]
 
@@ -251,19 +275,27 @@ pub copied_has_none : CopiedHasNone
 copied_has_none report (ms, t) =
     let all = copied_records in
     let differ = lines_differ (rules_of copied_trace) copied_trace.lines copied_records refl in
-    let (i, at_i) = placed _ _ _ _ _ ms t.ordered differ (copied_at 4) Loading (at_in all 4 (copied_at 4) refl) (at_in (copied_due (copied_at 4)) 1 Loading refl) in
-    let (j, at_j) = placed _ _ _ _ _ ms t.ordered differ (copied_at 5) Counting (at_in all 5 (copied_at 5) refl) (at_in (copied_due (copied_at 5)) 0 Counting refl) in
-    let (k, at_k) = placed _ _ _ _ _ ms t.ordered differ (copied_at 6) Counting (at_in all 6 (copied_at 6) refl) (at_in (copied_due (copied_at 6)) 0 Counting refl) in
-    let a = by_line _ _ _ _ _ ms t.ordered i j (moment (copied_at 4) Loading) (moment (copied_at 5) Counting) at_i at_j (inl (refl, omega arith)) in
+    let (i, at_i) = placed _ _ _ _ _ ms t.ordered differ (copied_at 4) Loading (at_in all 4 (copied_at 4) refl)
+    (at_in (copied_due (copied_at 4)) 1 Loading refl) in
+    let (j, at_j) = placed _ _ _ _ _ ms t.ordered differ (copied_at 5) Counting (at_in all 5 (copied_at 5) refl)
+    (at_in (copied_due (copied_at 5)) 0 Counting refl) in
+    let (k, at_k) = placed _ _ _ _ _ ms t.ordered differ (copied_at 6) Counting (at_in all 6 (copied_at 6) refl)
+    (at_in (copied_due (copied_at 6)) 0 Counting refl) in
+    let a = by_line _ _ _ _ _ ms t.ordered i j (moment (copied_at 4) Loading) (moment (copied_at 5) Counting) at_i at_j
+    (inl (refl, omega arith)) in
     let b = by_number _ _ _ _ _ ms t.ordered j k (moment (copied_at 5) Counting) (moment (copied_at 6) Counting)
     (mark_at 8 (slot_seen lower_slot 0x2000003) (Some steps.Copy)) (mark_at 9 (slot_seen lower_slot 0x3000005) (Some steps.Copy))
     at_j at_k (inr refl) (inr refl) refl refl refl (omega arith) in
-    let (n, z, at_z, low, of, among, changes) = changer_before all one_fill _ _ ms t 0 i (moment (copied_at 4) Loading) at_i refl (refl, inl refl) in
+    let (n, z, at_z, low, of, among, changes) =
+    changer_before all one_fill _ _ ms t 0 i (moment (copied_at 4) Loading) at_i refl (refl, inl refl) in
     elim (either_of (leaves_as 0 (moment_leaves lower_slot 0 z)) (z.x.line == 10)
     (passes frees_last (moments_in all one_fill) z copied_frees among)) [
       | inl clean ↦ both_ways _ changes clean
       | inr last ↦
-          let same : z.x ≡ copied_at 7 = one_by (λ (y : Played). y.line) all z.x (copied_at 7) differ of (at_in all 7 (copied_at 7) refl) (eqb-true z.x.line 10 last) in
-          let c = by_line _ _ _ _ _ ms t.ordered k n (moment (copied_at 6) Counting) z at_k at_z (subst (λ y. StandsBefore (copied_at 6) y) (sym same) (inl (refl, omega arith))) in
+          let same : z.x ≡ copied_at 7 =
+          one_by (λ (y : Played). y.line) all z.x (copied_at 7) differ of (at_in all 7 (copied_at 7) refl)
+          (eqb-true z.x.line 10 last) in
+          let c = by_line _ _ _ _ _ ms t.ordered k n (moment (copied_at 6) Counting) z at_k at_z
+          (subst (λ y. StandsBefore (copied_at 6) y) (sym same) (inl (refl, omega arith))) in
           omega arith
     ]

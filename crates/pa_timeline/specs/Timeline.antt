@@ -194,8 +194,8 @@ pub record IsStepOrder (steps : Played → List Part) (ps : List Played) (pools 
   pub pool : asked_lines ms ≡ map (λ (e : PoolEntry). e.line) pools
   pub exchanges : (k : ℕ) → swap_lines k ms ≡ map (λ (e : CellEntry). e.line) (cells k)
 
--- A timeline: the moments are such an order of all steps, and a read gives what the moments before it left in its word, which is 0 at
--- first.
+-- A timeline: the moments are such an order of all steps, and a read gives what
+-- the moments before it left in its word, which is 0 at first.
 pub record IsTimeline (usable_at : SlotName → ℕ) (partitions : ℕ) (ps : List Played) (pools : List PoolEntry) (roots : Journals)
     (cells : ℕ → List CellEntry) (ms : List Moment) : Type 0 where
   pub ordered : IsStepOrder (due_parts usable_at partitions roots) ps pools roots cells ms

@@ -73,16 +73,44 @@ read_trace =
     ∷ Do 1 (ops.Read 0 0)
     ∷ [])
 
--- the six records of `read_trace`: the free of thread 0 and the read of thread 1 find the same count word, and the read gives
--- poison
+-- the six records of `read_trace`: the free of thread 0 and the read of thread 1
+-- find the same count word, and the read gives poison
 abbrev pub read_records : List Played
 read_records =
-    record { line = 2; thread = 0; phase = 1; rules = first_rules 1; op = ops.Alloc 0 0 8; answer = answers.Made (slot_seen lower_slot 0) 8 }
-    ∷ record { line = 3; thread = 0; phase = 1; rules = first_rules 1; op = ops.Copy 0 1; answer = answers.Done (slot_seen lower_slot 0x1000001) }
+    record {
+      line = 2;
+      thread = 0;
+      phase = 1;
+      rules = first_rules 1;
+      op = ops.Alloc 0 0 8;
+      answer = answers.Made (slot_seen lower_slot 0) 8;
+    }
+    ∷ record {
+      line = 3;
+      thread = 0;
+      phase = 1;
+      rules = first_rules 1;
+      op = ops.Copy 0 1;
+      answer = answers.Done (slot_seen lower_slot 0x1000001);
+    }
     ∷ record { line = 4; thread = 0; phase = 1; rules = first_rules 1; op = ops.Swap 0 1; answer = answers.Swapped 0 }
     ∷ record { line = 6; thread = 1; phase = 2; rules = first_rules 1; op = ops.Swap 0 0; answer = answers.Swapped 1 }
-    ∷ record { line = 7; thread = 0; phase = 2; rules = first_rules 1; op = ops.Free 0; answer = answers.Done (slot_seen lower_slot 0x2000003) }
-    ∷ record { line = 8; thread = 1; phase = 2; rules = first_rules 1; op = ops.Read 0 0; answer = answers.Value (slot_seen lower_slot 0x2000003) poison }
+    ∷ record {
+      line = 7;
+      thread = 0;
+      phase = 2;
+      rules = first_rules 1;
+      op = ops.Free 0;
+      answer = answers.Done (slot_seen lower_slot 0x2000003);
+    }
+    ∷ record {
+      line = 8;
+      thread = 1;
+      phase = 2;
+      rules = first_rules 1;
+      op = ops.Read 0 0;
+      answer = answers.Value (slot_seen lower_slot 0x2000003) poison;
+    }
     ∷ []
 
 -- the run of `read_records` has a timeline, whatever its report
@@ -117,18 +145,74 @@ two_slots_trace =
 -- the twelve records of `two_slots_trace`: the first slot was freed and then reset, and the second was reset and then freed
 abbrev pub two_slots_records : List Played
 two_slots_records =
-    record { line = 2; thread = 0; phase = 1; rules = first_rules 1; op = ops.Alloc 0 0 8; answer = answers.Made (slot_seen lower_slot 0) 8 }
-    ∷ record { line = 3; thread = 0; phase = 1; rules = first_rules 1; op = ops.Alloc 1 0 8; answer = answers.Made (slot_seen upper_slot 0) 8 }
-    ∷ record { line = 4; thread = 0; phase = 1; rules = first_rules 1; op = ops.Copy 0 2; answer = answers.Done (slot_seen lower_slot 0x1000001) }
-    ∷ record { line = 5; thread = 0; phase = 1; rules = first_rules 1; op = ops.Copy 1 3; answer = answers.Done (slot_seen upper_slot 0x1000001) }
+    record {
+      line = 2;
+      thread = 0;
+      phase = 1;
+      rules = first_rules 1;
+      op = ops.Alloc 0 0 8;
+      answer = answers.Made (slot_seen lower_slot 0) 8;
+    }
+    ∷ record {
+      line = 3;
+      thread = 0;
+      phase = 1;
+      rules = first_rules 1;
+      op = ops.Alloc 1 0 8;
+      answer = answers.Made (slot_seen upper_slot 0) 8;
+    }
+    ∷ record {
+      line = 4;
+      thread = 0;
+      phase = 1;
+      rules = first_rules 1;
+      op = ops.Copy 0 2;
+      answer = answers.Done (slot_seen lower_slot 0x1000001);
+    }
+    ∷ record {
+      line = 5;
+      thread = 0;
+      phase = 1;
+      rules = first_rules 1;
+      op = ops.Copy 1 3;
+      answer = answers.Done (slot_seen upper_slot 0x1000001);
+    }
     ∷ record { line = 6; thread = 0; phase = 1; rules = first_rules 1; op = ops.Swap 0 2; answer = answers.Swapped 0 }
     ∷ record { line = 7; thread = 0; phase = 1; rules = first_rules 1; op = ops.Swap 1 3; answer = answers.Swapped 0 }
     ∷ record { line = 9; thread = 1; phase = 2; rules = first_rules 1; op = ops.Swap 0 2; answer = answers.Swapped 1 }
     ∷ record { line = 10; thread = 1; phase = 2; rules = first_rules 1; op = ops.Swap 1 3; answer = answers.Swapped 1 }
-    ∷ record { line = 12; thread = 0; phase = 3; rules = first_rules 1; op = ops.Free 1; answer = answers.Done (slot_seen upper_slot 0x3000001) }
-    ∷ record { line = 13; thread = 0; phase = 3; rules = first_rules 1; op = ops.Free 0; answer = answers.Done (slot_seen lower_slot 0x2000003) }
-    ∷ record { line = 14; thread = 1; phase = 3; rules = first_rules 1; op = ops.Reset 2; answer = answers.Done (slot_seen lower_slot 0x3000002) }
-    ∷ record { line = 15; thread = 1; phase = 3; rules = first_rules 1; op = ops.Reset 3; answer = answers.Done (slot_seen upper_slot 0x2000003) }
+    ∷ record {
+      line = 12;
+      thread = 0;
+      phase = 3;
+      rules = first_rules 1;
+      op = ops.Free 1;
+      answer = answers.Done (slot_seen upper_slot 0x3000001);
+    }
+    ∷ record {
+      line = 13;
+      thread = 0;
+      phase = 3;
+      rules = first_rules 1;
+      op = ops.Free 0;
+      answer = answers.Done (slot_seen lower_slot 0x2000003);
+    }
+    ∷ record {
+      line = 14;
+      thread = 1;
+      phase = 3;
+      rules = first_rules 1;
+      op = ops.Reset 2;
+      answer = answers.Done (slot_seen lower_slot 0x3000002);
+    }
+    ∷ record {
+      line = 15;
+      thread = 1;
+      phase = 3;
+      rules = first_rules 1;
+      op = ops.Reset 3;
+      answer = answers.Done (slot_seen upper_slot 0x2000003);
+    }
     ∷ []
 
 -- the run of `two_slots_records` has no outline, whatever its report
@@ -143,7 +227,13 @@ TwoSlotsHaveNone =
 
 -- thread 1 purges twice: the first journal has thread 0's purge last, the second has it first
 abbrev pub purges_trace : Trace
-purges_trace = record { version = 1; region = 2; partitions = 2; threads = 2; lines = Do 0 ops.Purge ∷ Do 1 ops.Purge ∷ Do 1 ops.Purge ∷ [] }
+purges_trace = record {
+  version = 1;
+  region = 2;
+  partitions = 2;
+  threads = 2;
+  lines = Do 0 ops.Purge ∷ Do 1 ops.Purge ∷ Do 1 ops.Purge ∷ [];
+}
 
 -- the three records of `purges_trace`: each purge gives back no slot
 abbrev pub purges_records : List Played
@@ -188,13 +278,41 @@ slot_and_cell_trace =
 -- the eight records of `slot_and_cell_trace`: the read of thread 1 finds the count word after thread 0's second copy
 abbrev pub slot_and_cell_records : List Played
 slot_and_cell_records =
-    record { line = 2; thread = 0; phase = 1; rules = first_rules 1; op = ops.Alloc 0 0 8; answer = answers.Made (slot_seen lower_slot 0) 8 }
-    ∷ record { line = 3; thread = 0; phase = 1; rules = first_rules 1; op = ops.Copy 0 1; answer = answers.Done (slot_seen lower_slot 0x1000001) }
+    record {
+      line = 2;
+      thread = 0;
+      phase = 1;
+      rules = first_rules 1;
+      op = ops.Alloc 0 0 8;
+      answer = answers.Made (slot_seen lower_slot 0) 8;
+    }
+    ∷ record {
+      line = 3;
+      thread = 0;
+      phase = 1;
+      rules = first_rules 1;
+      op = ops.Copy 0 1;
+      answer = answers.Done (slot_seen lower_slot 0x1000001);
+    }
     ∷ record { line = 4; thread = 0; phase = 1; rules = first_rules 1; op = ops.Swap 0 1; answer = answers.Swapped 0 }
     ∷ record { line = 6; thread = 1; phase = 2; rules = first_rules 1; op = ops.Swap 0 0; answer = answers.Swapped 1 }
     ∷ record { line = 7; thread = 0; phase = 2; rules = first_rules 1; op = ops.Swap 1 9; answer = answers.Swapped 1 }
-    ∷ record { line = 8; thread = 0; phase = 2; rules = first_rules 1; op = ops.Copy 0 2; answer = answers.Done (slot_seen lower_slot 0x2000003) }
-    ∷ record { line = 9; thread = 1; phase = 2; rules = first_rules 1; op = ops.Read 0 0; answer = answers.Value (slot_seen lower_slot 0x3000005) 0 }
+    ∷ record {
+      line = 8;
+      thread = 0;
+      phase = 2;
+      rules = first_rules 1;
+      op = ops.Copy 0 2;
+      answer = answers.Done (slot_seen lower_slot 0x2000003);
+    }
+    ∷ record {
+      line = 9;
+      thread = 1;
+      phase = 2;
+      rules = first_rules 1;
+      op = ops.Read 0 0;
+      answer = answers.Value (slot_seen lower_slot 0x3000005) 0;
+    }
     ∷ record { line = 10; thread = 1; phase = 2; rules = first_rules 1; op = ops.Swap 1 9; answer = answers.Swapped 0 }
     ∷ []
 
@@ -244,14 +362,42 @@ early_trace =
 -- the eight records of `early_trace`: the read on line 7 gives poison, and only the free on line 10 poisons the slot
 abbrev pub early_records : List Played
 early_records =
-    record { line = 2; thread = 0; phase = 1; rules = first_rules 1; op = ops.Alloc 0 0 8; answer = answers.Made (slot_seen lower_slot 0) 8 }
-    ∷ record { line = 3; thread = 0; phase = 1; rules = first_rules 1; op = ops.Copy 0 1; answer = answers.Done (slot_seen lower_slot 0x1000001) }
+    record {
+      line = 2;
+      thread = 0;
+      phase = 1;
+      rules = first_rules 1;
+      op = ops.Alloc 0 0 8;
+      answer = answers.Made (slot_seen lower_slot 0) 8;
+    }
+    ∷ record {
+      line = 3;
+      thread = 0;
+      phase = 1;
+      rules = first_rules 1;
+      op = ops.Copy 0 1;
+      answer = answers.Done (slot_seen lower_slot 0x1000001);
+    }
     ∷ record { line = 4; thread = 0; phase = 1; rules = first_rules 1; op = ops.Swap 0 1; answer = answers.Swapped 0 }
     ∷ record { line = 6; thread = 1; phase = 2; rules = first_rules 1; op = ops.Swap 0 0; answer = answers.Swapped 1 }
-    ∷ record { line = 7; thread = 1; phase = 2; rules = first_rules 1; op = ops.Read 0 0; answer = answers.Value (slot_seen lower_slot 0x2000003) poison }
+    ∷ record {
+      line = 7;
+      thread = 1;
+      phase = 2;
+      rules = first_rules 1;
+      op = ops.Read 0 0;
+      answer = answers.Value (slot_seen lower_slot 0x2000003) poison;
+    }
     ∷ record { line = 8; thread = 1; phase = 2; rules = first_rules 1; op = ops.Swap 1 0; answer = answers.Swapped 0 }
     ∷ record { line = 9; thread = 0; phase = 2; rules = first_rules 1; op = ops.Swap 1 2; answer = answers.Swapped 1 }
-    ∷ record { line = 10; thread = 0; phase = 2; rules = first_rules 1; op = ops.Free 0; answer = answers.Done (slot_seen lower_slot 0x2000003) }
+    ∷ record {
+      line = 10;
+      thread = 0;
+      phase = 2;
+      rules = first_rules 1;
+      op = ops.Free 0;
+      answer = answers.Done (slot_seen lower_slot 0x2000003);
+    }
     ∷ []
 
 -- the run of `early_records` has no timeline, whatever its report

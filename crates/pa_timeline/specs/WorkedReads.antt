@@ -24,8 +24,22 @@ handed_lines size lines =
 -- the records of `handed_lines` for a slot of this many bytes, and these after them
 abbrev pub handed_records : ℕ → List Played → List Played
 handed_records size records =
-    record { line = 2; thread = 0; phase = 1; rules = first_rules 1; op = ops.Alloc 0 0 size; answer = answers.Made (slot_seen lower_slot 0) size }
-    ∷ record { line = 3; thread = 0; phase = 1; rules = first_rules 1; op = ops.Copy 0 1; answer = answers.Done (slot_seen lower_slot 0x1000001) }
+    record {
+      line = 2;
+      thread = 0;
+      phase = 1;
+      rules = first_rules 1;
+      op = ops.Alloc 0 0 size;
+      answer = answers.Made (slot_seen lower_slot 0) size;
+    }
+    ∷ record {
+      line = 3;
+      thread = 0;
+      phase = 1;
+      rules = first_rules 1;
+      op = ops.Copy 0 1;
+      answer = answers.Done (slot_seen lower_slot 0x1000001);
+    }
     ∷ record { line = 4; thread = 0; phase = 1; rules = first_rules 1; op = ops.Swap 0 1; answer = answers.Swapped 0 }
     ∷ record { line = 6; thread = 1; phase = 2; rules = first_rules 1; op = ops.Swap 0 0; answer = answers.Swapped 1 }
     ∷ records
@@ -40,9 +54,30 @@ gone_poison_trace = trace_as (handed_lines 8 (Do 0 (ops.Free 0) ∷ Do 1 (ops.Re
 abbrev pub gone_poison_records : List Played
 gone_poison_records =
     handed_records 8
-    (record { line = 7; thread = 0; phase = 2; rules = first_rules 1; op = ops.Free 0; answer = answers.Done (slot_seen lower_slot 0x2000003) }
-    ∷ record { line = 8; thread = 1; phase = 2; rules = first_rules 1; op = ops.Read 0 0; answer = answers.Value (slot_seen lower_slot 0x2000003) poison }
-    ∷ record { line = 9; thread = 1; phase = 2; rules = first_rules 1; op = ops.Read 0 0; answer = answers.Value (slot_seen lower_slot 0x2000003) 0 }
+    (record {
+      line = 7;
+      thread = 0;
+      phase = 2;
+      rules = first_rules 1;
+      op = ops.Free 0;
+      answer = answers.Done (slot_seen lower_slot 0x2000003);
+    }
+    ∷ record {
+      line = 8;
+      thread = 1;
+      phase = 2;
+      rules = first_rules 1;
+      op = ops.Read 0 0;
+      answer = answers.Value (slot_seen lower_slot 0x2000003) poison;
+    }
+    ∷ record {
+      line = 9;
+      thread = 1;
+      phase = 2;
+      rules = first_rules 1;
+      op = ops.Read 0 0;
+      answer = answers.Value (slot_seen lower_slot 0x2000003) 0;
+    }
     ∷ [])
 
 -- The run in which poison is read and then the content has no timeline, whatever its report: what is poison stays so.
@@ -66,9 +101,30 @@ second_word_trace = trace_as (handed_lines 24 (Do 0 (ops.Free 0) ∷ Do 1 (ops.R
 abbrev pub second_word_records : List Played
 second_word_records =
     handed_records 24
-    (record { line = 7; thread = 0; phase = 2; rules = first_rules 1; op = ops.Free 0; answer = answers.Done (slot_seen lower_slot 0x2000003) }
-    ∷ record { line = 8; thread = 1; phase = 2; rules = first_rules 1; op = ops.Read 0 1; answer = answers.Value (slot_seen lower_slot 0x2000003) poison }
-    ∷ record { line = 9; thread = 1; phase = 2; rules = first_rules 1; op = ops.Read 0 0; answer = answers.Value (slot_seen lower_slot 0x2000003) 0 }
+    (record {
+      line = 7;
+      thread = 0;
+      phase = 2;
+      rules = first_rules 1;
+      op = ops.Free 0;
+      answer = answers.Done (slot_seen lower_slot 0x2000003);
+    }
+    ∷ record {
+      line = 8;
+      thread = 1;
+      phase = 2;
+      rules = first_rules 1;
+      op = ops.Read 0 1;
+      answer = answers.Value (slot_seen lower_slot 0x2000003) poison;
+    }
+    ∷ record {
+      line = 9;
+      thread = 1;
+      phase = 2;
+      rules = first_rules 1;
+      op = ops.Read 0 0;
+      answer = answers.Value (slot_seen lower_slot 0x2000003) 0;
+    }
     ∷ [])
 
 -- The run in which poison is read in the second word and then the content in the first has no timeline, whatever its report: a free
@@ -91,14 +147,42 @@ copied_trace =
 abbrev pub copied_records : List Played
 copied_records =
     handed_records 8
-    (record { line = 7; thread = 1; phase = 2; rules = first_rules 1; op = ops.Read 0 0; answer = answers.Value (slot_seen lower_slot 0x2000003) poison }
-    ∷ record { line = 8; thread = 1; phase = 2; rules = first_rules 1; op = ops.Copy 0 1; answer = answers.Done (slot_seen lower_slot 0x2000003) }
-    ∷ record { line = 9; thread = 0; phase = 2; rules = first_rules 1; op = ops.Copy 0 2; answer = answers.Done (slot_seen lower_slot 0x3000005) }
-    ∷ record { line = 10; thread = 0; phase = 2; rules = first_rules 1; op = ops.Free 0; answer = answers.Done (slot_seen lower_slot 0x4000007) }
+    (record {
+      line = 7;
+      thread = 1;
+      phase = 2;
+      rules = first_rules 1;
+      op = ops.Read 0 0;
+      answer = answers.Value (slot_seen lower_slot 0x2000003) poison;
+    }
+    ∷ record {
+      line = 8;
+      thread = 1;
+      phase = 2;
+      rules = first_rules 1;
+      op = ops.Copy 0 1;
+      answer = answers.Done (slot_seen lower_slot 0x2000003);
+    }
+    ∷ record {
+      line = 9;
+      thread = 0;
+      phase = 2;
+      rules = first_rules 1;
+      op = ops.Copy 0 2;
+      answer = answers.Done (slot_seen lower_slot 0x3000005);
+    }
+    ∷ record {
+      line = 10;
+      thread = 0;
+      phase = 2;
+      rules = first_rules 1;
+      op = ops.Free 0;
+      answer = answers.Done (slot_seen lower_slot 0x4000007);
+    }
     ∷ [])
 
--- The run in which poison is read before a copy that comes before the free has no timeline, whatever its report: the read was over
--- before the free began.
+-- The run in which poison is read before a copy that comes before the free has no timeline, whatever its report:
+-- the read was over before the free began.
 abbrev pub CopiedHasNone : Type 0
 CopiedHasNone =
     (report : List ReportLine) →

@@ -13,7 +13,8 @@ pub fn timelines_have_outlines()
     ensures { TimelinesHaveOutlines }
 {}
 
-/// A run of two threads has no outline, and so no timeline: of two slots, each thread's last step on one came before the other's first on the other.
+/// A run of two threads has no outline, and so no timeline: of two slots,
+/// each thread's last step on one came before the other's first on the other.
 pub fn two_slots_have_no_timeline()
     ensures { TwoSlotsHaveNone }
 {}
@@ -29,8 +30,8 @@ pub fn slot_and_cell_have_no_timeline()
     ensures { SlotAndCellHaveNone }
 {}
 
-/// A run of two threads has no outline: each empties a cell and purges, and the cell has their exchanges in an order that contradicts the
-/// journal's.
+/// A run of two threads has no outline: each empties a cell and purges,
+/// and the cell has their exchanges in an order that contradicts the journal's.
 pub fn journal_and_cell_have_no_timeline()
     ensures { JournalAndCellHaveNone }
 {}

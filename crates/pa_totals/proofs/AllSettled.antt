@@ -60,11 +60,13 @@ leaves_all leaves owed v can =
     let log3 : log_of n v3 ≡ log_of n v2 ++ e2 = subst (λ (k : ℕ). log_of k v3 ≡ log_of k v2 ++ e2) l2 c.log in
     let log4 : log_of n w ≡ log_of n v3 ++ e3 = subst (λ (k : ℕ). log_of k w ≡ log_of k v3 ++ e3) l3 d.log in
     let two : log_of n v2 ≡ log_of n v ++ (e0 ++ e1) = log2 ∙ (ap (λ (l : List Entry). l ++ e1) a.log ∙ append_assoc (log_of n v) e0 e1) in
-    let three : log_of n v3 ≡ log_of n v ++ ((e0 ++ e1) ++ e2) = log3 ∙ (ap (λ (l : List Entry). l ++ e2) two ∙ append_assoc (log_of n v) (e0 ++ e1) e2) in
+    let three : log_of n v3 ≡ log_of n v ++ ((e0 ++ e1) ++ e2) = log3 ∙
+    (ap (λ (l : List Entry). l ++ e2) two ∙ append_assoc (log_of n v) (e0 ++ e1) e2) in
     record {
       least = d.least ∙ l3;
       log = log4 ∙ (ap (λ (l : List Entry). l ++ e3) three ∙ append_assoc (log_of n v) ((e0 ++ e1) ++ e2) e3);
-      other_logs = λ k ne. d.other_logs k (λ e. ne (e ∙ l3)) ∙ (c.other_logs k (λ e. ne (e ∙ l2)) ∙ (b.other_logs k (λ e. ne (e ∙ l1)) ∙ a.other_logs k ne));
+      other_logs = λ k ne. d.other_logs k (λ e. ne (e ∙ l3)) ∙
+          (c.other_logs k (λ e. ne (e ∙ l2)) ∙ (b.other_logs k (λ e. ne (e ∙ l1)) ∙ a.other_logs k ne));
       stakes = λ k. d.stakes k ∙ (c.stakes k ∙ (b.stakes k ∙ a.stakes k));
       covered = λ q. let r = each.room.1 q in omega arith;
       adds = all_adds owed;

@@ -35,7 +35,8 @@ can_add p j bytes v f small kind room same =
     let r = room.1 j in
     (omega arith, room.0, rw rest (omega arith))
 
-pub room_left : AddLeaves → (p j bytes : ℕ) (v : View) (f g : ℕ → ℕ) → p < 4 → j < 4 → HasRoom f v → bytes ≤ f j → ((q : ℕ) → g q + (if j == q then bytes else 0) ≤ f q) →
+pub room_left : AddLeaves → (p j bytes : ℕ) (v : View) (f g : ℕ → ℕ) → p < 4 → j < 4 → HasRoom f v → bytes ≤ f j →
+    ((q : ℕ) → g q + (if j == q then bytes else 0) ≤ f q) →
     HasRoom g (after_add (4 * p + j) bytes v)
 room_left leaves p j bytes v f g small kind room same less =
     let l = leaves (4 * p + j) bytes v (can_add p j bytes v f small kind room same) in
@@ -68,7 +69,8 @@ less_freed o q = elim (eqb_tells q 1) [
 
 less_entered : (o : Owed) (q : ℕ) → owed_to q (record o { entered = 0 }) + (if 2 == q then o.entered else 0) ≤ owed_to q o
 less_entered o q = elim (eqb_tells q 2) [
-  | inl y ↦ subst (λ (n : ℕ). owed_to n (record o { entered = 0 }) + (if 2 == n then o.entered else 0) ≤ owed_to n o) (sym y.1) (omega arith)
+  | inl y ↦ subst (λ (n : ℕ). owed_to n (record o { entered = 0 }) + (if 2 == n then o.entered else 0) ≤ owed_to n o) (sym y.1)
+      (omega arith)
   | inr n ↦ rw (n.0, ne_eqb 2 q (λ e. n.1 (sym e))) (omega arith)
 ]
 
@@ -99,10 +101,14 @@ adds_each leaves p o v can =
     let r1 : HasRoom (λ q. owed_to q o1) v1 =
     subst (λ (k : ℕ). HasRoom (λ q. owed_to q o1) (after_add k o.issued v)) first
     (room_left leaves p 0 o.issued v (λ q. owed_to q o) (λ q. owed_to q o1) small (omega arith) r0 (omega arith) (less_issued o)) in
-    let r2 : HasRoom (λ q. owed_to q o2) v2 = room_left leaves p 1 o.freed v1 (λ q. owed_to q o1) (λ q. owed_to q o2) small (omega arith) r1 (omega arith) (less_freed o1) in
-    let r3 : HasRoom (λ q. owed_to q o3) v3 = room_left leaves p 2 o.entered v2 (λ q. owed_to q o2) (λ q. owed_to q o3) small (omega arith) r2 (omega arith) (less_entered o2) in
+    let r2 : HasRoom (λ q. owed_to q o2) v2 =
+    room_left leaves p 1 o.freed v1 (λ q. owed_to q o1) (λ q. owed_to q o2) small (omega arith) r1 (omega arith) (less_freed o1) in
+    let r3 : HasRoom (λ q. owed_to q o3) v3 =
+    room_left leaves p 2 o.entered v2 (λ q. owed_to q o2) (λ q. owed_to q o3) small (omega arith) r2 (omega arith)
+    (less_entered o2) in
     record {
-      issued = subst (λ (k : ℕ). CanAdd k o.issued v) first (can_add p 0 o.issued v (λ q. owed_to q o) small (omega arith) r0 (omega arith));
+      issued = subst (λ (k : ℕ). CanAdd k o.issued v) first
+          (can_add p 0 o.issued v (λ q. owed_to q o) small (omega arith) r0 (omega arith));
       freed = can_add p 1 o.freed v1 (λ q. owed_to q o1) small (omega arith) r1 (omega arith);
       entered = can_add p 2 o.entered v2 (λ q. owed_to q o2) small (omega arith) r2 (omega arith);
       left = can_add p 3 o.left v3 (λ q. owed_to q o3) small (omega arith) r3 (omega arith);
@@ -132,11 +138,13 @@ leaves_settle leaves p o v can =
     let log3 : log_of n v3 ≡ log_of n v2 ++ e3 = subst (λ (k : ℕ). log_of k v3 ≡ log_of k v2 ++ e3) l2 c.log in
     let log4 : log_of n w ≡ log_of n v3 ++ e4 = subst (λ (k : ℕ). log_of k w ≡ log_of k v3 ++ e4) l3 d.log in
     let two : log_of n v2 ≡ log_of n v ++ (e1 ++ e2) = log2 ∙ (ap (λ (l : List Entry). l ++ e2) a.log ∙ append_assoc (log_of n v) e1 e2) in
-    let three : log_of n v3 ≡ log_of n v ++ ((e1 ++ e2) ++ e3) = log3 ∙ (ap (λ (l : List Entry). l ++ e3) two ∙ append_assoc (log_of n v) (e1 ++ e2) e3) in
+    let three : log_of n v3 ≡ log_of n v ++ ((e1 ++ e2) ++ e3) = log3 ∙
+    (ap (λ (l : List Entry). l ++ e3) two ∙ append_assoc (log_of n v) (e1 ++ e2) e3) in
     record {
       least = d.least ∙ l3;
       log = log4 ∙ (ap (λ (l : List Entry). l ++ e4) three ∙ append_assoc (log_of n v) ((e1 ++ e2) ++ e3) e4);
-      other_logs = λ k ne. d.other_logs k (λ e. ne (e ∙ l3)) ∙ (c.other_logs k (λ e. ne (e ∙ l2)) ∙ (b.other_logs k (λ e. ne (e ∙ l1)) ∙ a.other_logs k ne));
+      other_logs = λ k ne. d.other_logs k (λ e. ne (e ∙ l3)) ∙
+          (c.other_logs k (λ e. ne (e ∙ l2)) ∙ (b.other_logs k (λ e. ne (e ∙ l1)) ∙ a.other_logs k ne));
       stakes = λ k. d.stakes k ∙ (c.stakes k ∙ (b.stakes k ∙ a.stakes k));
     }
 
@@ -164,7 +172,8 @@ pub none_owed_in : (q : ℕ) → owed_in q none_owed ≡ 0
 none_owed_in q = let a = owed_none q in omega arith
 
 -- a settling leaves room for what else is owed
-settle_room : AddLeaves → (p : ℕ) (o : Owed) (v : View) (g : ℕ → ℕ) → p < 4 → HasRoom (λ q. owed_to q o + g q) v → HasRoom g (after_settle p o v)
+settle_room : AddLeaves → (p : ℕ) (o : Owed) (v : View) (g : ℕ → ℕ) → p < 4 → HasRoom (λ q. owed_to q o + g q) v →
+    HasRoom g (after_settle p o v)
 settle_room leaves p o v g small room =
     let first : 4 * p + 0 ≡ 4 * p = omega arith in
     let o1 : Owed = record o { issued = 0 } in
@@ -175,12 +184,16 @@ settle_room leaves p o v g small room =
     let v3 = after_add (4 * p + 2) o.entered v2 in
     let r1 : HasRoom (λ q. owed_to q o1 + g q) v1 =
     subst (λ (k : ℕ). HasRoom (λ q. owed_to q o1 + g q) (after_add k o.issued v)) first
-    (room_left leaves p 0 o.issued v (λ q. owed_to q o + g q) (λ q. owed_to q o1 + g q) small (omega arith) room (omega arith) (λ q. let a = less_issued o q in omega arith)) in
+    (room_left leaves p 0 o.issued v (λ q. owed_to q o + g q) (λ q. owed_to q o1 + g q) small (omega arith) room (omega arith)
+    (λ q. let a = less_issued o q in omega arith)) in
     let r2 : HasRoom (λ q. owed_to q o2 + g q) v2 =
-    room_left leaves p 1 o.freed v1 (λ q. owed_to q o1 + g q) (λ q. owed_to q o2 + g q) small (omega arith) r1 (omega arith) (λ q. let a = less_freed o1 q in omega arith) in
+    room_left leaves p 1 o.freed v1 (λ q. owed_to q o1 + g q) (λ q. owed_to q o2 + g q) small (omega arith) r1 (omega arith)
+    (λ q. let a = less_freed o1 q in omega arith) in
     let r3 : HasRoom (λ q. owed_to q o3 + g q) v3 =
-    room_left leaves p 2 o.entered v2 (λ q. owed_to q o2 + g q) (λ q. owed_to q o3 + g q) small (omega arith) r2 (omega arith) (λ q. let a = less_entered o2 q in omega arith) in
-    room_left leaves p 3 o.left v3 (λ q. owed_to q o3 + g q) g small (omega arith) r3 (omega arith) (λ q. let a = less_left o3 q in let b = owed_none q in omega arith)
+    room_left leaves p 2 o.entered v2 (λ q. owed_to q o2 + g q) (λ q. owed_to q o3 + g q) small (omega arith) r2 (omega arith)
+    (λ q. let a = less_entered o2 q in omega arith) in
+    room_left leaves p 3 o.left v3 (λ q. owed_to q o3 + g q) g small (omega arith) r3 (omega arith)
+    (λ q. let a = less_left o3 q in let b = owed_none q in omega arith)
 
 can_settle : (p : ℕ) (o : Owed) (v : View) (g : ℕ → ℕ) → p < 4 → HasRoom (λ q. owed_to q o + g q) v → CanSettle p o v
 can_settle p o v g small room = record { partition = small; stake = room.0; covered = λ q. let a = room.1 q in omega arith }
@@ -190,7 +203,8 @@ pub record SettlesEach (owed : List Owed) (v : View) : Type 0 where
   pub first : CanSettle 0 (owed_at owed 0) v
   pub second : CanSettle 1 (owed_at owed 1) (after_settle 0 (owed_at owed 0) v)
   pub third : CanSettle 2 (owed_at owed 2) (after_settle 1 (owed_at owed 1) (after_settle 0 (owed_at owed 0) v))
-  pub fourth : CanSettle 3 (owed_at owed 3) (after_settle 2 (owed_at owed 2) (after_settle 1 (owed_at owed 1) (after_settle 0 (owed_at owed 0) v)))
+  pub fourth : CanSettle 3 (owed_at owed 3)
+      (after_settle 2 (owed_at owed 2) (after_settle 1 (owed_at owed 1) (after_settle 0 (owed_at owed 0) v)))
   pub room : HasRoom (λ q. 0) (after_settle_all owed v)
 
 pub settles_each : AddLeaves → (owed : List Owed) (v : View) → CanSettleAll owed v → SettlesEach owed v

@@ -18,8 +18,8 @@ nothing_owed = record { issued = 0; freed = 0; entered = 0; left = 0 }
 abbrev pub owed_to : ℕ → Owed → ℕ
 owed_to q o = if q == 0 then o.issued else (if q == 1 then o.freed else (if q == 2 then o.entered else (if q == 3 then o.left else 0)))
 
--- A seat with this view may settle what is owed to the words of partition p: it has a stake, and of each kind the least stake's log
--- owes as much.
+-- A seat with this view may settle what is owed to the words of partition p: it has a stake,
+-- and of each kind the least stake's log owes as much.
 pub record CanSettle (p : ℕ) (o : Owed) (v : View) : Type 0 where
   pub partition : p < 4
   pub stake : HasStake v
@@ -39,8 +39,8 @@ abbrev pub four_added : ℕ → Owed → List Entry
 four_added p o =
     Added (4 * p) o.issued ∷ Added (4 * p + 1) o.freed ∷ Added (4 * p + 2) o.entered ∷ Added (4 * p + 3) o.left ∷ []
 
--- What a settling of one partition leaves of logs: the least stake's log ends with the four additions, the others are as before, and
--- so are the stakes.
+-- What a settling of one partition leaves of logs: the least stake's log ends with the four additions,
+-- the others are as before, and so are the stakes.
 pub record LeavesSettle (p : ℕ) (o : Owed) (v w : View) : Type 0 where
   pub least : least_stake w.stakes ≡ least_stake v.stakes
   pub log : log_of (least_stake v.stakes) w ≡ log_of (least_stake v.stakes) v ++ four_added p o
@@ -66,8 +66,8 @@ abbrev pub owed_in : ℕ → List Owed → ℕ
 owed_in q owed =
     owed_to q (owed_at owed 0) + (owed_to q (owed_at owed 1) + (owed_to q (owed_at owed 2) + owed_to q (owed_at owed 3)))
 
--- A seat with this view may settle what is owed to all four partitions: it has a stake, and of each kind the least stake's log owes
--- as much.
+-- A seat with this view may settle what is owed to all four partitions: it has a stake,
+-- and of each kind the least stake's log owes as much.
 pub record CanSettleAll (owed : List Owed) (v : View) : Type 0 where
   pub stake : HasStake v
   pub covered : (q : ℕ) → sum_by (added_as q) (least_log v.stakes) + owed_in q owed ≤ sum_by (owes_as q) (least_log v.stakes)

@@ -39,25 +39,30 @@ cut_of bytes line after one e = ap lines_of e ∙ cut_lines line after one
 
 module _ (partitions threads : ℕ) where
   -- a line that is past
-  pub first_past : (n before : ℕ) (bytes line after : List ℕ) → IsOneLine line → bytes ≡ line ++ 10 ∷ after → (65536 < n) ⊎ (4194304 < before + (length line + 1))
+  pub first_past : (n before : ℕ) (bytes line after : List ℕ) → IsOneLine line → bytes ≡ line ++ 10 ∷ after → (65536 < n) ⊎
+      (4194304 < before + (length line + 1))
       → IsFirstBehind partitions threads n before (lines_of bytes) (Limit n)
   first_past n before bytes line after one e past =
-      subst (λ (x : List (List ℕ)). IsFirstBehind partitions threads n before x (Limit n)) (sym (cut_of bytes line after one e)) (inl (refl, inl (past_line n before line past)))
+      subst (λ (x : List (List ℕ)). IsFirstBehind partitions threads n before x (Limit n)) (sym (cut_of bytes line after one e))
+      (inl (refl, inl (past_line n before line past)))
 
-  unread_here : (n before : ℕ) (line : List ℕ) (lines : List (List ℕ)) (d : LineFault) → (IsPast n before (line ++ 10 ∷ []) → ⊥) → IsNotRead partitions threads d line
+  unread_here : (n before : ℕ) (line : List ℕ) (lines : List (List ℕ)) (d : LineFault) → (IsPast n before (line ++ 10 ∷ []) → ⊥) →
+      IsNotRead partitions threads d line
       → IsFirstBehind partitions threads n before ((line ++ 10 ∷ []) ∷ lines) (told n d)
   unread_here n before line lines Outside none out = inl (refl, none, λ l h. out l (body_text l line h))
   unread_here n before line lines Past none over = inl (refl, inr (over.0, (line, over.1, refl), over.2))
 
   -- a line that is not past and is not read
-  pub first_unread : (n before : ℕ) (bytes line after : List ℕ) (d : LineFault) → IsOneLine line → bytes ≡ line ++ 10 ∷ after → n ≤ 65536 → before + (length line + 1) ≤ 4194304
+  pub first_unread : (n before : ℕ) (bytes line after : List ℕ) (d : LineFault) → IsOneLine line → bytes ≡ line ++ 10 ∷ after → n ≤ 65536 →
+      before + (length line + 1) ≤ 4194304
       → IsNotRead partitions threads d line → IsFirstBehind partitions threads n before (lines_of bytes) (told n d)
   first_unread n before bytes line after d one e few short unread =
       subst (λ (x : List (List ℕ)). IsFirstBehind partitions threads n before x (told n d)) (sym (cut_of bytes line after one e))
       (unread_here n before line (lines_of after) d (not_past n before line few short) unread)
 
   -- a line that is read
-  pub first_later : (n before m behind : ℕ) (bytes line after : List ℕ) (l : Line) (e : TraceFault) → IsOneLine line → bytes ≡ line ++ 10 ∷ after → n ≤ 65536 → before + (length line + 1) ≤ 4194304
+  pub first_later : (n before m behind : ℕ) (bytes line after : List ℕ) (l : Line) (e : TraceFault) → IsOneLine line → bytes ≡ line ++
+      10 ∷ after → n ≤ 65536 → before + (length line + 1) ≤ 4194304
       → IsLineText l line → IsLineWithin partitions threads l → m ≡ n + 1 → behind ≡ before + (length line + 1)
       → IsFirstBehind partitions threads m behind (lines_of after) e → IsFirstBehind partitions threads n before (lines_of bytes) e
   first_later n before m behind bytes line after l e one parts few short text within next far h =
@@ -72,10 +77,14 @@ module _ (partitions threads : ℕ) where
   bad_end : (line : List ℕ) → IsOneLine line → IsBadLine line
   bad_end line one l h = no_cut line h.0 [] one h.2
 
-  pub end_past : (n before : ℕ) (line : List ℕ) → IsOneLine line → (line ≡ [] → ⊥) → IsPast n before line → IsFirstBehind partitions threads n before (lines_of line) (Limit n)
-  end_past n before line one some' past = subst (λ (x : List (List ℕ)). IsFirstBehind partitions threads n before x (Limit n)) (sym (last_line line one some')) (inl (refl, inl past))
+  pub end_past : (n before : ℕ) (line : List ℕ) → IsOneLine line → (line ≡ [] → ⊥) → IsPast n before line →
+      IsFirstBehind partitions threads n before (lines_of line) (Limit n)
+  end_past n before line one some' past =
+      subst (λ (x : List (List ℕ)). IsFirstBehind partitions threads n before x (Limit n)) (sym (last_line line one some'))
+      (inl (refl, inl past))
 
-  pub end_bad : (n before : ℕ) (line : List ℕ) → IsOneLine line → (line ≡ [] → ⊥) → n ≤ 65536 → before + length line ≤ 4194304 → IsFirstBehind partitions threads n before (lines_of line) (BadLine n)
+  pub end_bad : (n before : ℕ) (line : List ℕ) → IsOneLine line → (line ≡ [] → ⊥) → n ≤ 65536 → before + length line ≤ 4194304 →
+      IsFirstBehind partitions threads n before (lines_of line) (BadLine n)
   end_bad n before line one some' few short =
       subst (λ (x : List (List ℕ)). IsFirstBehind partitions threads n before x (BadLine n)) (sym (last_line line one some'))
       (inl (refl, (λ past. elim past [ inl many ↦ omega arith | inr long ↦ omega arith ]), bad_end line one))
@@ -86,12 +95,14 @@ module _ (partitions threads : ℕ) where
       → IsFirstBehind partitions threads n before (lines_of line) e
   first_end n before line e one some' past bad =
       let as_limit : (65536 < n) ⊎ (4194304 < before + length line) → IsFirstBehind partitions threads n before (lines_of line) e =
-      λ h. subst (λ (x : TraceFault). IsFirstBehind partitions threads n before (lines_of line) x) (sym (past h)) (end_past n before line one some' h) in
+      λ h. subst (λ (x : TraceFault). IsFirstBehind partitions threads n before (lines_of line) x) (sym (past h))
+      (end_past n before line one some' h) in
       elim (cases_lt 65536 n) [
         | inl many ↦ as_limit (inl many)
         | inr few ↦ elim (cases_lt 4194304 (before + length line)) [
           | inl long ↦ as_limit (inr long)
-          | inr short ↦ subst (λ (x : TraceFault). IsFirstBehind partitions threads n before (lines_of line) x) (sym (bad few short)) (end_bad n before line one some' few short)
+          | inr short ↦ subst (λ (x : TraceFault). IsFirstBehind partitions threads n before (lines_of line) x) (sym (bad few short))
+              (end_bad n before line one some' few short)
         ]
       ]
 
@@ -104,17 +115,20 @@ first_is_fault known (Limit n) bytes h = h
 first_is_fault known OutOfMemory bytes h = tt
 
 module _ (known : ℕ) where
-  pub head_past : (bytes line after : List ℕ) → IsOneLine line → bytes ≡ line ++ 10 ∷ after → (65536 < 1) ⊎ (4194304 < length line + 1) → IsFirstFault known (Limit 1) bytes
+  pub head_past : (bytes line after : List ℕ) → IsOneLine line → bytes ≡ line ++ 10 ∷ after → (65536 < 1) ⊎ (4194304 < length line + 1) →
+      IsFirstFault known (Limit 1) bytes
   head_past bytes line after one e past =
       subst (λ (x : List (List ℕ)). IsFirstOf known x (Limit 1)) (sym (cut_of bytes line after one e))
       (inl (refl, inl (past_line 1 0 line (elim past [ inl many ↦ inl many | inr long ↦ inr (omega arith) ]))))
 
-  head_unread_here : (line : List ℕ) (lines : List (List ℕ)) (d : LineFault) → (IsPast 1 0 (line ++ 10 ∷ []) → ⊥) → IsHeadNotRead known d line
+  head_unread_here : (line : List ℕ) (lines : List (List ℕ)) (d : LineFault) → (IsPast 1 0 (line ++ 10 ∷ []) → ⊥) →
+      IsHeadNotRead known d line
       → IsFirstOf known ((line ++ 10 ∷ []) ∷ lines) (told 1 d)
   head_unread_here line lines Outside none out = inl (refl, none, λ head h. out head h.3 (head_text known head line h))
   head_unread_here line lines Past none over = inl (refl, inr (over.0, (line, over.2, refl, over.1), over.3))
 
-  pub head_first_unread : (bytes line after : List ℕ) (d : LineFault) → IsOneLine line → bytes ≡ line ++ 10 ∷ after → length line + 1 ≤ 4194304
+  pub head_first_unread : (bytes line after : List ℕ) (d : LineFault) → IsOneLine line → bytes ≡ line ++ 10 ∷ after →
+      length line + 1 ≤ 4194304
       → IsHeadNotRead known d line → IsFirstFault known (told 1 d) bytes
   head_first_unread bytes line after d one e short unread =
       subst (λ (x : List (List ℕ)). IsFirstOf known x (told 1 d)) (sym (cut_of bytes line after one e))
@@ -122,9 +136,11 @@ module _ (known : ℕ) where
 
   pub head_unread : (bytes line after : List ℕ) (d : LineFault) → IsOneLine line → bytes ≡ line ++ 10 ∷ after → length line + 1 ≤ 4194304
       → IsHeadNotRead known d line → IsFault known (told 1 d) bytes
-  head_unread bytes line after d one e short unread = first_is_fault known (told 1 d) bytes (head_first_unread bytes line after d one e short unread)
+  head_unread bytes line after d one e short unread =
+      first_is_fault known (told 1 d) bytes (head_first_unread bytes line after d one e short unread)
 
-  pub head_later : (head : Head) (behind : ℕ) (bytes line after : List ℕ) (e : TraceFault) → IsOneLine line → bytes ≡ line ++ 10 ∷ after → length line + 1 ≤ 4194304
+  pub head_later : (head : Head) (behind : ℕ) (bytes line after : List ℕ) (e : TraceFault) → IsOneLine line → bytes ≡ line ++ 10 ∷ after →
+      length line + 1 ≤ 4194304
       → IsHeadText head line → IsHeadWithin head → IsVersionTo known head.version → behind ≡ length line + 1
       → IsFirstBehind head.partitions head.threads 2 behind (lines_of after) e → IsFirstFault known e bytes
   head_later head behind bytes line after e one parts short text within to far h =
@@ -141,7 +157,8 @@ module _ (known : ℕ) where
   pub end_limit : (bytes : List ℕ) → IsOneLine bytes → 4194304 < length bytes → IsFirstFault known (Limit 1) bytes
   end_limit [] one long = absurd (omega arith)
   end_limit (b ∷ bytes) one long =
-      subst (λ (x : List (List ℕ)). IsFirstOf known x (Limit 1)) (sym (last_line (b ∷ bytes) one (λ e. cc))) (inl (refl, inl (inr (omega arith))))
+      subst (λ (x : List (List ℕ)). IsFirstOf known x (Limit 1)) (sym (last_line (b ∷ bytes) one (λ e. cc)))
+      (inl (refl, inl (inr (omega arith))))
 
   pub end_badly : (bytes : List ℕ) → IsOneLine bytes → length bytes ≤ 4194304 → IsFirstFault known (BadLine 1) bytes
   end_badly [] one short = subst (λ (x : List (List ℕ)). IsFirstOf known x (BadLine 1)) (sym no_lines) refl

@@ -87,8 +87,10 @@ field_line v i n hv hi = one_line_append v i hv (numeral_one n i hi)
 two_line : (v i w j : List ℕ) (m n : ℕ) → IsOneLine v → IsOneLine w → IsNumeral m i → IsNumeral n j → IsOneLine (v ++ i ++ w ++ j)
 two_line v i w j m n hv hw hi hj = field_line (v ++ i ++ w) j n (one_line_append (v ++ i) w (field_line v i m hv hi) hw) hj
 
-pub three_line : (v i w j y k : List ℕ) (m n p : ℕ) → IsOneLine v → IsOneLine w → IsOneLine y → IsNumeral m i → IsNumeral n j → IsNumeral p k → IsOneLine (v ++ i ++ w ++ j ++ y ++ k)
-three_line v i w j y k m n p hv hw hy hi hj hk = field_line (v ++ i ++ w ++ j ++ y) k p (one_line_append (v ++ i ++ w ++ j) y (two_line v i w j m n hv hw hi hj) hy) hk
+pub three_line : (v i w j y k : List ℕ) (m n p : ℕ) → IsOneLine v → IsOneLine w → IsOneLine y → IsNumeral m i → IsNumeral n j →
+    IsNumeral p k → IsOneLine (v ++ i ++ w ++ j ++ y ++ k)
+three_line v i w j y k m n p hv hw hy hi hj hk =
+    field_line (v ++ i ++ w ++ j ++ y) k p (one_line_append (v ++ i ++ w ++ j) y (two_line v i w j m n hv hw hi hj) hy) hk
 
 -- the test of a word that is written out
 abbrev pub has_no_lf : List ℕ → Bool
@@ -120,26 +122,34 @@ op_line : (op : Op) (text : List ℕ) → IsOpText op text → IsOneLine text
 op_line (Alloc reg partition size) text h =
     along text _ h.6 (three_line (codes "A r") h.0 (codes " p") h.1 (codes " ") h.2 reg partition size (word_line (codes "A r") refl)
     (word_line (codes " p") refl) (word_line (codes " ") refl) h.3 h.4 h.5)
-op_line (Copy from to) text h = along text _ h.4 (two_line (codes "C r") h.0 (codes " r") h.1 from to (word_line (codes "C r") refl) (word_line (codes " r") refl) h.2 h.3)
+op_line (Copy from to) text h =
+    along text _ h.4 (two_line (codes "C r") h.0 (codes " r") h.1 from to (word_line (codes "C r") refl)
+    (word_line (codes " r") refl) h.2 h.3)
 op_line (Reset reg) text h = along text _ h.2 (field_line (codes "R r") h.0 reg (word_line (codes "R r") refl) h.1)
 op_line (Free reg) text h = along text _ h.2 (field_line (codes "F r") h.0 reg (word_line (codes "F r") refl) h.1)
 op_line (Write reg value) text h =
     along text _ h.3 (one_line_append (codes "W r" ++ h.0 ++ codes " ") (hex 16 value)
     (one_line_append (codes "W r" ++ h.0) (codes " ") (field_line (codes "W r") h.0 reg (word_line (codes "W r") refl) h.1)
     (word_line (codes " ") refl)) (hex_line 16 value))
-op_line (Read reg place) text h = along text _ h.4 (two_line (codes "D r") h.0 (codes " ") h.1 reg place (word_line (codes "D r") refl) (word_line (codes " ") refl) h.2 h.3)
-op_line (Swap cell reg) text h = along text _ h.4 (two_line (codes "X c") h.0 (codes " r") h.1 cell reg (word_line (codes "X c") refl) (word_line (codes " r") refl) h.2 h.3)
+op_line (Read reg place) text h =
+    along text _ h.4 (two_line (codes "D r") h.0 (codes " ") h.1 reg place (word_line (codes "D r") refl)
+    (word_line (codes " ") refl) h.2 h.3)
+op_line (Swap cell reg) text h =
+    along text _ h.4 (two_line (codes "X c") h.0 (codes " r") h.1 cell reg (word_line (codes "X c") refl)
+    (word_line (codes " r") refl) h.2 h.3)
 op_line Purge text h = along text _ h (word_line (codes "P") refl)
 
 pub line_line : (line : Line) (text : List ℕ) → IsLineText line text → IsOneLine text
 line_line Phase text h = along text _ h (word_line (codes "phase") refl)
 line_line (Do thread op) text h =
-    along text _ h.4 (one_line_append (h.0 ++ codes " ") h.1 (one_line_append h.0 (codes " ") (numeral_one thread h.0 h.2) (word_line (codes " ") refl)) (op_line op h.1 h.3))
+    along text _ h.4 (one_line_append (h.0 ++ codes " ") h.1
+    (one_line_append h.0 (codes " ") (numeral_one thread h.0 h.2) (word_line (codes " ") refl)) (op_line op h.1 h.3))
 
 pub head_line : (h : Head) (text : List ℕ) → IsHeadText h text → IsOneLine text
 head_line h text t =
     let first : IsOneLine (codes "trace " ++ t.0) = field_line (codes "trace ") t.0 h.version (word_line (codes "trace ") refl) t.4 in
     let front : IsOneLine (codes "trace " ++ t.0 ++ codes " region ") =
     one_line_append (codes "trace " ++ t.0) (codes " region ") first (word_line (codes " region ") refl) in
-    along text _ t.8 (three_line (codes "trace " ++ t.0 ++ codes " region ") t.1 (codes " partitions ") t.2 (codes " threads ") t.3 h.region h.partitions h.threads
+    along text _ t.8 (three_line (codes "trace " ++ t.0 ++ codes " region ") t.1 (codes " partitions ") t.2
+    (codes " threads ") t.3 h.region h.partitions h.threads
     front (word_line (codes " partitions ") refl) (word_line (codes " threads ") refl) t.5 t.6 t.7)

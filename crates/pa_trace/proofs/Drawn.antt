@@ -39,9 +39,11 @@ behind_parts part n m old a b last all e f =
     f ∙ ap (λ (x : List Line). x ++ last) e ∙ append_assoc old (parts part n) last ∙ ap (λ (k : ℕ). old ++ (parts part k ++ last)) all
 
 -- one round more
-pub round_more : (words seen : List ℕ) (round : ℕ) (old a b : List Line) → seen ≡ words → old ≡ generated_lines words round → a ≡ old ++ phase_before round
+pub round_more : (words seen : List ℕ) (round : ℕ) (old a b : List Line) → seen ≡ words → old ≡ generated_lines words round → a ≡ old ++
+    phase_before round
     → b ≡ a ++ round_lines seen round → b ≡ generated_lines words (round + 1)
 round_more words seen round old a b same e f g =
     let one : suc round ≡ round + 1 = omega arith in
-    g ∙ ap (λ (x : List ℕ). a ++ round_lines x round) same ∙ ap (λ (x : List Line). x ++ round_lines words round) (f ∙ ap (λ (x : List Line). x ++ phase_before round) e)
+    g ∙ ap (λ (x : List ℕ). a ++ round_lines x round) same ∙
+    ap (λ (x : List Line). x ++ round_lines words round) (f ∙ ap (λ (x : List Line). x ++ phase_before round) e)
     ∙ append_assoc (generated_lines words round) (phase_before round) (round_lines words round) ∙ ap (generated_lines words) one

@@ -94,11 +94,13 @@ behind_stays partitions threads (x ∷ w ∷ xs) (y ∷ ys) n before e full long
     let later = behind_stays partitions threads (w ∷ xs) ys (n + 1) (before + length x) e (omega arith) longer.1 g.4 in
     subst (λ (z : List ℕ). IsFirstBehind partitions threads n before (z ∷ ys) e) longer.0 (inr (g.0, g.1, g.2, g.3, later))
 
-first_stays : (known : ℕ) (xs ys : List (List ℕ)) (e : TraceFault) → total xs ≡ 4194305 → Extends xs ys → IsFirstOf known xs e → IsFirstOf known ys e
+first_stays : (known : ℕ) (xs ys : List (List ℕ)) (e : TraceFault) → total xs ≡ 4194305 → Extends xs ys → IsFirstOf known xs e →
+    IsFirstOf known ys e
 first_stays known [] ys e full longer h = absurd (omega arith)
 first_stays known (x ∷ []) [] e full longer h = absurd longer
 first_stays known (x ∷ []) (y ∷ ys) e full longer (inl h) =
-    inl (past_stays 1 (IsPast 1 0 x) (IsBadHead known x) (IsHeadOverLimit known x) (IsPast 1 0 y) (IsBadHead known y) (IsHeadOverLimit known y) e
+    inl (past_stays 1 (IsPast 1 0 x) (IsBadHead known x) (IsHeadOverLimit known x) (IsPast 1 0 y) (IsBadHead known y)
+    (IsHeadOverLimit known y) e
     (inr (omega arith)) (inr (omega arith)) h)
 first_stays known (x ∷ []) (y ∷ ys) e full longer (inr g) = absurd g.4
 first_stays known (x ∷ w ∷ xs) [] e full longer h = absurd longer
@@ -108,10 +110,13 @@ first_stays known (x ∷ w ∷ xs) (y ∷ ys) e full longer (inr g) =
     let later = behind_stays g.0.partitions g.0.threads (w ∷ xs) ys 2 (length x) e full longer.1 g.4 in
     subst (λ (z : List ℕ). IsFirstOf known (z ∷ ys) e) longer.0 (inr (g.0, g.1, g.2, g.3, later))
 
-pub first_early : (known : ℕ) (e : TraceFault) (bytes more : List ℕ) → length bytes ≡ 4194305 → IsFirstFault known e bytes → IsFirstFault known e (bytes ++ more)
-first_early known e bytes more full h = first_stays known (lines_of bytes) (lines_of (bytes ++ more)) e (lines_total bytes ∙ full) (lines_extend bytes more) h
+pub first_early : (known : ℕ) (e : TraceFault) (bytes more : List ℕ) → length bytes ≡ 4194305 → IsFirstFault known e bytes →
+    IsFirstFault known e (bytes ++ more)
+first_early known e bytes more full h =
+    first_stays known (lines_of bytes) (lines_of (bytes ++ more)) e (lines_total bytes ∙ full) (lines_extend bytes more) h
 
-pub fault_early : (known : ℕ) (e : TraceFault) (bytes more : List ℕ) → length bytes ≡ 4194305 → IsFault known e bytes → IsFault known e (bytes ++ more)
+pub fault_early : (known : ℕ) (e : TraceFault) (bytes more : List ℕ) → length bytes ≡ 4194305 → IsFault known e bytes →
+    IsFault known e (bytes ++ more)
 fault_early known (BadLine n) bytes more full h = first_early known (BadLine n) bytes more full h
 fault_early known (Limit n) bytes more full h = first_early known (Limit n) bytes more full h
 fault_early known OutOfMemory bytes more full h = tt

@@ -15,7 +15,8 @@ use Rattle.pa_trace.specs.declared.field.LineFault.TheVariants.{Outside}
 use Rattle.pa_trace.specs.Reading.{◌>>=◌, or_outside, behind, hand_on, number_in, word_in, field_in, ended, one_in, two_in, three_in, field_and_word_in}
 
 -- the value of a step that did not fail
-pub bind_ok : {A B : Type 0} (r : Result A LineFault) (f : A → Result B LineFault) (y : B) → (r >>= f) ≡ Ok y → (x : A) × (r ≡ Ok x) × (f x ≡ Ok y)
+pub bind_ok : {A B : Type 0} (r : Result A LineFault) (f : A → Result B LineFault) (y : B) → (r >>= f) ≡ Ok y → (x : A) × (r ≡ Ok x) ×
+    (f x ≡ Ok y)
 bind_ok (Ok x) f y e = (x, refl, e)
 bind_ok (Err d) f y e = absurd cc
 
@@ -67,7 +68,8 @@ field_takes word bytes x e =
       stop = t.stop;
     }
 
-pub field_again : (word : List ℕ) (n : ℕ) (i rest : List ℕ) → IsNumeral n i → IsStop rest → field_at word (word ++ (i ++ rest)) ≡ Ok (n, rest)
+pub field_again : (word : List ℕ) (n : ℕ) (i rest : List ℕ) → IsNumeral n i → IsStop rest →
+    field_at word (word ++ (i ++ rest)) ≡ Ok (n, rest)
 unfolding field_at
 field_again word n i rest h stop = rw (behind_again word (i ++ rest), number_again n i rest h stop) refl
 
@@ -108,19 +110,24 @@ unfolding one_at
 one_takes bytes w n e =
     let a = bind_ok (field_at w bytes) (λ a. ended a.1 >>= λ end. Ok a.0) n e in
     let z = bind_ok (ended a.0.1) (λ end. Ok a.0.0) n a.2 in
-    let t = field_takes w bytes a.0 a.1 in
-    (t.numeral, subst (λ (k : ℕ). IsNumeral k t.numeral) (ok_is a.0.0 n z.2) t.spelled, join_one bytes w t.numeral a.0.1 t.parts (ended_ok a.0.1 z.0 z.1))
+    let t = field_takes w bytes a.0 a.1 in (
+      t.numeral,
+      subst (λ (k : ℕ). IsNumeral k t.numeral) (ok_is a.0.0 n z.2) t.spelled,
+      join_one bytes w t.numeral a.0.1 t.parts (ended_ok a.0.1 z.0 z.1),
+    )
 
 pub one_again : (w : List ℕ) (n : ℕ) (i : List ℕ) → IsNumeral n i → one_at (w ++ i) w ≡ Ok n
 unfolding one_at
 one_again w n i h =
-    let at_end : field_at w (w ++ i) ≡ Ok (n, []) = ap (λ (x : List ℕ). field_at w (w ++ x)) (sym (append-nil i)) ∙ field_again w n i [] h tt in
+    let at_end : field_at w (w ++ i) ≡ Ok (n, []) = ap (λ (x : List ℕ). field_at w (w ++ x)) (sym (append-nil i)) ∙
+    field_again w n i [] h tt in
     rw at_end refl
 
 join_two : (bytes v i r w j s : List ℕ) → bytes ≡ v ++ i ++ r → r ≡ w ++ j ++ s → s ≡ [] → bytes ≡ v ++ i ++ w ++ j
 join_two bytes v i r w j s e f none = e ∙ ap (λ (x : List ℕ). v ++ i ++ x) (join_one r w j s f none) ∙ simp append_assoc
 
-pub two_takes : (bytes v w : List ℕ) (x : ℕ × ℕ) → two_at bytes v w ≡ Ok x → (i j : List ℕ) × IsNumeral x.0 i × IsNumeral x.1 j × (bytes ≡ v ++ i ++ w ++ j)
+pub two_takes : (bytes v w : List ℕ) (x : ℕ × ℕ) → two_at bytes v w ≡ Ok x → (i j : List ℕ) × IsNumeral x.0 i × IsNumeral x.1 j ×
+    (bytes ≡ v ++ i ++ w ++ j)
 unfolding two_at
 two_takes bytes v w x e =
     let a = bind_ok (field_at v bytes) (λ a. field_at w a.1 >>= λ b. ended b.1 >>= λ end. Ok (a.0, b.0)) x e in
@@ -136,15 +143,20 @@ two_takes bytes v w x e =
       join_two bytes v t.numeral a.0.1 w u.numeral b.0.1 t.parts u.parts (ended_ok b.0.1 z.0 z.1),
     )
 
-pub two_again : (v w : List ℕ) (m n : ℕ) (i j : List ℕ) → ((x : List ℕ) → IsStop (w ++ x)) → IsNumeral m i → IsNumeral n j → two_at (v ++ i ++ w ++ j) v w ≡ Ok (m, n)
+pub two_again : (v w : List ℕ) (m n : ℕ) (i j : List ℕ) → ((x : List ℕ) → IsStop (w ++ x)) → IsNumeral m i → IsNumeral n j →
+    two_at (v ++ i ++ w ++ j) v w ≡ Ok (m, n)
 unfolding two_at
 two_again v w m n i j stop hi hj =
-    let first : field_at v (v ++ i ++ w ++ j) ≡ Ok (m, w ++ j) = ap (field_at v) (simp append_assoc) ∙ field_again v m i (w ++ j) hi (stop j) in
-    let second : field_at w (w ++ j) ≡ Ok (n, []) = ap (λ (x : List ℕ). field_at w (w ++ x)) (sym (append-nil j)) ∙ field_again w n j [] hj tt in
+    let first : field_at v (v ++ i ++ w ++ j) ≡ Ok (m, w ++ j) = ap (field_at v) (simp append_assoc) ∙
+    field_again v m i (w ++ j) hi (stop j) in
+    let second : field_at w (w ++ j) ≡ Ok (n, []) = ap (λ (x : List ℕ). field_at w (w ++ x)) (sym (append-nil j)) ∙
+    field_again w n j [] hj tt in
     rw (first, second) refl
 
-join_three : (bytes v i r w j s y k z : List ℕ) → bytes ≡ v ++ i ++ r → r ≡ w ++ j ++ s → s ≡ y ++ k ++ z → z ≡ [] → bytes ≡ v ++ i ++ w ++ j ++ y ++ k
-join_three bytes v i r w j s y k z e f g none = e ∙ ap (λ (x : List ℕ). v ++ i ++ x) (f ∙ ap (λ (x : List ℕ). w ++ j ++ x) (join_one s y k z g none)) ∙ simp append_assoc
+join_three : (bytes v i r w j s y k z : List ℕ) → bytes ≡ v ++ i ++ r → r ≡ w ++ j ++ s → s ≡ y ++ k ++ z → z ≡ [] → bytes ≡ v ++ i ++ w ++
+    j ++ y ++ k
+join_three bytes v i r w j s y k z e f g none = e ∙
+    ap (λ (x : List ℕ). v ++ i ++ x) (f ∙ ap (λ (x : List ℕ). w ++ j ++ x) (join_one s y k z g none)) ∙ simp append_assoc
 
 pub three_takes : (bytes v w y : List ℕ) (x : ℕ × ℕ × ℕ) → three_at bytes v w y ≡ Ok x
     → (i j k : List ℕ) × IsNumeral x.0 i × IsNumeral x.1 j × IsNumeral x.2 k × (bytes ≡ v ++ i ++ w ++ j ++ y ++ k)
@@ -167,13 +179,16 @@ three_takes bytes v w y x e =
       join_three bytes v t.numeral a.0.1 w u.numeral b.0.1 y s.numeral c.0.1 t.parts u.parts s.parts (ended_ok c.0.1 z.0 z.1),
     )
 
-pub three_again : (v w y : List ℕ) (m n p : ℕ) (i j k : List ℕ) → ((x : List ℕ) → IsStop (w ++ x)) → ((x : List ℕ) → IsStop (y ++ x)) → IsNumeral m i → IsNumeral n j → IsNumeral p k
+pub three_again : (v w y : List ℕ) (m n p : ℕ) (i j k : List ℕ) → ((x : List ℕ) → IsStop (w ++ x)) → ((x : List ℕ) → IsStop (y ++ x)) →
+    IsNumeral m i → IsNumeral n j → IsNumeral p k
     → three_at (v ++ i ++ w ++ j ++ y ++ k) v w y ≡ Ok (m, n, p)
 unfolding three_at
 three_again v w y m n p i j k stop_w stop_y hi hj hk =
-    let first : field_at v (v ++ i ++ w ++ j ++ y ++ k) ≡ Ok (m, w ++ (j ++ (y ++ k))) = ap (field_at v) (simp append_assoc) ∙ field_again v m i (w ++ (j ++ (y ++ k))) hi (stop_w (j ++ (y ++ k))) in
+    let first : field_at v (v ++ i ++ w ++ j ++ y ++ k) ≡ Ok (m, w ++ (j ++ (y ++ k))) = ap (field_at v) (simp append_assoc) ∙
+    field_again v m i (w ++ (j ++ (y ++ k))) hi (stop_w (j ++ (y ++ k))) in
     let second : field_at w (w ++ (j ++ (y ++ k))) ≡ Ok (n, y ++ k) = field_again w n j (y ++ k) hj (stop_y k) in
-    let third : field_at y (y ++ k) ≡ Ok (p, []) = ap (λ (x : List ℕ). field_at y (y ++ x)) (sym (append-nil k)) ∙ field_again y p k [] hk tt in
+    let third : field_at y (y ++ k) ≡ Ok (p, []) = ap (λ (x : List ℕ). field_at y (y ++ x)) (sym (append-nil k)) ∙
+    field_again y p k [] hk tt in
     rw (first, second, third) refl
 
 -- ---- a word with a number, a space, and sixteen digits
@@ -196,41 +211,48 @@ field_and_word_at bytes first = do
 
 join_word : (bytes v i r t h z : List ℕ) → bytes ≡ v ++ i ++ r → r ≡ codes " " ++ t → t ≡ h ++ z → z ≡ [] → bytes ≡ v ++ i ++ codes " " ++ h
 join_word bytes v i r t h z e f g none =
-    e ∙ ap (λ (x : List ℕ). v ++ i ++ x) (f ∙ ap (λ (x : List ℕ). codes " " ++ x) (g ∙ ap (λ (x : List ℕ). h ++ x) none ∙ append-nil h)) ∙ sym (append_assoc (v ++ i) (codes " ") h)
+    e ∙ ap (λ (x : List ℕ). v ++ i ++ x) (f ∙ ap (λ (x : List ℕ). codes " " ++ x) (g ∙ ap (λ (x : List ℕ). h ++ x) none ∙ append-nil h)) ∙
+    sym (append_assoc (v ++ i) (codes " ") h)
 
 pub field_and_word_takes : (bytes v : List ℕ) (x : ℕ × ℕ) → field_and_word_at bytes v ≡ Ok x
     → (i : List ℕ) × IsNumeral x.0 i × (x.1 < 18446744073709551616) × (bytes ≡ v ++ i ++ codes " " ++ hex 16 x.1)
 unfolding field_and_word_at
 field_and_word_takes bytes v x e =
-    let a = bind_ok (field_at v bytes) (λ a. behind (codes " ") a.1 >>= λ rest. word_in rest >>= λ value. ended value.1 >>= λ end. Ok (a.0, value.0)) x e in
+    let a = bind_ok (field_at v bytes)
+    (λ a. behind (codes " ") a.1 >>= λ rest. word_in rest >>= λ value. ended value.1 >>= λ end. Ok (a.0, value.0)) x e in
     let b = bind_ok (behind (codes " ") a.0.1) (λ rest. word_in rest >>= λ value. ended value.1 >>= λ end. Ok (a.0.0, value.0)) x a.2 in
     let w = bind_ok (word_in b.0) (λ value. ended value.1 >>= λ end. Ok (a.0.0, value.0)) x b.2 in
     let z = bind_ok (ended w.0.1) (λ end. Ok (a.0.0, w.0.0)) x w.2 in
     let t = field_takes v bytes a.0 a.1 in
     let u = word_takes b.0 w.0 w.1 in
     let same = ok_is (a.0.0, w.0.0) x z.2 in
-    let parts = join_word bytes v t.numeral a.0.1 b.0 (hex 16 w.0.0) w.0.1 t.parts (behind_takes (codes " ") a.0.1 b.0 b.1) u.0 (ended_ok w.0.1 z.0 z.1) in (
+    let parts = join_word bytes v t.numeral a.0.1 b.0 (hex 16 w.0.0) w.0.1 t.parts (behind_takes (codes " ") a.0.1 b.0 b.1) u.0
+    (ended_ok w.0.1 z.0 z.1) in (
       t.numeral,
       subst (λ (k : ℕ × ℕ). IsNumeral k.0 t.numeral) same t.spelled,
       subst (λ (k : ℕ × ℕ). k.1 < 18446744073709551616) same u.1,
       subst (λ (k : ℕ × ℕ). bytes ≡ v ++ t.numeral ++ codes " " ++ hex 16 k.1) same parts,
     )
 
-pub field_and_word_again : (v : List ℕ) (n value : ℕ) (i : List ℕ) → IsNumeral n i → value < 18446744073709551616 → field_and_word_at (v ++ i ++ codes " " ++ hex 16 value) v ≡ Ok (n, value)
+pub field_and_word_again : (v : List ℕ) (n value : ℕ) (i : List ℕ) → IsNumeral n i → value < 18446744073709551616 →
+    field_and_word_at (v ++ i ++ codes " " ++ hex 16 value) v ≡ Ok (n, value)
 unfolding field_and_word_at
 field_and_word_again v n value i hi lt =
     let h : List ℕ = hex 16 value in
-    let first : field_at v (v ++ i ++ codes " " ++ h) ≡ Ok (n, codes " " ++ h) = ap (field_at v) (simp append_assoc) ∙ field_again v n i (codes " " ++ h) hi refl in
+    let first : field_at v (v ++ i ++ codes " " ++ h) ≡ Ok (n, codes " " ++ h) = ap (field_at v) (simp append_assoc) ∙
+    field_again v n i (codes " " ++ h) hi refl in
     let second : word_in h ≡ Ok (value, []) = ap word_in (sym (append-nil h)) ∙ word_again value [] lt in
     rw (first, behind_again (codes " ") h, second) refl
 
 -- ---- what is handed on of the numbers
 
-pub number_some : (bytes : List ℕ) (value : Option ℕ) (rest : List ℕ) → ((n : ℕ) × BeginsWith bytes n rest × (value ≡ fit n)) → number_in bytes ≡ Ok (value, rest)
+pub number_some : (bytes : List ℕ) (value : Option ℕ) (rest : List ℕ) → ((n : ℕ) × BeginsWith bytes n rest × (value ≡ fit n)) →
+    number_in bytes ≡ Ok (value, rest)
 unfolding number_in
 number_some bytes value rest h = ap hand_on (begins_read bytes h.0 rest h.1) ∙ ap (λ (v : Option ℕ). Ok (v, rest)) (sym h.2)
 
-none_in : (bytes : List ℕ) (o : Option (ℕ × List ℕ)) → number_at bytes ≡ o → ((n : ℕ) (rest : List ℕ) → BeginsWith bytes n rest → ⊥) → hand_on o ≡ Err Outside
+none_in : (bytes : List ℕ) (o : Option (ℕ × List ℕ)) → number_at bytes ≡ o → ((n : ℕ) (rest : List ℕ) → BeginsWith bytes n rest → ⊥) →
+    hand_on o ≡ Err Outside
 none_in bytes None same none = refl
 none_in bytes (Some x) same none = absurd (none x.0 x.1 (number_takes bytes x.0 x.1 same))
 
@@ -272,7 +294,8 @@ end_one : (n : ℕ) (r : Result (Unit {0}) LineFault) → (r >>= λ end. Ok (fit
 end_one n (Ok u) = refl
 end_one n (Err e) = refl
 
-go_one : (r : Result (ℕ × List ℕ) LineFault) → ((r >>= handed) >>= λ a. ended a.1 >>= λ end. Ok a.0) ≡ ((r >>= λ a. ended a.1 >>= λ end. Ok a.0) >>= one_handed)
+go_one : (r : Result (ℕ × List ℕ) LineFault) →
+    ((r >>= handed) >>= λ a. ended a.1 >>= λ end. Ok a.0) ≡ ((r >>= λ a. ended a.1 >>= λ end. Ok a.0) >>= one_handed)
 go_one (Ok a) = end_one a.0 (ended a.1)
 go_one (Err e) = refl
 
@@ -284,7 +307,8 @@ end_two : (m n : ℕ) (r : Result (Unit {0}) LineFault) → (r >>= λ end. Ok (f
 end_two m n (Ok u) = refl
 end_two m n (Err e) = refl
 
-go_two : (m : ℕ) (r : Result (ℕ × List ℕ) LineFault) → ((r >>= handed) >>= λ b. ended b.1 >>= λ end. Ok (fit m, b.0)) ≡ ((r >>= λ b. ended b.1 >>= λ end. Ok (m, b.0)) >>= two_handed)
+go_two : (m : ℕ) (r : Result (ℕ × List ℕ) LineFault) →
+    ((r >>= handed) >>= λ b. ended b.1 >>= λ end. Ok (fit m, b.0)) ≡ ((r >>= λ b. ended b.1 >>= λ end. Ok (m, b.0)) >>= two_handed)
 go_two m (Ok b) = end_two m b.0 (ended b.1)
 go_two m (Err e) = refl
 
@@ -296,13 +320,20 @@ two_cases w (Err e) = refl
 
 pub two_is : (bytes v w : List ℕ) → two_in bytes v w ≡ (two_at bytes v w >>= two_handed)
 unfolding two_in two_at
-two_is bytes v w = ap (λ (r : Result (Option ℕ × List ℕ) LineFault). r >>= λ a. field_in w a.1 >>= λ b. ended b.1 >>= λ end. Ok (a.0, b.0)) (field_handed v bytes) ∙ two_cases w (field_at v bytes)
+two_is bytes v w = ap (λ (r : Result (Option ℕ × List ℕ) LineFault). r >>= λ a. field_in w a.1 >>= λ b. ended b.1 >>= λ end. Ok (a.0, b.0))
+    (field_handed v bytes) ∙ two_cases w (field_at v bytes)
 
-end_three : (m n k : ℕ) (r : Result (Unit {0}) LineFault) → (r >>= λ end. Ok (fit m, fit n, fit k)) ≡ ((r >>= λ end. Ok (m, n, k)) >>= three_handed)
+end_three : (m n k : ℕ) (r : Result (Unit {0}) LineFault) →
+    (r >>= λ end. Ok (fit m, fit n, fit k)) ≡ ((r >>= λ end. Ok (m, n, k)) >>= three_handed)
 end_three m n k (Ok u) = refl
 end_three m n k (Err e) = refl
 
-go_three : (m n : ℕ) (r : Result (ℕ × List ℕ) LineFault) → ((r >>= handed) >>= λ c. ended c.1 >>= λ end. Ok (fit m, fit n, c.0)) ≡ ((r >>= λ c. ended c.1 >>= λ end. Ok (m, n, c.0)) >>= three_handed)
+go_three : (m n : ℕ) (r : Result (ℕ × List ℕ) LineFault) →
+    ((r >>= handed) >>= λ c. ended c.1 >>= λ end. Ok (
+      fit m,
+      fit n,
+      c.0,
+    )) ≡ ((r >>= λ c. ended c.1 >>= λ end. Ok (m, n, c.0)) >>= three_handed)
 go_three m n (Ok c) = end_three m n c.0 (ended c.1)
 go_three m n (Err e) = refl
 
@@ -331,7 +362,11 @@ end_word : (m n : ℕ) (r : Result (Unit {0}) LineFault) → (r >>= λ end. Ok (
 end_word m n (Ok u) = refl
 end_word m n (Err e) = refl
 
-word_last : (m : ℕ) (r : Result (ℕ × List ℕ) LineFault) → (r >>= λ value. ended value.1 >>= λ end. Ok (fit m, value.0)) ≡ ((r >>= λ value. ended value.1 >>= λ end. Ok (m, value.0)) >>= word_handed)
+word_last : (m : ℕ) (r : Result (ℕ × List ℕ) LineFault) →
+    (r >>= λ value. ended value.1 >>= λ end. Ok (
+      fit m,
+      value.0,
+    )) ≡ ((r >>= λ value. ended value.1 >>= λ end. Ok (m, value.0)) >>= word_handed)
 word_last m (Ok x) = end_word m x.0 (ended x.1)
 word_last m (Err e) = refl
 
@@ -340,7 +375,8 @@ word_rest : (m : ℕ) (r : Result (List ℕ) LineFault) → (r >>= λ rest. word
 word_rest m (Ok rest) = word_last m (word_in rest)
 word_rest m (Err e) = refl
 
-word_cases : (r : Result (ℕ × List ℕ) LineFault) → ((r >>= handed) >>= λ a. behind (codes " ") a.1 >>= λ rest. word_in rest >>= λ value. ended value.1 >>= λ end. Ok (a.0, value.0))
+word_cases : (r : Result (ℕ × List ℕ) LineFault) →
+    ((r >>= handed) >>= λ a. behind (codes " ") a.1 >>= λ rest. word_in rest >>= λ value. ended value.1 >>= λ end. Ok (a.0, value.0))
     ≡ ((r >>= λ a. behind (codes " ") a.1 >>= λ rest. word_in rest >>= λ value. ended value.1 >>= λ end. Ok (a.0, value.0)) >>= word_handed)
 word_cases (Ok a) = word_rest a.0 (behind (codes " ") a.1)
 word_cases (Err e) = refl
@@ -351,7 +387,8 @@ field_and_word_is bytes v = ap (λ (r : Result (Option ℕ × List ℕ) LineFaul
     >>= λ value. ended value.1 >>= λ end. Ok (a.0, value.0)) (field_handed v bytes) ∙ word_cases (field_at v bytes)
 
 -- what the reader of sixteen digits returns is what is read
-pub word_some : (bytes : List ℕ) (value : ℕ) (rest : List ℕ) → value < 18446744073709551616 → bytes ≡ hex 16 value ++ rest → word_in bytes ≡ Ok (value, rest)
+pub word_some : (bytes : List ℕ) (value : ℕ) (rest : List ℕ) → value < 18446744073709551616 → bytes ≡ hex 16 value ++ rest →
+    word_in bytes ≡ Ok (value, rest)
 word_some bytes value rest lt parts = ap word_in parts ∙ word_again value rest lt
 
 word_none_in : (bytes : List ℕ) (r : Result (ℕ × List ℕ) LineFault) → word_in bytes ≡ r → ((e : LineFault) → r ≡ Err e → e ≡ Outside)
@@ -363,6 +400,7 @@ outside_is : {A : Type 0} (o : Option A) (e : LineFault) → or_outside o ≡ Er
 outside_is None e same = cc
 outside_is (Some x) e same = absurd cc
 
-pub word_none : (bytes : List ℕ) → ((n : ℕ) (rest : List ℕ) → n < 18446744073709551616 → bytes ≡ hex 16 n ++ rest → ⊥) → word_in bytes ≡ Err Outside
+pub word_none : (bytes : List ℕ) → ((n : ℕ) (rest : List ℕ) → n < 18446744073709551616 → bytes ≡ hex 16 n ++ rest → ⊥) →
+    word_in bytes ≡ Err Outside
 unfolding word_in
 word_none bytes none = word_none_in bytes (word_in bytes) refl (λ e same. outside_is (hexes_at 16 bytes) e same) none

@@ -39,7 +39,8 @@ module _ (partitions threads : ℕ) (few : partitions ≤ 4294967296) (few_threa
   -- all lines are read, or one is the first faulty one
   abbrev Found : ℕ → ℕ → List ℕ → Type 0
   Found n before bytes =
-      ((ls : List Line) × AreLinesText ls bytes × AllByRecursion (IsLineWithin partitions threads) ls × (n + length ls ≤ 65537) × (before + length bytes ≤ 4194304))
+      ((ls : List Line) × AreLinesText ls bytes × AllByRecursion (IsLineWithin partitions threads) ls × (n + length ls ≤ 65537) ×
+      (before + length bytes ≤ 4194304))
       ⊎ ((e : TraceFault) × IsFirstBehind partitions threads n before (lines_of bytes) e)
 
   found_end : (n before : ℕ) (bytes : List ℕ) → IsOneLine bytes → n ≤ 65537 → before ≤ 4194304 → Found n before bytes
@@ -53,7 +54,8 @@ module _ (partitions threads : ℕ) (few : partitions ≤ 4294967296) (few_threa
         ]
       ]
 
-  found_later : (n before : ℕ) (bytes line after : List ℕ) (l : Line) → IsOneLine line → bytes ≡ line ++ 10 ∷ after → n ≤ 65536 → before + (length line + 1) ≤ 4194304
+  found_later : (n before : ℕ) (bytes line after : List ℕ) (l : Line) → IsOneLine line → bytes ≡ line ++ 10 ∷ after → n ≤ 65536 →
+      before + (length line + 1) ≤ 4194304
       → line_in partitions threads line ≡ Ok l → Found (n + 1) (before + (length line + 1)) after → Found n before bytes
   found_later n before bytes line after l one parts fits short read (inl rest) =
       let taken : length bytes ≡ length line + (length after + 1) = ap length parts ∙ simp length-append (omega arith) in
@@ -61,13 +63,23 @@ module _ (partitions threads : ℕ) (few : partitions ≤ 4294967296) (few_threa
       inl (l ∷ rest.0, (line, after, t.0, rest.1, parts), (t.1, rest.2), omega (arith, rest.3), omega (arith, taken, rest.4))
   found_later n before bytes line after l one parts fits short read (inr rest) =
       let t = line_read partitions threads few few_threads line l read in
-      inr (rest.0, first_later partitions threads n before (n + 1) (before + (length line + 1)) bytes line after l rest.0 one parts fits short t.0 t.1 refl refl rest.1)
+      inr (
+        rest.0,
+        first_later partitions threads n before (n + 1)
+            (before + (length line + 1)) bytes line after l rest.0 one parts fits short t.0 t.1 refl refl rest.1,
+      )
 
-  found_line : (n before : ℕ) (bytes line after : List ℕ) (r : Result Line LineFault) → IsOneLine line → bytes ≡ line ++ 10 ∷ after → n ≤ 65536 → before + (length line + 1) ≤ 4194304
+  found_line : (n before : ℕ) (bytes line after : List ℕ) (r : Result Line LineFault) → IsOneLine line → bytes ≡ line ++ 10 ∷ after →
+      n ≤ 65536 → before + (length line + 1) ≤ 4194304
       → line_in partitions threads line ≡ r → Found (n + 1) (before + (length line + 1)) after → Found n before bytes
-  found_line n before bytes line after (Ok l) one parts fits short read rest = found_later n before bytes line after l one parts fits short read rest
+  found_line n before bytes line after (Ok l) one parts fits short read rest =
+      found_later n before bytes line after l one parts fits short read rest
   found_line n before bytes line after (Err d) one parts fits short read rest =
-      inr (told n d, first_unread partitions threads n before bytes line after d one parts fits short (line_not_read partitions threads few few_threads line d read))
+      inr (
+        told n d,
+        first_unread partitions threads n before bytes line after d one parts fits short
+            (line_not_read partitions threads few few_threads line d read),
+      )
 
   found_cut : (n before : ℕ) (bytes line after : List ℕ) → IsOneLine line → bytes ≡ line ++ 10 ∷ after
       → (n ≤ 65536 → before + (length line + 1) ≤ 4194304 → Found (n + 1) (before + (length line + 1)) after) → Found n before bytes
@@ -90,7 +102,8 @@ module _ (partitions threads : ℕ) (few : partitions ≤ 4294967296) (few_threa
       elim (cut_at bytes) [
         | inl one ↦ found_end n before bytes one fits room
         | inr cut ↦ found_cut n before bytes cut.0 cut.1 cut.2 cut.3 (λ few short.
-            found_behind most (n + 1) (before + (length cut.0 + 1)) cut.1 (omega (arith, ap length cut.3, length-append cut.0 (10 ∷ cut.1))) (omega arith) short)
+            found_behind most (n + 1) (before + (length cut.0 + 1)) cut.1 (omega (arith, ap length cut.3, length-append cut.0 (10 ∷ cut.1)))
+            (omega arith) short)
       ]
 
 -- ---- all lines
@@ -105,13 +118,15 @@ module _ (known : ℕ) (recent : known ≤ 2) where
   small : known < 4294967296
   small = omega arith
 
-  fault_behind : (bytes line after : List ℕ) (h : Head) → IsOneLine line → bytes ≡ line ++ 10 ∷ after → length line + 1 ≤ 4194304 → head_in known line ≡ Ok h
+  fault_behind : (bytes line after : List ℕ) (h : Head) → IsOneLine line → bytes ≡ line ++ 10 ∷ after → length line + 1 ≤ 4194304 →
+      head_in known line ≡ Ok h
       → NoInput bytes → HasFault known bytes
   fault_behind bytes line after h one parts short read none =
       let t = head_read known small line h read in
       let to = t.2 in
       let taken : length bytes ≡ length line + (length after + 1) = ap length parts ∙ simp length-append (omega arith) in
-      elim (found_behind h.partitions h.threads (omega (arith, t.1.1.1)) (omega (arith, t.1.2.1)) (length after) 2 (length line + 1) after (omega arith) (omega arith) short) [
+      elim (found_behind h.partitions h.threads (omega (arith, t.1.1.1)) (omega (arith, t.1.2.1)) (length after) 2 (length line + 1) after
+      (omega arith) (omega arith) short) [
         | inl all ↦ absurd (none (trace_with h all.0) to.1 (record {
           limits = record { version = (to.0, omega (arith, to.1)); head = t.1; lines = all.2; few = omega (arith, all.3) };
           text = (line, after, t.0, all.1, parts, (to.0, omega (arith, to.1)));
@@ -120,7 +135,8 @@ module _ (known : ℕ) (recent : known ≤ 2) where
         | inr first ↦ (first.0, head_later known h (length line + 1) bytes line after first.0 one parts short t.0 t.1 to refl first.1)
       ]
 
-  fault_of_head : (bytes line after : List ℕ) (r : Result Head LineFault) → IsOneLine line → bytes ≡ line ++ 10 ∷ after → length line + 1 ≤ 4194304 → head_in known line ≡ r
+  fault_of_head : (bytes line after : List ℕ) (r : Result Head LineFault) → IsOneLine line → bytes ≡ line ++ 10 ∷ after →
+      length line + 1 ≤ 4194304 → head_in known line ≡ r
       → NoInput bytes → HasFault known bytes
   fault_of_head bytes line after (Ok h) one parts short read none = fault_behind bytes line after h one parts short read none
   fault_of_head bytes line after (Err d) one parts short read none =
@@ -129,7 +145,8 @@ module _ (known : ℕ) (recent : known ≤ 2) where
   pub some_fault : (bytes : List ℕ) → NoInput bytes → HasFault known bytes
   some_fault bytes none =
       elim (cut_at bytes) [
-        | inl one ↦ elim (cases_lt 4194304 (length bytes)) [ inl long ↦ (Limit 1, end_limit known bytes one long) | inr short ↦ (BadLine 1, end_badly known bytes one short) ]
+        | inl one ↦ elim (cases_lt 4194304 (length bytes))
+            [ inl long ↦ (Limit 1, end_limit known bytes one long) | inr short ↦ (BadLine 1, end_badly known bytes one short) ]
         | inr cut ↦ elim (cases_lt 4194304 (length cut.0 + 1)) [
           | inl long ↦ (Limit 1, head_past known bytes cut.0 cut.1 cut.2 cut.3 (inr long))
           | inr short ↦ fault_of_head bytes cut.0 cut.1 (head_in known cut.0) cut.2 cut.3 short refl none

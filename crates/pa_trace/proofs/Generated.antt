@@ -22,7 +22,8 @@ lines_length words (suc n) =
     let r = round_length words (suc n) in
     omega arith
 
-pub generated_length : (words : List ℕ) (rounds : ℕ) (t : Trace) → 1 ≤ rounds → IsGeneratedOf words rounds t → length t.lines + 1 ≡ 81 * rounds
+pub generated_length : (words : List ℕ) (rounds : ℕ) (t : Trace) → 1 ≤ rounds → IsGeneratedOf words rounds t →
+    length t.lines + 1 ≡ 81 * rounds
 generated_length words zero t some h = absurd (omega arith)
 generated_length words (suc n) t some h = ap (λ (x : List Line). length x + 1) h.lines ∙ lines_length words n
 
@@ -73,7 +74,8 @@ pointers_within round thread lt =
 thread_within : (words : List ℕ) (round thread : ℕ) → thread < 4 → AreWithin (thread_lines words round thread)
 thread_within words round thread lt =
     within_append (parts (drawn_object words round thread) 4) (pointer_lines round thread)
-    (parts_within (drawn_object words round thread) 4 (λ object small. object_within words round thread object lt small)) (pointers_within round thread lt)
+    (parts_within (drawn_object words round thread) 4 (λ object small. object_within words round thread object lt small))
+    (pointers_within round thread lt)
 
 phase_within : (round : ℕ) → AreWithin (phase_before round)
 phase_within zero = tt
@@ -85,10 +87,12 @@ lines_within words rounds =
     within_append (phase_before round) (round_lines words round) (phase_within round)
     (parts_within (thread_lines words round) 4 (thread_within words round)))
 
-pub generated_within : (words : List ℕ) (rounds : ℕ) (t : Trace) → 1 ≤ rounds → rounds ≤ 800 → IsGeneratedOf words rounds t → IsWithinLimits t
+pub generated_within : (words : List ℕ) (rounds : ℕ) (t : Trace) → 1 ≤ rounds → rounds ≤ 800 → IsGeneratedOf words rounds t →
+    IsWithinLimits t
 generated_within words rounds t some few h = record {
   version = rw (h.version) (omega arith, omega arith);
-  head = rw (h.version, h.region, h.partitions, h.threads) ((omega arith, omega arith), (omega arith, omega arith), (omega arith, omega arith));
+  head = rw (h.version, h.region, h.partitions, h.threads)
+      ((omega arith, omega arith), (omega arith, omega arith), (omega arith, omega arith));
   lines = rw (h.partitions, h.threads, h.lines) (lines_within words rounds);
   few = (let l = generated_length words rounds t some h in omega arith);
 }
@@ -133,7 +137,8 @@ turns_append p q m n s (Do thread op ∷ a) b e f ha hb =
 parts_turns : (p : ℕ) (part : ℕ → List Line) (n : ℕ) → ((k : ℕ) → k < n → Turns p 0 (part k)) → Turns p 0 (parts part n)
 parts_turns p part zero h = record { all = tt; many = refl }
 parts_turns p part (suc n) h =
-    turns_append p p 0 0 0 (parts part n) (part n) (omega arith) (omega arith) (parts_turns p part n (λ k lt. h k (omega arith))) (h n (omega arith))
+    turns_append p p 0 0 0 (parts part n) (part n) (omega arith) (omega arith) (parts_turns p part n (λ k lt. h k (omega arith)))
+    (h n (omega arith))
 
 thread_turns : (words : List ℕ) (round thread : ℕ) → thread < 4 → Turns round 0 (thread_lines words round thread)
 thread_turns words round thread lt = record {
@@ -149,7 +154,8 @@ lines_turns words zero = round_turns words 0
 lines_turns words (suc n) =
     let round = round_turns words (suc n) in
     let begun : Turns n 1 (Phase ∷ round_lines words (suc n)) = record { all = round.all; many = ap suc round.many } in
-    turns_append 0 n n 1 (suc n) (generated_lines words (suc n)) (Phase ∷ round_lines words (suc n)) (omega arith) (omega arith) (lines_turns words n) begun
+    turns_append 0 n n 1 (suc n) (generated_lines words (suc n)) (Phase ∷ round_lines words (suc n)) (omega arith) (omega arith)
+    (lines_turns words n) begun
 
 swap_in_turn : (p : ℕ) (ls : List Line) (k thread cell reg : ℕ) → AllInTurn p ls → slice_get ls k ≡ Some (Do thread (Swap cell reg))
     → (cell ≡ (thread + (p + phases_over ls k)) % 4) × (thread < 4)

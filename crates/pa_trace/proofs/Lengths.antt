@@ -30,10 +30,12 @@ hex_length (suc k) n = simp length-append (omega (arith, hex_length k (n / 16)))
 two_length : (v i w j : List ℕ) → length (v ++ i ++ w ++ j) ≡ length v + length i + length w + length j
 two_length v i w j = simp length-append
 
-three_length : (v i w j y k : List ℕ) → length (v ++ i ++ w ++ j ++ y ++ k) ≡ length v + length i + length w + length j + length y + length k
+three_length : (v i w j y k : List ℕ) →
+    length (v ++ i ++ w ++ j ++ y ++ k) ≡ length v + length i + length w + length j + length y + length k
 three_length v i w j y k = simp length-append
 
-four_length : (u h v i w j y k : List ℕ) → length (u ++ h ++ v ++ i ++ w ++ j ++ y ++ k) ≡ length u + length h + length v + length i + length w + length j + length y + length k
+four_length : (u h v i w j y k : List ℕ) →
+    length (u ++ h ++ v ++ i ++ w ++ j ++ y ++ k) ≡ length u + length h + length v + length i + length w + length j + length y + length k
 four_length u h v i w j y k = simp length-append
 
 op_length : (partitions : ℕ) (op : Op) (text : List ℕ) → partitions ≤ 4 → IsOpWithin partitions op → IsOpText op text → length text ≤ 40
@@ -47,27 +49,66 @@ op_length partitions (Alloc reg partition size) text few h t =
       numeral_length size t.2 t.5 (omega (arith, h.2)),
     )
 op_length partitions (Copy from to) text few h t =
-    omega (arith, ap length t.4, two_length (codes "C r") t.0 (codes " r") t.1, numeral_length from t.0 t.2 (omega (arith, h.0)), numeral_length to t.1 t.3 (omega (arith, h.1)))
-op_length partitions (Reset reg) text few h t = omega (arith, ap length t.2, length-append (codes "R r") t.0, numeral_length reg t.0 t.1 (omega (arith, h)))
-op_length partitions (Free reg) text few h t = omega (arith, ap length t.2, length-append (codes "F r") t.0, numeral_length reg t.0 t.1 (omega (arith, h)))
+    omega (
+      arith,
+      ap length t.4,
+      two_length (codes "C r") t.0 (codes " r") t.1,
+      numeral_length from t.0 t.2 (omega (arith, h.0)),
+      numeral_length to t.1 t.3 (omega (arith, h.1)),
+    )
+op_length partitions (Reset reg) text few h t =
+    omega (arith, ap length t.2, length-append (codes "R r") t.0, numeral_length reg t.0 t.1 (omega (arith, h)))
+op_length partitions (Free reg) text few h t =
+    omega (arith, ap length t.2, length-append (codes "F r") t.0, numeral_length reg t.0 t.1 (omega (arith, h)))
 op_length partitions (Write reg value) text few h t =
-    omega (arith, ap length t.3, two_length (codes "W r") t.0 (codes " ") (hex 16 value), hex_length 16 value, numeral_length reg t.0 t.1 (omega (arith, h)))
+    omega (
+      arith,
+      ap length t.3,
+      two_length (codes "W r") t.0 (codes " ") (hex 16 value),
+      hex_length 16 value,
+      numeral_length reg t.0 t.1 (omega (arith, h)),
+    )
 op_length partitions (Read reg place) text few h t =
-    omega (arith, ap length t.4, two_length (codes "D r") t.0 (codes " ") t.1, numeral_length reg t.0 t.2 (omega (arith, h.0)), numeral_length place t.1 t.3 (omega (arith, h.1)))
+    omega (
+      arith,
+      ap length t.4,
+      two_length (codes "D r") t.0 (codes " ") t.1,
+      numeral_length reg t.0 t.2 (omega (arith, h.0)),
+      numeral_length place t.1 t.3 (omega (arith, h.1)),
+    )
 op_length partitions (Swap cell reg) text few h t =
-    omega (arith, ap length t.4, two_length (codes "X c") t.0 (codes " r") t.1, numeral_length cell t.0 t.2 (omega (arith, h.0)), numeral_length reg t.1 t.3 (omega (arith, h.1)))
+    omega (
+      arith,
+      ap length t.4,
+      two_length (codes "X c") t.0 (codes " r") t.1,
+      numeral_length cell t.0 t.2 (omega (arith, h.0)),
+      numeral_length reg t.1 t.3 (omega (arith, h.1)),
+    )
 op_length partitions Purge text few h t = omega (arith, ap length t)
 
-line_length : (partitions threads : ℕ) (l : Line) (text : List ℕ) → partitions ≤ 4 → threads ≤ 16 → IsLineWithin partitions threads l → IsLineText l text → length text ≤ 60
+line_length : (partitions threads : ℕ) (l : Line) (text : List ℕ) → partitions ≤ 4 → threads ≤ 16 → IsLineWithin partitions threads l →
+    IsLineText l text → length text ≤ 60
 line_length partitions threads Phase text few few_threads h t = omega (arith, ap length t)
 line_length partitions threads (Do thread op) text few few_threads h t =
-    omega (arith, ap length t.4, two_length [] t.0 (codes " ") t.1, numeral_length thread t.0 t.2 (omega (arith, h.0)), op_length partitions op t.1 few h.1 t.3)
+    omega (
+      arith,
+      ap length t.4,
+      two_length [] t.0 (codes " ") t.1,
+      numeral_length thread t.0 t.2 (omega (arith, h.0)),
+      op_length partitions op t.1 few h.1 t.3,
+    )
 
 lines_length : (partitions threads : ℕ) (ls : List Line) (text : List ℕ) → partitions ≤ 4 → threads ≤ 16
     → AllByRecursion (IsLineWithin partitions threads) ls → AreLinesText ls text → length text ≤ 61 * length ls
 lines_length partitions threads [] text few few_threads h t = omega (arith, ap length t)
 lines_length partitions threads (l ∷ ls) text few few_threads h t =
-    omega (arith, ap length t.4, length-append t.0 (10 ∷ t.1), line_length partitions threads l t.0 few few_threads h.0 t.2, lines_length partitions threads ls t.1 few few_threads h.1 t.3)
+    omega (
+      arith,
+      ap length t.4,
+      length-append t.0 (10 ∷ t.1),
+      line_length partitions threads l t.0 few few_threads h.0 t.2,
+      lines_length partitions threads ls t.1 few few_threads h.1 t.3,
+    )
 
 head_length : (h : Head) (text : List ℕ) → IsVersionTo last_version h.version → IsHeadWithin h → IsHeadText h text → length text ≤ 99
 head_length h text to within t =

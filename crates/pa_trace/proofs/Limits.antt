@@ -73,7 +73,8 @@ one_tested : (make : ℕ → Op) (a : Bool) (n : ℕ) → (tested a n >>= λ reg
 one_tested make true n = refl
 one_tested make false n = refl
 
-two_tested : (make : ℕ → ℕ → Op) (a b : Bool) (m n : ℕ) → (tested a m >>= λ x. tested b n >>= λ y. Ok (make x y)) ≡ cond (a && b) (Ok (make m n)) (Err Past)
+two_tested : (make : ℕ → ℕ → Op) (a b : Bool) (m n : ℕ) →
+    (tested a m >>= λ x. tested b n >>= λ y. Ok (make x y)) ≡ cond (a && b) (Ok (make m n)) (Err Past)
 two_tested make true true m n = refl
 two_tested make true false m n = refl
 two_tested make false b m n = refl
@@ -82,7 +83,8 @@ module _ (partitions : ℕ) (few : partitions ≤ 4294967296) where
   alloc_cases : (r : Result (ℕ × ℕ × ℕ) LineFault) → ((r >>= three_handed) >>= λ numbers. below numbers.0 64 >>= λ reg. below numbers.1
       partitions >>= λ partition. within numbers.2 >>= λ size. Ok (Alloc reg partition size))
       ≡ ((r >>= λ x. Ok (Alloc x.0 x.1 x.2)) >>= checked partitions)
-  alloc_cases (Ok x) = rw (below_fit x.0 64 (omega arith), below_fit x.1 partitions few, within_fit x.2) (alloc_tested (ltb x.0 64) (ltb x.1 partitions) (ltb x.2 4294967296) x.0 x.1 x.2)
+  alloc_cases (Ok x) = rw (below_fit x.0 64 (omega arith), below_fit x.1 partitions few, within_fit x.2)
+      (alloc_tested (ltb x.0 64) (ltb x.1 partitions) (ltb x.2 4294967296) x.0 x.1 x.2)
   alloc_cases (Err e) = refl
 
   alloc_is : (bytes : List ℕ) → alloc_in partitions bytes ≡ (alloc_at bytes >>= checked partitions)
@@ -91,14 +93,16 @@ module _ (partitions : ℕ) (few : partitions ≤ 4294967296) where
 
   copy_cases : (r : Result (ℕ × ℕ) LineFault) → ((r >>= two_handed) >>= λ numbers. below numbers.0 64 >>= λ from. below numbers.1 64 >>= λ
       to. Ok (Copy from to)) ≡ ((r >>= λ x. Ok (Copy x.0 x.1)) >>= checked partitions)
-  copy_cases (Ok x) = rw (below_fit x.0 64 (omega arith), below_fit x.1 64 (omega arith)) (two_tested (λ m n. Copy m n) (ltb x.0 64) (ltb x.1 64) x.0 x.1)
+  copy_cases (Ok x) = rw (below_fit x.0 64 (omega arith), below_fit x.1 64 (omega arith))
+      (two_tested (λ m n. Copy m n) (ltb x.0 64) (ltb x.1 64) x.0 x.1)
   copy_cases (Err e) = refl
 
   copy_is : (bytes : List ℕ) → copy_in bytes ≡ (copy_at bytes >>= checked partitions)
   unfolding copy_in copy_at
   copy_is bytes = rw two_is (copy_cases (two_at bytes (codes " r") (codes " r")))
 
-  reset_cases : (r : Result ℕ LineFault) → ((r >>= one_handed) >>= λ number. below number 64 >>= λ reg. Ok (Reset reg)) ≡ ((r >>= λ n. Ok (Reset n)) >>= checked partitions)
+  reset_cases : (r : Result ℕ LineFault) →
+      ((r >>= one_handed) >>= λ number. below number 64 >>= λ reg. Ok (Reset reg)) ≡ ((r >>= λ n. Ok (Reset n)) >>= checked partitions)
   reset_cases (Ok n) = rw (below_fit n 64 (omega arith)) (one_tested (λ reg. Reset reg) (ltb n 64) n)
   reset_cases (Err e) = refl
 
@@ -106,7 +110,8 @@ module _ (partitions : ℕ) (few : partitions ≤ 4294967296) where
   unfolding reset_in reset_at
   reset_is bytes = rw one_is (reset_cases (one_at bytes (codes " r")))
 
-  free_cases : (r : Result ℕ LineFault) → ((r >>= one_handed) >>= λ number. below number 64 >>= λ reg. Ok (Free reg)) ≡ ((r >>= λ n. Ok (Free n)) >>= checked partitions)
+  free_cases : (r : Result ℕ LineFault) →
+      ((r >>= one_handed) >>= λ number. below number 64 >>= λ reg. Ok (Free reg)) ≡ ((r >>= λ n. Ok (Free n)) >>= checked partitions)
   free_cases (Ok n) = rw (below_fit n 64 (omega arith)) (one_tested (λ reg. Free reg) (ltb n 64) n)
   free_cases (Err e) = refl
 
@@ -114,7 +119,8 @@ module _ (partitions : ℕ) (few : partitions ≤ 4294967296) where
   unfolding free_in free_at
   free_is bytes = rw one_is (free_cases (one_at bytes (codes " r")))
 
-  write_cases : (r : Result (ℕ × ℕ) LineFault) → ((r >>= word_handed) >>= λ x. below x.0 64 >>= λ reg. Ok (Write reg x.1)) ≡ ((r >>= λ x. Ok (Write x.0 x.1)) >>= checked partitions)
+  write_cases : (r : Result (ℕ × ℕ) LineFault) →
+      ((r >>= word_handed) >>= λ x. below x.0 64 >>= λ reg. Ok (Write reg x.1)) ≡ ((r >>= λ x. Ok (Write x.0 x.1)) >>= checked partitions)
   write_cases (Ok x) = rw (below_fit x.0 64 (omega arith)) (one_tested (λ reg. Write reg x.1) (ltb x.0 64) x.0)
   write_cases (Err e) = refl
 
@@ -124,7 +130,8 @@ module _ (partitions : ℕ) (few : partitions ≤ 4294967296) where
 
   read_cases : (r : Result (ℕ × ℕ) LineFault) → ((r >>= two_handed) >>= λ numbers. below numbers.0 64 >>= λ reg. within numbers.1 >>= λ
       place. Ok (Read reg place)) ≡ ((r >>= λ x. Ok (Read x.0 x.1)) >>= checked partitions)
-  read_cases (Ok x) = rw (below_fit x.0 64 (omega arith), within_fit x.1) (two_tested (λ m n. Read m n) (ltb x.0 64) (ltb x.1 4294967296) x.0 x.1)
+  read_cases (Ok x) = rw (below_fit x.0 64 (omega arith), within_fit x.1)
+      (two_tested (λ m n. Read m n) (ltb x.0 64) (ltb x.1 4294967296) x.0 x.1)
   read_cases (Err e) = refl
 
   read_is : (bytes : List ℕ) → read_in bytes ≡ (read_at bytes >>= checked partitions)
@@ -133,7 +140,8 @@ module _ (partitions : ℕ) (few : partitions ≤ 4294967296) where
 
   swap_cases : (r : Result (ℕ × ℕ) LineFault) → ((r >>= two_handed) >>= λ numbers. below numbers.0 64 >>= λ cell. below numbers.1 64 >>= λ
       reg. Ok (Swap cell reg)) ≡ ((r >>= λ x. Ok (Swap x.0 x.1)) >>= checked partitions)
-  swap_cases (Ok x) = rw (below_fit x.0 64 (omega arith), below_fit x.1 64 (omega arith)) (two_tested (λ m n. Swap m n) (ltb x.0 64) (ltb x.1 64) x.0 x.1)
+  swap_cases (Ok x) = rw (below_fit x.0 64 (omega arith), below_fit x.1 64 (omega arith))
+      (two_tested (λ m n. Swap m n) (ltb x.0 64) (ltb x.1 64) x.0 x.1)
   swap_cases (Err e) = refl
 
   swap_is : (bytes : List ℕ) → swap_in bytes ≡ (swap_at bytes >>= checked partitions)
@@ -149,7 +157,8 @@ module _ (partitions : ℕ) (few : partitions ≤ 4294967296) where
   purge_is bytes = purge_cases (ended bytes)
 
   -- a test of the letter, on both sides
-  letter_is : (b : Bool) (x y : Result Op LineFault) (u v : Result Op LineFault) → x ≡ (u >>= checked partitions) → y ≡ (v >>= checked partitions) → cond b x y ≡ (cond b u v >>= checked partitions)
+  letter_is : (b : Bool) (x y : Result Op LineFault) (u v : Result Op LineFault) → x ≡ (u >>= checked partitions) →
+      y ≡ (v >>= checked partitions) → cond b x y ≡ (cond b u v >>= checked partitions)
   letter_is true x y u v e f = e
   letter_is false x y u v e f = f
 
@@ -175,7 +184,8 @@ line_ok partitions threads (Do thread op) = op_ok partitions op && ltb thread th
 abbrev pub checked_line : ℕ → ℕ → Line → Result Line LineFault
 checked_line partitions threads line = cond (line_ok partitions threads line) (Ok line) (Err Past)
 
-line_tested : (a b : Bool) (n : ℕ) (op : Op) → (cond a (Ok op) (Err Past) >>= λ op. tested b n >>= λ number. Ok (Do number op)) ≡ cond (a && b) (Ok (Do n op)) (Err Past)
+line_tested : (a b : Bool) (n : ℕ) (op : Op) →
+    (cond a (Ok op) (Err Past) >>= λ op. tested b n >>= λ number. Ok (Do number op)) ≡ cond (a && b) (Ok (Do n op)) (Err Past)
 line_tested true true n op = refl
 line_tested true false n op = refl
 line_tested false b n op = refl
@@ -193,7 +203,8 @@ module _ (partitions threads : ℕ) (few : partitions ≤ 4294967296) (few_threa
 
   line_cases : (r : Result (ℕ × List ℕ) LineFault) → ((r >>= handed) >>= λ thread. behind (codes " ") thread.1 >>= λ rest. op_in
       partitions rest >>= λ op. below thread.0 threads >>= λ number. Ok (Do number op))
-      ≡ ((r >>= λ thread. behind (codes " ") thread.1 >>= λ rest. op_at rest >>= λ op. Ok (Do thread.0 op)) >>= checked_line partitions threads)
+      ≡ ((r >>= λ thread. behind (codes " ") thread.1 >>= λ rest. op_at rest >>= λ op. Ok (Do thread.0 op)) >>= checked_line partitions
+      threads)
   line_cases (Ok x) = line_rest x.0 (behind (codes " ") x.1)
   line_cases (Err e) = refl
 
@@ -201,7 +212,8 @@ module _ (partitions threads : ℕ) (few : partitions ≤ 4294967296) (few_threa
   unfolding do_in do_at
   do_is bytes = rw number_handed (line_cases (or_outside (number_at bytes)))
 
-  phase_or : (b : Bool) (x y : Result Line LineFault) → x ≡ (y >>= checked_line partitions threads) → cond b (Ok Phase) x ≡ (cond b (Ok Phase) y >>= checked_line partitions threads)
+  phase_or : (b : Bool) (x y : Result Line LineFault) → x ≡ (y >>= checked_line partitions threads) →
+      cond b (Ok Phase) x ≡ (cond b (Ok Phase) y >>= checked_line partitions threads)
   phase_or true x y e = refl
   phase_or false x y e = e
 
@@ -213,7 +225,8 @@ module _ (partitions threads : ℕ) (few : partitions ≤ 4294967296) (few_threa
 
 abbrev pub head_ok : Head → Bool
 head_ok h =
-    (leb 1 h.region && leb h.region (most_region h.version)) && ((leb 1 h.partitions && leb h.partitions 4) && (leb 1 h.threads && leb h.threads 16))
+    (leb 1 h.region && leb h.region (most_region h.version)) &&
+    ((leb 1 h.partitions && leb h.partitions 4) && (leb 1 h.threads && leb h.threads 16))
 
 abbrev pub checked_head : Head → Result Head LineFault
 checked_head h = cond (head_ok h) (Ok h) (Err Past)
@@ -252,7 +265,9 @@ known_fit known n small =
       | inr le ↦ rw (le-ltb n 4294967296 le, le-leb 1 n (omega arith), lt-leb n known (omega arith)) refl
     ]
 
-known_tested : (b : Bool) (v m n k : ℕ) → (cond b (Ok v) (Err Outside) >>= λ version. head_of version (fit m) (fit n) (fit k)) ≡ cond b (checked_head (head_with v m n k)) (Err Outside)
+known_tested : (b : Bool) (v m n k : ℕ) →
+    (cond b (Ok v) (Err Outside) >>= λ version. head_of version (fit m) (fit n) (fit k)) ≡ cond b (checked_head (head_with v m n k))
+    (Err Outside)
 known_tested true v m n k = head_counted v m n k
 known_tested false v m n k = refl
 
@@ -266,9 +281,11 @@ module _ (known : ℕ) (small : known < 4294967296) where
   head_behind : (r : Result (ℕ × List ℕ) LineFault)
       → ((r >>= handed) >>= λ first. three_in first.1 (codes " region ") (codes " partitions ") (codes " threads ")
       >>= λ numbers. known_in known first.0 >>= λ version. head_of version numbers.0 numbers.1 numbers.2)
-      ≡ ((r >>= λ first. three_at first.1 (codes " region ") (codes " partitions ") (codes " threads ") >>= λ x. Ok (head_with first.0 x.0 x.1 x.2))
+      ≡ ((r >>= λ first. three_at first.1 (codes " region ") (codes " partitions ") (codes " threads ") >>= λ x. Ok
+      (head_with first.0 x.0 x.1 x.2))
       >>= known_head known)
-  head_behind (Ok first) = rw three_is (head_numbers first.0 (three_at first.1 (codes " region ") (codes " partitions ") (codes " threads ")))
+  head_behind (Ok first) =
+      rw three_is (head_numbers first.0 (three_at first.1 (codes " region ") (codes " partitions ") (codes " threads ")))
   head_behind (Err e) = refl
 
   pub head_is : (bytes : List ℕ) → head_in known bytes ≡ (head_at bytes >>= known_head known)
@@ -286,12 +303,14 @@ op_within partitions (Copy from to) e = let p = and_parts (ltb from 64) (ltb to 
 op_within partitions (Reset reg) e = ltb-true reg 64 e
 op_within partitions (Free reg) e = ltb-true reg 64 e
 op_within partitions (Write reg value) e = ltb-true reg 64 e
-op_within partitions (Read reg place) e = let p = and_parts (ltb reg 64) (ltb place 4294967296) e in (ltb-true reg 64 p.0, omega (arith, ltb-true place 4294967296 p.1))
+op_within partitions (Read reg place) e = let p = and_parts (ltb reg 64) (ltb place 4294967296) e in
+    (ltb-true reg 64 p.0, omega (arith, ltb-true place 4294967296 p.1))
 op_within partitions (Swap cell reg) e = let p = and_parts (ltb cell 64) (ltb reg 64) e in (ltb-true cell 64 p.0, ltb-true reg 64 p.1)
 op_within partitions Purge e = tt
 
 within_op : (partitions : ℕ) (op : Op) → IsOpWithin partitions op → op_ok partitions op ≡ true
-within_op partitions (Alloc reg partition size) h = and_from _ _ (lt-ltb reg 64 h.0) (and_from _ _ (lt-ltb partition partitions h.1) (lt-ltb size 4294967296 (omega (arith, h.2))))
+within_op partitions (Alloc reg partition size) h =
+    and_from _ _ (lt-ltb reg 64 h.0) (and_from _ _ (lt-ltb partition partitions h.1) (lt-ltb size 4294967296 (omega (arith, h.2))))
 within_op partitions (Copy from to) h = and_from _ _ (lt-ltb from 64 h.0) (lt-ltb to 64 h.1)
 within_op partitions (Reset reg) h = lt-ltb reg 64 h
 within_op partitions (Free reg) h = lt-ltb reg 64 h
@@ -312,7 +331,8 @@ within_line partitions threads (Do thread op) h = and_from _ _ (within_op partit
 pub head_within : (h : Head) → head_ok h ≡ true → IsHeadWithin h
 head_within h e =
     let most = most_region h.version in
-    let p = and_parts (leb 1 h.region && leb h.region most) ((leb 1 h.partitions && leb h.partitions 4) && (leb 1 h.threads && leb h.threads 16)) e in
+    let p = and_parts (leb 1 h.region && leb h.region most)
+    ((leb 1 h.partitions && leb h.partitions 4) && (leb 1 h.threads && leb h.threads 16)) e in
     let q = and_parts (leb 1 h.partitions && leb h.partitions 4) (leb 1 h.threads && leb h.threads 16) p.1 in
     let n = and_parts (leb 1 h.region) (leb h.region most) p.0 in
     let m = and_parts (leb 1 h.partitions) (leb h.partitions 4) q.0 in
@@ -325,7 +345,8 @@ head_within h e =
 pub within_head : (h : Head) → IsHeadWithin h → head_ok h ≡ true
 within_head h w =
     and_from _ _ (and_from _ _ (le-leb 1 h.region w.0.0) (le-leb h.region (most_region h.version) w.0.1))
-    (and_from _ _ (and_from _ _ (le-leb 1 h.partitions w.1.0) (le-leb h.partitions 4 w.1.1)) (and_from _ _ (le-leb 1 h.threads w.2.0) (le-leb h.threads 16 w.2.1)))
+    (and_from _ _ (and_from _ _ (le-leb 1 h.partitions w.1.0) (le-leb h.partitions 4 w.1.1))
+    (and_from _ _ (le-leb 1 h.threads w.2.0) (le-leb h.threads 16 w.2.1)))
 
 version_to : (known version : ℕ) → version_ok known version ≡ true → IsVersionTo known version
 version_to known version e = let p = and_parts (leb 1 version) (leb version known) e in (leb-true 1 version p.0, leb-true version known p.1)
@@ -354,13 +375,16 @@ IsNotRead partitions threads Past bytes = (l : Line) × IsLineText l bytes × (I
 
 module _ (partitions threads : ℕ) (few : partitions ≤ 4294967296) (few_threads : threads ≤ 4294967296) where
   -- the line is spelled so, and within the limits
-  pub line_read : (bytes : List ℕ) (line : Line) → line_in partitions threads bytes ≡ Ok line → IsLineText line bytes × IsLineWithin partitions threads line
+  pub line_read : (bytes : List ℕ) (line : Line) → line_in partitions threads bytes ≡ Ok line → IsLineText line bytes ×
+      IsLineWithin partitions threads line
   line_read bytes line e =
       let b = bind_ok (line_at bytes) (checked_line partitions threads) line (sym (line_is partitions threads few few_threads bytes) ∙ e) in
       let t = let_through (line_ok partitions threads b.0) b.0 line b.2 in
-      subst (λ (l : Line). IsLineText l bytes × IsLineWithin partitions threads l) t.1 (line_takes bytes b.0 b.1, line_within partitions threads b.0 t.0)
+      subst (λ (l : Line). IsLineText l bytes × IsLineWithin partitions threads l) t.1
+      (line_takes bytes b.0 b.1, line_within partitions threads b.0 t.0)
 
-  not_read_cases : (bytes : List ℕ) (r : Result Line LineFault) (d : LineFault) → line_at bytes ≡ r → (r >>= checked_line partitions threads) ≡ Err d
+  not_read_cases : (bytes : List ℕ) (r : Result Line LineFault) (d : LineFault) → line_at bytes ≡ r →
+      (r >>= checked_line partitions threads) ≡ Err d
       → IsNotRead partitions threads d bytes
   not_read_cases bytes (Ok line) d same e =
       let t = kept_out (line_ok partitions threads line) line d e in
@@ -387,7 +411,8 @@ IsHeadNotRead known Outside bytes = (h : Head) → IsVersionTo known h.version �
 IsHeadNotRead known Past bytes = (h : Head) × IsVersionTo known h.version × IsHeadText h bytes × (IsHeadWithin h → ⊥)
 
 module _ (known : ℕ) (small : known < 4294967296) where
-  pub head_read : (bytes : List ℕ) (h : Head) → head_in known bytes ≡ Ok h → IsHeadText h bytes × IsHeadWithin h × IsVersionTo known h.version
+  pub head_read : (bytes : List ℕ) (h : Head) → head_in known bytes ≡ Ok h → IsHeadText h bytes × IsHeadWithin h ×
+      IsVersionTo known h.version
   head_read bytes h e =
       let b = bind_ok (head_at bytes) (known_head known) h (sym (head_is known small bytes) ∙ e) in
       let v = known_through (version_ok known b.0.version) (checked_head b.0) h b.2 in
@@ -396,7 +421,8 @@ module _ (known : ℕ) (small : known < 4294967296) where
       (head_takes bytes b.0 b.1, head_within b.0 t.0, version_to known b.0.version v.0)
 
   -- a head in the grammar: of a version that is known or not
-  unread_by : (bytes : List ℕ) (x : Head) (d : LineFault) → head_at bytes ≡ Ok x → (b : Bool) → version_ok known x.version ≡ b → cond b (checked_head x) (Err Outside) ≡ Err d
+  unread_by : (bytes : List ℕ) (x : Head) (d : LineFault) → head_at bytes ≡ Ok x → (b : Bool) → version_ok known x.version ≡ b →
+      cond b (checked_head x) (Err Outside) ≡ Err d
       → IsHeadNotRead known d bytes
   unread_by bytes x d same true is e =
       let t = kept_out (head_ok x) x d e in
@@ -408,11 +434,13 @@ module _ (known : ℕ) (small : known < 4294967296) where
       λ h to text.
       let read : ◌≡◌ {A = Result Head LineFault} (Ok x) (Ok h) = sym same ∙ head_again h bytes text in
       let one : x ≡ h = cc in
-      both_ways (version_ok known x.version) is (subst (λ (k : Head). version_ok known k.version ≡ true) (sym one) (to_version known h.version to)) in
+      both_ways (version_ok known x.version) is
+      (subst (λ (k : Head). version_ok known k.version ≡ true) (sym one) (to_version known h.version to)) in
       let told : Outside ≡ d = cc in
       subst (λ (k : LineFault). IsHeadNotRead known k bytes) told out
 
-  head_cases_of : (bytes : List ℕ) (r : Result Head LineFault) (d : LineFault) → head_at bytes ≡ r → (r >>= known_head known) ≡ Err d → IsHeadNotRead known d bytes
+  head_cases_of : (bytes : List ℕ) (r : Result Head LineFault) (d : LineFault) → head_at bytes ≡ r → (r >>= known_head known) ≡ Err d →
+      IsHeadNotRead known d bytes
   head_cases_of bytes (Ok x) d same e = unread_by bytes x d same (version_ok known x.version) refl e
   head_cases_of bytes (Err f) d same e =
       let out : IsHeadNotRead known Outside bytes =

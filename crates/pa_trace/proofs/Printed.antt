@@ -16,7 +16,15 @@ use Rattle.pa_trace.specs.Printed.{word_then_number, head_text, line_text, op_te
 op_spelled : (op : Op) → OpInBits op → (o : List ℕ) × IsOpText op o × (op_text op ≡ codes " " ++ o)
 op_spelled (Alloc reg partition size) h = (
   codes "A r" ++ decimal reg ++ codes " p" ++ decimal partition ++ codes " " ++ decimal size,
-  (decimal reg, decimal partition, decimal size, decimal_numeral reg (omega (arith, h.0)), decimal_numeral partition (omega (arith, h.1)), decimal_numeral size (omega (arith, h.2)), refl),
+  (
+    decimal reg,
+    decimal partition,
+    decimal size,
+    decimal_numeral reg (omega (arith, h.0)),
+    decimal_numeral partition (omega (arith, h.1)),
+    decimal_numeral size (omega (arith, h.2)),
+    refl,
+  ),
   simp append_assoc,
 )
 op_spelled (Copy from to) h = (
@@ -26,8 +34,11 @@ op_spelled (Copy from to) h = (
 )
 op_spelled (Reset reg) h = (codes "R r" ++ decimal reg, (decimal reg, decimal_numeral reg (omega (arith, h)), refl), refl)
 op_spelled (Free reg) h = (codes "F r" ++ decimal reg, (decimal reg, decimal_numeral reg (omega (arith, h)), refl), refl)
-op_spelled (Write reg value) h =
-    (codes "W r" ++ decimal reg ++ codes " " ++ hex 16 value, (decimal reg, decimal_numeral reg (omega (arith, h.0)), omega (arith, h.1), refl), simp append_assoc)
+op_spelled (Write reg value) h = (
+  codes "W r" ++ decimal reg ++ codes " " ++ hex 16 value,
+  (decimal reg, decimal_numeral reg (omega (arith, h.0)), omega (arith, h.1), refl),
+  simp append_assoc,
+)
 op_spelled (Read reg place) h = (
   codes "D r" ++ decimal reg ++ codes " " ++ decimal place,
   (decimal reg, decimal place, decimal_numeral reg (omega (arith, h.0)), decimal_numeral place (omega (arith, h.1)), refl),
@@ -52,7 +63,8 @@ line_spelled (Do thread op) h =
 four : (w v a n b p d t e : List ℕ) → (w ++ v) ++ ((a ++ n) ++ ((b ++ p) ++ ((d ++ t) ++ e))) ≡ (w ++ v ++ a ++ n ++ b ++ p ++ d ++ t) ++ e
 four w v a n b p d t e = simp append_assoc
 
-pub head_spelled : (head : Head) → head.region < 4294967296 → head.partitions < 4294967296 → head.threads < 4294967296 → IsVersionTo last_version head.version
+pub head_spelled : (head : Head) → head.region < 4294967296 → head.partitions < 4294967296 → head.threads < 4294967296 →
+    IsVersionTo last_version head.version
     → IsHeadLine last_version head (head_text head)
 head_spelled head r p t to =
     let v : List ℕ = decimal head.version in
@@ -76,13 +88,17 @@ head_spelled head r p t to =
     )
 
 -- what is printed part by part
-five : (old a b c d e x y z w u : List ℕ) → a ≡ old ++ x → b ≡ a ++ y → c ≡ b ++ z → d ≡ c ++ w → e ≡ d ++ u → e ≡ old ++ (x ++ (y ++ (z ++ (w ++ u))))
+five : (old a b c d e x y z w u : List ℕ) → a ≡ old ++ x → b ≡ a ++ y → c ≡ b ++ z → d ≡ c ++ w → e ≡ d ++ u → e ≡ old ++
+    (x ++ (y ++ (z ++ (w ++ u))))
 five old a b c d e x y z w u ea eb ec ed ee =
-    ee ∙ ap (λ (t : List ℕ). t ++ u) (ed ∙ ap (λ (t : List ℕ). t ++ w) (ec ∙ ap (λ (t : List ℕ). t ++ z) (eb ∙ ap (λ (t : List ℕ). t ++ y) ea)))
+    ee ∙ ap (λ (t : List ℕ). t ++ u)
+    (ed ∙ ap (λ (t : List ℕ). t ++ w) (ec ∙ ap (λ (t : List ℕ). t ++ z) (eb ∙ ap (λ (t : List ℕ). t ++ y) ea)))
     ∙ simp append_assoc
 
-pub head_joined : (head : Head) (old a b c d e : List ℕ) → a ≡ old ++ word_then_number (codes "trace ") head.version → b ≡ a ++ word_then_number (codes " region ") head.region
-    → c ≡ b ++ word_then_number (codes " partitions ") head.partitions → d ≡ c ++ word_then_number (codes " threads ") head.threads → e ≡ d ++ 10 ∷ []
+pub head_joined : (head : Head) (old a b c d e : List ℕ) → a ≡ old ++ word_then_number (codes "trace ") head.version → b ≡ a ++
+    word_then_number (codes " region ") head.region
+    → c ≡ b ++ word_then_number (codes " partitions ") head.partitions → d ≡ c ++ word_then_number (codes " threads ") head.threads →
+    e ≡ d ++ 10 ∷ []
     → e ≡ old ++ head_text head
 head_joined head old a b c d e ea eb ec ed ee =
     let x : List ℕ = word_then_number (codes "trace ") head.version in

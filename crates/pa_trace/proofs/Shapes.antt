@@ -16,7 +16,8 @@ abbrev pub IsShape : {A : Type 0} → Result A LineFault → Type 0
 IsShape (Ok x) = Unit {0}
 IsShape (Err d) = Outside ≡ d
 
-then_shape : {A B : Type 0} (r : Result A LineFault) (f : A → Result B LineFault) → IsShape r → ((x : A) → IsShape (f x)) → IsShape (r >>= f)
+then_shape : {A B : Type 0} (r : Result A LineFault) (f : A → Result B LineFault) → IsShape r → ((x : A) → IsShape (f x)) →
+    IsShape (r >>= f)
 then_shape (Ok x) f h g = g x
 then_shape (Err d) f h g = h
 
@@ -30,7 +31,8 @@ option_shape (Some x) = tt
 
 behind_shape : (word bytes : List ℕ) → IsShape (behind word bytes)
 unfolding behind
-behind_shape word bytes = cond_shape (pointwise nat_eq (take (length word) bytes) word) (Ok (drop (length word) bytes)) (Err Outside) tt refl
+behind_shape word bytes =
+    cond_shape (pointwise nat_eq (take (length word) bytes) word) (Ok (drop (length word) bytes)) (Err Outside) tt refl
 
 ended_shape : (bytes : List ℕ) → IsShape (ended bytes)
 ended_shape bytes = cond_shape (eqb (length bytes) 0) (Ok tt) (Err Outside) tt refl
@@ -41,7 +43,8 @@ word_shape bytes = option_shape (hexes_at 16 bytes)
 
 field_shape : (word bytes : List ℕ) → IsShape (field_at word bytes)
 unfolding field_at
-field_shape word bytes = then_shape (behind word bytes) (λ rest. or_outside (number_at rest)) (behind_shape word bytes) (λ rest. option_shape (number_at rest))
+field_shape word bytes =
+    then_shape (behind word bytes) (λ rest. or_outside (number_at rest)) (behind_shape word bytes) (λ rest. option_shape (number_at rest))
 
 one_shape : (bytes v : List ℕ) → IsShape (one_at bytes v)
 unfolding one_at
@@ -59,7 +62,8 @@ two_shape bytes v w =
 pub three_shape : (bytes v w y : List ℕ) → IsShape (three_at bytes v w y)
 unfolding three_at
 three_shape bytes v w y =
-    then_shape (field_at v bytes) (λ a. field_at w a.1 >>= λ b. field_at y b.1 >>= λ c. ended c.1 >>= λ end. Ok (a.0, b.0, c.0)) (field_shape v bytes) (λ a.
+    then_shape (field_at v bytes) (λ a. field_at w a.1 >>= λ b. field_at y b.1 >>= λ c. ended c.1 >>= λ end. Ok (a.0, b.0, c.0))
+    (field_shape v bytes) (λ a.
     then_shape (field_at w a.1) (λ b. field_at y b.1 >>= λ c. ended c.1 >>= λ end. Ok (a.0, b.0, c.0)) (field_shape w a.1) (λ b.
     then_shape (field_at y b.1) (λ c. ended c.1 >>= λ end. Ok (a.0, b.0, c.0)) (field_shape y b.1) (λ c.
     then_shape (ended c.1) (λ end. Ok (a.0, b.0, c.0)) (ended_shape c.1) (λ end. tt))))
@@ -67,8 +71,11 @@ three_shape bytes v w y =
 field_and_word_shape : (bytes v : List ℕ) → IsShape (field_and_word_at bytes v)
 unfolding field_and_word_at
 field_and_word_shape bytes v =
-    then_shape (field_at v bytes) (λ a. behind (codes " ") a.1 >>= λ rest. word_in rest >>= λ value. ended value.1 >>= λ end. Ok (a.0, value.0)) (field_shape v bytes) (λ a.
-    then_shape (behind (codes " ") a.1) (λ rest. word_in rest >>= λ value. ended value.1 >>= λ end. Ok (a.0, value.0)) (behind_shape (codes " ") a.1) (λ rest.
+    then_shape (field_at v bytes)
+    (λ a. behind (codes " ") a.1 >>= λ rest. word_in rest >>= λ value. ended value.1 >>= λ end. Ok (a.0, value.0)) (field_shape v bytes)
+    (λ a.
+    then_shape (behind (codes " ") a.1) (λ rest. word_in rest >>= λ value. ended value.1 >>= λ end. Ok (a.0, value.0))
+    (behind_shape (codes " ") a.1) (λ rest.
     then_shape (word_in rest) (λ value. ended value.1 >>= λ end. Ok (a.0, value.0)) (word_shape rest) (λ value.
     then_shape (ended value.1) (λ end. Ok (a.0, value.0)) (ended_shape value.1) (λ end. tt))))
 
@@ -76,19 +83,26 @@ op_shape : (bytes : List ℕ) → IsShape (op_at bytes)
 unfolding op_at alloc_at copy_at reset_at free_at write_at read_at swap_at purge_in
 op_shape [] = refl
 op_shape (c ∷ rest) =
-    cond_shape (eqb c 65) _ _ (then_shape (three_at rest (codes " r") (codes " p") (codes " ")) (λ x. Ok (Alloc x.0 x.1 x.2)) (three_shape rest (codes " r") (codes " p") (codes " ")) (λ x. tt))
-    (cond_shape (eqb c 67) _ _ (then_shape (two_at rest (codes " r") (codes " r")) (λ x. Ok (Copy x.0 x.1)) (two_shape rest (codes " r") (codes " r")) (λ x. tt))
+    cond_shape (eqb c 65) _ _
+    (then_shape (three_at rest (codes " r") (codes " p") (codes " ")) (λ x. Ok (Alloc x.0 x.1 x.2))
+    (three_shape rest (codes " r") (codes " p") (codes " ")) (λ x. tt))
+    (cond_shape (eqb c 67) _ _
+    (then_shape (two_at rest (codes " r") (codes " r")) (λ x. Ok (Copy x.0 x.1)) (two_shape rest (codes " r") (codes " r")) (λ x. tt))
     (cond_shape (eqb c 82) _ _ (then_shape (one_at rest (codes " r")) (λ n. Ok (Reset n)) (one_shape rest (codes " r")) (λ n. tt))
     (cond_shape (eqb c 70) _ _ (then_shape (one_at rest (codes " r")) (λ n. Ok (Free n)) (one_shape rest (codes " r")) (λ n. tt))
-    (cond_shape (eqb c 87) _ _ (then_shape (field_and_word_at rest (codes " r")) (λ x. Ok (Write x.0 x.1)) (field_and_word_shape rest (codes " r")) (λ x. tt))
-    (cond_shape (eqb c 68) _ _ (then_shape (two_at rest (codes " r") (codes " ")) (λ x. Ok (Read x.0 x.1)) (two_shape rest (codes " r") (codes " ")) (λ x. tt))
-    (cond_shape (eqb c 88) _ _ (then_shape (two_at rest (codes " c") (codes " r")) (λ x. Ok (Swap x.0 x.1)) (two_shape rest (codes " c") (codes " r")) (λ x. tt))
+    (cond_shape (eqb c 87) _ _
+    (then_shape (field_and_word_at rest (codes " r")) (λ x. Ok (Write x.0 x.1)) (field_and_word_shape rest (codes " r")) (λ x. tt))
+    (cond_shape (eqb c 68) _ _
+    (then_shape (two_at rest (codes " r") (codes " ")) (λ x. Ok (Read x.0 x.1)) (two_shape rest (codes " r") (codes " ")) (λ x. tt))
+    (cond_shape (eqb c 88) _ _
+    (then_shape (two_at rest (codes " c") (codes " r")) (λ x. Ok (Swap x.0 x.1)) (two_shape rest (codes " c") (codes " r")) (λ x. tt))
     (cond_shape (eqb c 80) _ _ (then_shape (ended rest) (λ end. Ok Purge) (ended_shape rest) (λ end. tt)) refl)))))))
 
 do_shape : (bytes : List ℕ) → IsShape (do_at bytes)
 unfolding do_at
 do_shape bytes =
-    then_shape (or_outside (number_at bytes)) (λ thread. behind (codes " ") thread.1 >>= λ rest. op_at rest >>= λ op. Ok (Do thread.0 op)) (option_shape (number_at bytes)) (λ thread.
+    then_shape (or_outside (number_at bytes)) (λ thread. behind (codes " ") thread.1 >>= λ rest. op_at rest >>= λ op. Ok (Do thread.0 op))
+    (option_shape (number_at bytes)) (λ thread.
     then_shape (behind (codes " ") thread.1) (λ rest. op_at rest >>= λ op. Ok (Do thread.0 op)) (behind_shape (codes " ") thread.1) (λ rest.
     then_shape (op_at rest) (λ op. Ok (Do thread.0 op)) (op_shape rest) (λ op. tt)))
 

@@ -60,7 +60,8 @@ unfoldable pub op_at : List ℕ → Result Op LineFault
 op_at [] = Err Outside
 op_at (c ∷ rest) =
     cond (eqb c 65) (alloc_at rest) (cond (eqb c 67) (copy_at rest) (cond (eqb c 82) (reset_at rest) (cond (eqb c 70) (free_at rest)
-    (cond (eqb c 87) (write_at rest) (cond (eqb c 68) (read_at rest) (cond (eqb c 88) (swap_at rest) (cond (eqb c 80) (purge_in rest) (Err Outside))))))))
+    (cond (eqb c 87) (write_at rest)
+    (cond (eqb c 68) (read_at rest) (cond (eqb c 88) (swap_at rest) (cond (eqb c 80) (purge_in rest) (Err Outside))))))))
 
 ok_op : (x y : Op) → ◌≡◌ {A = Result Op LineFault} (Ok x) (Ok y) → x ≡ y
 ok_op x y e = cc
@@ -157,7 +158,8 @@ op_takes (c ∷ rest) op e =
 pub op_again : (op : Op) (text : List ℕ) → IsOpText op text → op_at text ≡ Ok op
 unfolding op_at alloc_at copy_at reset_at free_at write_at read_at swap_at purge_in
 op_again (Alloc reg partition size) text h =
-    ap op_at h.6 ∙ rw (three_again (codes " r") (codes " p") (codes " ") reg partition size h.0 h.1 h.2 (λ x. refl) (λ x. refl) h.3 h.4 h.5) refl
+    ap op_at h.6 ∙ rw (three_again (codes " r") (codes " p") (codes " ") reg partition size h.0 h.1 h.2 (λ x. refl) (λ x. refl) h.3 h.4 h.5)
+    refl
 op_again (Copy from to) text h =
     ap op_at h.4 ∙ rw (two_again (codes " r") (codes " r") from to h.0 h.1 (λ x. refl) h.2 h.3) refl
 op_again (Reset reg) text h =
@@ -197,7 +199,8 @@ join_line bytes t r o e f = e ∙ ap (λ (x : List ℕ). t ++ x) f ∙ sym (appe
 do_takes : (bytes : List ℕ) (line : Line) → do_at bytes ≡ Ok line → IsLineText line bytes
 unfolding do_at
 do_takes bytes line e =
-    let a = bind_ok (or_outside (number_at bytes)) (λ thread. behind (codes " ") thread.1 >>= λ rest. op_at rest >>= λ op. Ok (Do thread.0 op)) line e in
+    let a = bind_ok (or_outside (number_at bytes))
+    (λ thread. behind (codes " ") thread.1 >>= λ rest. op_at rest >>= λ op. Ok (Do thread.0 op)) line e in
     let b = bind_ok (behind (codes " ") a.0.1) (λ rest. op_at rest >>= λ op. Ok (Do a.0.0 op)) line a.2 in
     let c = bind_ok (op_at b.0) (λ op. Ok (Do a.0.0 op)) line b.2 in
     let t = number_takes bytes a.0.0 a.0.1 (or_outside_ok (number_at bytes) a.0 a.1) in
@@ -222,7 +225,12 @@ unfolding line_at do_at
 line_again Phase text h = ap line_at h
 line_again (Do thread op) text h =
     let joined : text ≡ h.0 ++ (codes " " ++ h.1) = h.4 ∙ append_assoc h.0 (codes " ") h.1 in
-    ap line_at joined ∙ rw (not_phase thread h.0 (codes " " ++ h.1) h.2, number_again thread h.0 (codes " " ++ h.1) h.2 refl, behind_again (codes " ") h.1, op_again op h.1 h.3) refl
+    ap line_at joined ∙ rw (
+      not_phase thread h.0 (codes " " ++ h.1) h.2,
+      number_again thread h.0 (codes " " ++ h.1) h.2 refl,
+      behind_again (codes " ") h.1,
+      op_again op h.1 h.3,
+    ) refl
 
 -- ---- the head
 
@@ -239,7 +247,8 @@ head_at bytes = do
 ok_head : (x y : Head) → ◌≡◌ {A = Result Head LineFault} (Ok x) (Ok y) → x ≡ y
 ok_head x y e = cc
 
-join_head : (bytes w v r a n b p d t : List ℕ) → bytes ≡ w ++ v ++ r → r ≡ a ++ n ++ b ++ p ++ d ++ t → bytes ≡ w ++ v ++ a ++ n ++ b ++ p ++ d ++ t
+join_head : (bytes w v r a n b p d t : List ℕ) → bytes ≡ w ++ v ++ r → r ≡ a ++ n ++ b ++ p ++ d ++ t → bytes ≡ w ++ v ++ a ++ n ++ b ++
+    p ++ d ++ t
 join_head bytes w v r a n b p d t e f = e ∙ ap (λ (x : List ℕ). w ++ v ++ x) f ∙ simp append_assoc
 
 part_head : (w v a n b p d t : List ℕ) → w ++ v ++ a ++ n ++ b ++ p ++ d ++ t ≡ w ++ (v ++ (a ++ n ++ b ++ p ++ d ++ t))
@@ -249,19 +258,26 @@ pub head_takes : (bytes : List ℕ) (h : Head) → head_at bytes ≡ Ok h → Is
 unfolding head_at
 head_takes bytes h e =
     let a = bind_ok (field_at (codes "trace ") bytes)
-    (λ first. three_at first.1 (codes " region ") (codes " partitions ") (codes " threads ") >>= λ x. Ok (head_with first.0 x.0 x.1 x.2)) h e in
-    let b = bind_ok (three_at a.0.1 (codes " region ") (codes " partitions ") (codes " threads ")) (λ x. Ok (head_with a.0.0 x.0 x.1 x.2)) h a.2 in
+    (λ first. three_at first.1 (codes " region ") (codes " partitions ") (codes " threads ") >>= λ x. Ok (head_with first.0 x.0 x.1 x.2)) h
+    e in
+    let b = bind_ok (three_at a.0.1 (codes " region ") (codes " partitions ") (codes " threads "))
+    (λ x. Ok (head_with a.0.0 x.0 x.1 x.2)) h a.2 in
     let f = field_takes (codes "trace ") bytes a.0 a.1 in
     let s = three_takes a.0.1 (codes " region ") (codes " partitions ") (codes " threads ") b.0 b.1 in
-    let joined = join_head bytes (codes "trace ") f.numeral a.0.1 (codes " region ") s.0 (codes " partitions ") s.1 (codes " threads ") s.2 f.parts s.6 in
-    subst (λ (k : Head). IsHeadText k bytes) (ok_head (head_with a.0.0 b.0.0 b.0.1 b.0.2) h b.2) (f.numeral, s.0, s.1, s.2, f.spelled, s.3, s.4, s.5, joined)
+    let joined = join_head bytes (codes "trace ") f.numeral a.0.1 (codes " region ") s.0 (codes " partitions ") s.1
+    (codes " threads ") s.2 f.parts s.6 in
+    subst (λ (k : Head). IsHeadText k bytes) (ok_head (head_with a.0.0 b.0.0 b.0.1 b.0.2) h b.2)
+    (f.numeral, s.0, s.1, s.2, f.spelled, s.3, s.4, s.5, joined)
 
 pub head_again : (h : Head) (text : List ℕ) → IsHeadText h text → head_at text ≡ Ok h
 unfolding head_at
 head_again h text t =
     let rest : List ℕ = codes " region " ++ t.1 ++ codes " partitions " ++ t.2 ++ codes " threads " ++ t.3 in
-    let parted : text ≡ codes "trace " ++ (t.0 ++ rest) = t.8 ∙ part_head (codes "trace ") t.0 (codes " region ") t.1 (codes " partitions ") t.2 (codes " threads ") t.3 in
-    let first : field_at (codes "trace ") (codes "trace " ++ (t.0 ++ rest)) ≡ Ok (h.version, rest) = field_again (codes "trace ") h.version t.0 rest t.4 refl in
+    let parted : text ≡ codes "trace " ++ (t.0 ++ rest) = t.8 ∙
+    part_head (codes "trace ") t.0 (codes " region ") t.1 (codes " partitions ") t.2 (codes " threads ") t.3 in
+    let first : field_at (codes "trace ") (codes "trace " ++ (t.0 ++ rest)) ≡ Ok (h.version, rest) =
+    field_again (codes "trace ") h.version t.0 rest t.4 refl in
     let others : three_at rest (codes " region ") (codes " partitions ") (codes " threads ") ≡ Ok (h.region, h.partitions, h.threads) =
-    three_again (codes " region ") (codes " partitions ") (codes " threads ") h.region h.partitions h.threads t.1 t.2 t.3 (λ x. refl) (λ x. refl) t.5 t.6 t.7 in
+    three_again (codes " region ") (codes " partitions ") (codes " threads ") h.region h.partitions h.threads t.1 t.2 t.3 (λ x. refl)
+    (λ x. refl) t.5 t.6 t.7 in
     ap head_at parted ∙ rw (first, others) refl

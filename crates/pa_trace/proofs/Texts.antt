@@ -18,7 +18,8 @@ use Rattle.pa_trace.proofs.Versions.{one_only, one_spelled}
 -- ---- lines that were read
 
 -- one line more
-pub lines_more : (ls : List Line) (l : Line) (bytes line after : List ℕ) → bytes ≡ line ++ 10 ∷ after → IsLineText l line → AreLinesText ls after → AreLinesText (l ∷ ls) bytes
+pub lines_more : (ls : List Line) (l : Line) (bytes line after : List ℕ) → bytes ≡ line ++ 10 ∷ after → IsLineText l line →
+    AreLinesText ls after → AreLinesText (l ∷ ls) bytes
 lines_more ls l bytes line after e text h = (line, after, text, h, e)
 
 pub lines_join : (done ls : List Line) (l : Line) → (done ++ l ∷ []) ++ ls ≡ done ++ (l ∷ ls)
@@ -63,8 +64,10 @@ one_lines (k ∷ ks) (l ∷ ls) text hk hl =
 
 pub one_trace : (s t : Trace) (text : List ℕ) → IsTraceText s text → IsTraceText t text → IsSameTrace s t
 one_trace s t text hs ht =
-    let cut = one_cut hs.0 ht.0 hs.1 ht.1 (head_line (head_of_trace s) hs.0 hs.2) (head_line (head_of_trace t) ht.0 ht.2) (sym hs.4 ∙ ht.4) in
-    let heads = one_head_of (head_of_trace s) (head_of_trace t) ht.0 (subst (λ (x : List ℕ). IsHeadText (head_of_trace s) x) cut.0 hs.2) ht.2 in
+    let cut = one_cut hs.0 ht.0 hs.1 ht.1 (head_line (head_of_trace s) hs.0 hs.2) (head_line (head_of_trace t) ht.0 ht.2)
+    (sym hs.4 ∙ ht.4) in
+    let heads = one_head_of (head_of_trace s) (head_of_trace t) ht.0
+    (subst (λ (x : List ℕ). IsHeadText (head_of_trace s) x) cut.0 hs.2) ht.2 in
     record {
       version = ap (λ (x : Head). x.version) heads;
       region = ap (λ (x : Head). x.region) heads;
@@ -77,7 +80,8 @@ one_trace s t text hs ht =
 
 one_text_op : (op : Op) (a b : List ℕ) → IsOpText op a → IsOpText op b → a ≡ b
 one_text_op (Alloc reg partition size) a b ha hb =
-    ha.6 ∙ cc (one_numeral reg ha.0 hb.0 ha.3 hb.3, one_numeral partition ha.1 hb.1 ha.4 hb.4, one_numeral size ha.2 hb.2 ha.5 hb.5) ∙ sym hb.6
+    ha.6 ∙ cc (one_numeral reg ha.0 hb.0 ha.3 hb.3, one_numeral partition ha.1 hb.1 ha.4 hb.4, one_numeral size ha.2 hb.2 ha.5 hb.5) ∙
+    sym hb.6
 one_text_op (Copy from to) a b ha hb = ha.4 ∙ cc (one_numeral from ha.0 hb.0 ha.2 hb.2, one_numeral to ha.1 hb.1 ha.3 hb.3) ∙ sym hb.4
 one_text_op (Reset reg) a b ha hb = ha.2 ∙ cc (one_numeral reg ha.0 hb.0 ha.1 hb.1) ∙ sym hb.2
 one_text_op (Free reg) a b ha hb = ha.2 ∙ cc (one_numeral reg ha.0 hb.0 ha.1 hb.1) ∙ sym hb.2
@@ -107,13 +111,15 @@ one_text_head h a b ha hb =
 
 -- ---- version 1
 
-first_from : (h : Head) (text v n p t : List ℕ) → v ≡ codes "1" → text ≡ codes "trace " ++ v ++ codes " region " ++ n ++ codes " partitions " ++ p ++ codes " threads " ++ t
+first_from : (h : Head) (text v n p t : List ℕ) → v ≡ codes "1" → text ≡ codes "trace " ++ v ++ codes " region " ++ n ++
+    codes " partitions " ++ p ++ codes " threads " ++ t
     → text ≡ codes "trace 1 region " ++ n ++ codes " partitions " ++ p ++ codes " threads " ++ t
 first_from h text v n p t is e =
     e ∙ ap (λ (x : List ℕ). codes "trace " ++ x ++ codes " region " ++ n ++ codes " partitions " ++ p ++ codes " threads " ++ t) is
 
 -- the text of a head of version 1 begins with `trace 1 region `
-pub first_version : (h : Head) (text : List ℕ) → h.version ≡ 1 → IsHeadText h text ↔ ((n p t : List ℕ) × IsNumeral h.region n × IsNumeral h.partitions p × IsNumeral h.threads t
+pub first_version : (h : Head) (text : List ℕ) → h.version ≡ 1 → IsHeadText h text ↔
+    ((n p t : List ℕ) × IsNumeral h.region n × IsNumeral h.partitions p × IsNumeral h.threads t
     × (text ≡ codes "trace 1 region " ++ n ++ codes " partitions " ++ p ++ codes " threads " ++ t))
 first_version h text is = (
   λ x. (x.1, x.2, x.3, x.5, x.6, x.7, first_from h text x.0 x.1 x.2 x.3 (one_only x.0 (subst (λ k. IsNumeral k x.0) is x.4)) x.8),
@@ -121,4 +127,5 @@ first_version h text is = (
 )
 
 pub one_text_trace : (t : Trace) (a b : List ℕ) → IsTraceText t a → IsTraceText t b → a ≡ b
-one_text_trace t a b ha hb = ha.4 ∙ cc (one_text_head (head_of_trace t) ha.0 hb.0 ha.2 hb.2, one_text_lines t.lines ha.1 hb.1 ha.3 hb.3) ∙ sym hb.4
+one_text_trace t a b ha hb = ha.4 ∙ cc (one_text_head (head_of_trace t) ha.0 hb.0 ha.2 hb.2, one_text_lines t.lines ha.1 hb.1 ha.3 hb.3) ∙
+    sym hb.4

@@ -22,7 +22,8 @@ IsOver n len left = (65536 < n) ⊎ (left < len)
 
 -- ---- the head
 
-module _ (known : ℕ) (recent : known ≤ 2) (bytes first rest : List ℕ) (one : IsOneLine first) (parts : bytes ≡ first ++ 10 ∷ rest) (fits : IsOver 1 (length first + 1) 4194304 → ⊥) where
+module _ (known : ℕ) (recent : known ≤ 2) (bytes first rest : List ℕ) (one : IsOneLine first) (parts : bytes ≡ first ++ 10 ∷ rest)
+    (fits : IsOver 1 (length first + 1) 4194304 → ⊥) where
   pub head_begins : (head : Head) → head_in known first ≡ Ok head
       → IsReadUpTo known bytes [] (record { head = head; rest = rest; left = 4194304 - (length first + 1); number = 2 })
   head_begins head is =
@@ -41,7 +42,8 @@ module _ (known : ℕ) (recent : known ≤ 2) (bytes first rest : List ℕ) (one
         room = omega arith;
         taken = omega (arith, taken, room.1);
         text = λ more h. (first, rest, read.0, h, parts, version);
-        fault = λ e h. head_later known head (4194304 - (4194304 - (length first + 1))) bytes first rest e one parts room.1 read.0 read.1 to (omega (arith, room.1)) h;
+        fault = λ e h. head_later known head (4194304 - (4194304 - (length first + 1))) bytes first rest e one parts room.1 read.0 read.1 to
+            (omega (arith, room.1)) h;
       }
 
   pub head_faulty : (d : LineFault) → head_in known first ≡ Err d → IsFault known (told 1 d) bytes
@@ -55,7 +57,8 @@ module _ (u : Unread) (line after : List ℕ) (one : IsOneLine line) (parts : u.
   pub line_past : IsOver u.number (length line + 1) u.left → IsFaultRead u (Limit u.number)
   line_past past known bytes ls h =
       h.fault (Limit u.number)
-      (first_past u.head.partitions u.head.threads u.number (4194304 - u.left) u.rest line after one parts (over_room u.number u.left (length line + 1) h.room past))
+      (first_past u.head.partitions u.head.threads u.number (4194304 - u.left) u.rest line after one parts
+      (over_room u.number u.left (length line + 1) h.room past))
 
   module _ (fits : IsOver u.number (length line + 1) u.left → ⊥) where
     pub line_faulty : (d : LineFault) → line_in u.head.partitions u.head.threads line ≡ Err d → IsFaultRead u (told u.number d)
@@ -65,7 +68,8 @@ module _ (u : Unread) (line after : List ℕ) (one : IsOneLine line) (parts : u.
         let most = h.room in
         let unread = line_not_read u.head.partitions u.head.threads (omega (arith, head.1.1)) (omega (arith, head.2.1)) line d is in
         first_is_fault known (told u.number d) bytes (h.fault (told u.number d)
-        (first_unread u.head.partitions u.head.threads u.number (4194304 - u.left) u.rest line after d one parts room.0 (omega (arith, most, room.1)) unread))
+        (first_unread u.head.partitions u.head.threads u.number (4194304 - u.left) u.rest line after d one parts room.0
+        (omega (arith, most, room.1)) unread))
 
     module _ (l : Line) (is : line_in u.head.partitions u.head.threads line ≡ Ok l) where
       -- what is unread after the line
@@ -75,7 +79,8 @@ module _ (u : Unread) (line after : List ℕ) (one : IsOneLine line) (parts : u.
       taken : length u.rest ≡ length line + (length after + 1)
       taken = ap length parts ∙ simp length-append (omega arith)
 
-      goes_on : (known : ℕ) (bytes : List ℕ) (ls : List Line) → IsReadUpTo known bytes ls u → IsReadUpTo known bytes (ls ++ l ∷ []) behind_it
+      goes_on : (known : ℕ) (bytes : List ℕ) (ls : List Line) → IsReadUpTo known bytes ls u →
+          IsReadUpTo known bytes (ls ++ l ∷ []) behind_it
       goes_on known bytes ls h =
           let partitions = u.head.partitions in
           let threads = u.head.threads in
@@ -96,7 +101,9 @@ module _ (u : Unread) (line after : List ℕ) (one : IsOneLine line) (parts : u.
             taken = omega (arith, so_far, taken, room.1);
             text = λ more t. subst (λ z. IsTraceText (trace_with u.head z) bytes) (sym (lines_join ls more l))
                 (h.text (l ∷ more) (lines_more more l u.rest line after parts read.0 t));
-            fault = λ e f. h.fault e (first_later partitions threads u.number (4194304 - u.left) (u.number + 1) (4194304 - (u.left - (length line + 1))) u.rest line after l e
+            fault = λ e f. h.fault e
+                (first_later partitions threads u.number (4194304 - u.left) (u.number + 1)
+                (4194304 - (u.left - (length line + 1))) u.rest line after l e
                 one parts room.0 (omega (arith, most, room.1)) read.0 read.1 refl (omega (arith, most, room.1)) f);
           }
 
@@ -117,7 +124,8 @@ end_reached u none = record {
       };
 }
 
-pub end_faulty : (u : Unread) (e : TraceFault) → IsOneLine u.rest → (u.rest ≡ [] → ⊥) → (IsOver u.number (length u.rest) u.left → e ≡ Limit u.number)
+pub end_faulty : (u : Unread) (e : TraceFault) → IsOneLine u.rest → (u.rest ≡ [] → ⊥) →
+    (IsOver u.number (length u.rest) u.left → e ≡ Limit u.number)
     → (u.number ≤ 65536 → length u.rest ≤ u.left → e ≡ BadLine u.number) → IsFaultRead u e
 end_faulty u e one some' past bad known bytes ls h =
     let most = h.room in

@@ -14,7 +14,8 @@ word_then_number word n = word ++ decimal n
 
 -- a space and the op
 abbrev pub op_text : Op → List ℕ
-op_text (Alloc reg partition size) = word_then_number (codes " A r") reg ++ word_then_number (codes " p") partition ++ word_then_number (codes " ") size
+op_text (Alloc reg partition size) = word_then_number (codes " A r") reg ++ word_then_number (codes " p") partition ++
+    word_then_number (codes " ") size
 op_text (Copy from to) = word_then_number (codes " C r") from ++ word_then_number (codes " r") to
 op_text (Reset reg) = word_then_number (codes " R r") reg
 op_text (Free reg) = word_then_number (codes " F r") reg

@@ -121,7 +121,7 @@ fn is_past(n: u32, length: usize, room: usize) -> bool
     n > MOST_LINES || length > room
 }
 
-/// The fault of line `n`, which is neither one line nor one byte too many.
+/// What the trace's fault is where line `n` has this one.
 pub fn fault_at(n: u32, fault: LineFault) -> TraceFault
     ensures told { result ≡ told n fault }
     ensures never { result ≢ faults.OutOfMemory }

@@ -9,11 +9,13 @@ use Rattle.pa_trace.specs.Unread.{trace_with}
 use Rattle.pa_trace.proofs.Written.{more_written, none_written, trace_written}
 
 -- a head, after which no line comes yet
-pub head_alone : (head : Head) (start text : List ℕ) → start ≡ [] → Appends (IsHeadLine last_version head) start text → IsTraceText (trace_with head []) text
+pub head_alone : (head : Head) (start text : List ℕ) → start ≡ [] → Appends (IsHeadLine last_version head) start text →
+    IsTraceText (trace_with head []) text
 head_alone head start text none more = trace_written (trace_with head []) [] start text text none refl more (none_written text)
 
 -- a text of one line more
-pub line_more : (head : Head) (ls : List Line) (l : Line) (old new : List ℕ) → IsTraceText (trace_with head ls) old → Appends (IsBodyLine l) old new
+pub line_more : (head : Head) (ls : List Line) (l : Line) (old new : List ℕ) → IsTraceText (trace_with head ls) old →
+    Appends (IsBodyLine l) old new
     → IsTraceText (trace_with head (ls ++ l ∷ [])) new
 line_more head ls l old new (first, rest, is_head, lines, is, version) more =
     let front : List ℕ = first ++ 10 ∷ [] in

@@ -30,20 +30,24 @@ given_from : (es : List CellEntry) (j : ℕ) (found : Held) → WasGiven es j fo
 given_from es zero found h = h
 given_from es (suc j) found h = h
 
-later_given : (held : Held) (d : CellEntry) (es : List CellEntry) (j : ℕ) (found : Held) → GivenFrom d.gave es j found → GivenFrom held (d ∷ es) (suc j) found
+later_given : (held : Held) (d : CellEntry) (es : List CellEntry) (j : ℕ) (found : Held) → GivenFrom d.gave es j found →
+    GivenFrom held (d ∷ es) (suc j) found
 later_given held d es zero found h = (d, refl, h)
 later_given held d es (suc j) found h = h
 
-chain_given : (held : Held) (es : List CellEntry) (j : ℕ) (e : CellEntry) → IsChain held es → slice_get es j ≡ Some e → GivenFrom held es j e.found
+chain_given : (held : Held) (es : List CellEntry) (j : ℕ) (e : CellEntry) → IsChain held es → slice_get es j ≡ Some e →
+    GivenFrom held es j e.found
 chain_given held [] j e h at = absurd (not_some e at)
 chain_given held (d ∷ es) zero e h at = ap (λ (z : CellEntry). z.found) (sym (of_some d e at)) ∙ h.0
 chain_given held (d ∷ es) (suc j) e h at = later_given held d es j e.found (chain_given d.gave es j e h.1 at)
 
-earlier_given : (held : Held) (d : CellEntry) (es : List CellEntry) (j : ℕ) (found : Held) → GivenFrom held (d ∷ es) (suc j) found → GivenFrom d.gave es j found
+earlier_given : (held : Held) (d : CellEntry) (es : List CellEntry) (j : ℕ) (found : Held) → GivenFrom held (d ∷ es) (suc j) found →
+    GivenFrom d.gave es j found
 earlier_given held d es zero found (e, at, is) = is ∙ ap (λ (z : CellEntry). z.gave) (sym (of_some d e at))
 earlier_given held d es (suc j) found h = h
 
-given_chain : (held : Held) (es : List CellEntry) → ((j : ℕ) (e : CellEntry) → slice_get es j ≡ Some e → GivenFrom held es j e.found) → IsChain held es
+given_chain : (held : Held) (es : List CellEntry) → ((j : ℕ) (e : CellEntry) → slice_get es j ≡ Some e → GivenFrom held es j e.found) →
+    IsChain held es
 given_chain held [] h = tt
 given_chain held (d ∷ es) h = (h 0 d refl, given_chain d.gave es (λ j e at. earlier_given held d es j e.found (h (suc j) e at)))
 
@@ -70,7 +74,8 @@ not_above k i l j (inr (one, less)) same same' = omega arith
 abbrev cell_line : CellEntry → ℕ
 cell_line e = e.line
 
-exchange_fits : (cells : ℕ → List CellEntry) (ps : List Played) (k j : ℕ) (e : CellEntry) → AreCells cells ps → IsExchange cells k j e → ExchangeFits cells ps k j e
+exchange_fits : (cells : ℕ → List CellEntry) (ps : List Played) (k j : ℕ) (e : CellEntry) → AreCells cells ps → IsExchange cells k j e →
+    ExchangeFits cells ps k j e
 exchange_fits cells ps k j e h at = record {
   found = given_is (cells k) j e.found (chain_given Nothing (cells k) j e (h.chain k) at);
   line = h.lines k j e at;
@@ -85,7 +90,8 @@ cells_meet t r h (places.Root p j) = tt
 cells_meet t r h (places.Pool j) = tt
 cells_meet t r h (places.Report i) = tt
 
-different : (cells : ℕ → List CellEntry) (ps : List Played) → ((k j : ℕ) (e : CellEntry) → IsExchange cells k j e → ExchangeFits cells ps k j e) → (k l i j : ℕ) (e f : CellEntry)
+different : (cells : ℕ → List CellEntry) (ps : List Played) →
+    ((k j : ℕ) (e : CellEntry) → IsExchange cells k j e → ExchangeFits cells ps k j e) → (k l i j : ℕ) (e f : CellEntry)
     → IsExchange cells k i e → IsExchange cells l j f → e.line ≡ f.line → (k ≡ l) × (i ≡ j)
 different cells ps h k l i j e f at at' same = elim (which_above k i l j) [
   | inl above ↦ absurd ((h l j f at').once k i e at above same)

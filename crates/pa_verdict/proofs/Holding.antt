@@ -28,13 +28,15 @@ use Rattle.pa_verdict.proofs.Moves.{entry_moves, moves_before, moves_split, move
 
 -- ---- from the clause to each place
 
-fit_split : (ps : List Played) (h : Holder) (pre rest : List Move) (m : Move) → MovesFit ps h (pre ++ m ∷ rest) → (x : Played) × IsOfLine ps m.line x × HolderAfter ps h pre (needed_by m.way x)
+fit_split : (ps : List Played) (h : Holder) (pre rest : List Move) (m : Move) → MovesFit ps h (pre ++ m ∷ rest) → (x : Played) ×
+    IsOfLine ps m.line x × HolderAfter ps h pre (needed_by m.way x)
 fit_split ps h [] rest m (x, of, same, more) = (x, of, sym same)
 fit_split ps h (n ∷ pre) rest m (y, of, same, more) =
     let (x, of', after) = fit_split ps (made_by n.way y) pre rest m more in
     (x, of', (y, of, after))
 
-has_fit : (ps : List Played) (s : SlotName) (k : ℕ) (pre rest : List Move) (m : Move) → HasHolders ps s k (pre ++ m ∷ rest) → (h : Holder) × IsFirstHolder ps s k h × MovesFit ps h (pre ++ m ∷ rest)
+has_fit : (ps : List Played) (s : SlotName) (k : ℕ) (pre rest : List Move) (m : Move) → HasHolders ps s k (pre ++ m ∷ rest) → (h : Holder) ×
+    IsFirstHolder ps s k h × MovesFit ps h (pre ++ m ∷ rest)
 has_fit ps s k [] rest m h = h
 has_fit ps s k (n ∷ pre) rest m h = h
 
@@ -44,9 +46,11 @@ own_move m = rw (same_slot_yes m.slot m.slot refl, eq-eqb m.number m.number refl
 -- what an entry owes for one of its moves
 abbrev IsOwed : List Played → List RootEntry → ℕ → List Move → Move → SlotName → ℕ → Type 0
 IsOwed ps es j before m s k =
-    (h : Holder) × (x : Played) × IsFirstHolder ps s k h × IsOfLine ps m.line x × HolderAfter ps h (moves_before es s k j before) (needed_by m.way x)
+    (h : Holder) × (x : Played) × IsFirstHolder ps s k h × IsOfLine ps m.line x ×
+    HolderAfter ps h (moves_before es s k j before) (needed_by m.way x)
 
-owed : (ps : List Played) (roots : Journals) (p j : ℕ) (e : RootEntry) (before after : List Move) (m : Move) → AreHolders ps roots → IsEntry roots p j e → entry_moves e ≡ before ++ m ∷ after
+owed : (ps : List Played) (roots : Journals) (p j : ℕ) (e : RootEntry) (before after : List Move) (m : Move) → AreHolders ps roots →
+    IsEntry roots p j e → entry_moves e ≡ before ++ m ∷ after
     → IsOwed ps (roots p) j before m m.slot m.number
 owed ps roots p j e before after m h at parts =
     let s = m.slot in
@@ -79,7 +83,8 @@ record AreKnown (ps : List Played) : Type 0 where
   differ : AllPairs OtherRecord ps
   slots : Slots (marks_of ps)
 
-returned_one : (ps : List Played) (s : SlotName) (k : ℕ) (x y : Played) → AreKnown ps → IsReturnedBy ps s k x → IsReturnedBy ps s k y → x ≡ y
+returned_one : (ps : List Played) (s : SlotName) (k : ℕ) (x y : Played) → AreKnown ps → IsReturnedBy ps s k x → IsReturnedBy ps s k y →
+    x ≡ y
 returned_one ps s k x y known (among, m, p, is, slot, made, back, number) (among', n, q, is', slot', made', back', number') =
     let ms = marks_of ps in
     let (vs, run, one) = known.slots s in
@@ -96,13 +101,16 @@ first_one : (ps : List Played) (s : SlotName) (k : ℕ) (h g : Holder) → AreKn
 first_one ps s k h g known (inl (none, is)) (inl (none', is')) = is ∙ sym is'
 first_one ps s k h g known (inl (none, is)) (inr (x, (among, m, p, of, slot, made, back, number), is')) = absurd (omega arith)
 first_one ps s k h g known (inr (x, (among, m, p, of, slot, made, back, number), is)) (inl (none, is')) = absurd (omega arith)
-first_one ps s k h g known (inr (x, back, is)) (inr (y, back', is')) = is ∙ ap (λ (z : Played). WithThread z.thread) (returned_one ps s k x y known back back') ∙ sym is'
+first_one ps s k h g known (inr (x, back, is)) (inr (y, back', is')) = is ∙
+    ap (λ (z : Played). WithThread z.thread) (returned_one ps s k x y known back back') ∙ sym is'
 
 -- the holder that each of these moves needs, after those before it
 abbrev AreOwed : List Played → Holder → List Move → Type 0
-AreOwed ps h ms = (pre rest : List Move) (m : Move) → ms ≡ pre ++ m ∷ rest → (x : Played) × IsOfLine ps m.line x × HolderAfter ps h pre (needed_by m.way x)
+AreOwed ps h ms = (pre rest : List Move) (m : Move) → ms ≡ pre ++ m ∷ rest → (x : Played) × IsOfLine ps m.line x ×
+    HolderAfter ps h pre (needed_by m.way x)
 
-owed_next : (ps : List Played) (h : Holder) (m : Move) (ms : List Move) (x : Played) → AllPairs OtherRecord ps → IsOfLine ps m.line x → AreOwed ps h (m ∷ ms) → AreOwed ps (made_by m.way x) ms
+owed_next : (ps : List Played) (h : Holder) (m : Move) (ms : List Move) (x : Played) → AllPairs OtherRecord ps → IsOfLine ps m.line x →
+    AreOwed ps h (m ∷ ms) → AreOwed ps (made_by m.way x) ms
 owed_next ps h m ms x differ (among, line) owes pre rest n e =
     let (y, of, (z, (among', line'), after)) = owes (m ∷ pre) rest n (ap (λ zs. m ∷ zs) e) in
     let same = same_record ps z x differ among' among (line' ∙ sym line) in
@@ -131,7 +139,8 @@ holders_whole ps s k (m ∷ ms) known owes =
           (y, of', subst (λ z. HolderAfter ps z pre (needed_by n.way y)) (first_one ps s k g h known first' first) after)),
     )
 
-moves_owed : (ps : List Played) (roots : Journals) (p : ℕ) (s : SlotName) (k : ℕ) → ((j : ℕ) (e : RootEntry) → IsEntry roots p j e → MovesOfEntryFit ps roots p j e)
+moves_owed : (ps : List Played) (roots : Journals) (p : ℕ) (s : SlotName) (k : ℕ) →
+    ((j : ℕ) (e : RootEntry) → IsEntry roots p j e → MovesOfEntryFit ps roots p j e)
     → AreMovesOwed ps s k (moves_at (roots p) s k)
 moves_owed ps roots p s k fits pre rest m e =
     let u = move_place (roots p) s k pre rest m e in
@@ -140,7 +149,8 @@ moves_owed ps roots p s k fits pre rest m e =
     let slot = same_slot_eq m.slot s parts.0 in
     let number = eqb-true m.number k parts.1 in
     let here : IsOwed ps es u.j u.before m m.slot m.number = (fits u.j u.entry u.at_place).holders u.before u.after m u.parts in
-    let there : IsOwed ps es u.j u.before m s k = subst (λ z. IsOwed ps es u.j u.before m s z) number (subst (λ z. IsOwed ps es u.j u.before m z m.number) slot here) in
+    let there : IsOwed ps es u.j u.before m s k =
+    subst (λ z. IsOwed ps es u.j u.before m s z) number (subst (λ z. IsOwed ps es u.j u.before m z m.number) slot here) in
     let (h, x, first, of, after) = there in
     (h, x, first, of, subst (λ zs. HolderAfter ps h zs (needed_by m.way x)) u.first after)
 
@@ -151,7 +161,8 @@ holders_are_places t r due slots = (
       let ps = records_of t r in
       let fits : (p j : ℕ) (e : RootEntry) → IsEntry r.roots p j e → MovesOfEntryFit ps r.roots p j e = λ p j. met (places.Root p j) in
       let known : AreKnown ps = record { differ = due_differ t r due; slots = slots } in
-      let holds : (x : Played) → Contains ps x → RecordHolds ps r.roots x = λ x among. let (i, at) = in_at ps x among in met (places.Record i) x at in
+      let holds : (x : Played) → Contains ps x → RecordHolds ps r.roots x = λ x among. let (i, at) = in_at ps x among in
+      met (places.Record i) x at in
       record {
         moves = λ p s k. holders_whole ps s k (moves_at (r.roots p) s k) known (moves_owed ps r.roots p s k (fits p));
         issues = λ x seen usable among. (holds x among).issues seen usable;

@@ -19,13 +19,15 @@ use Rattle.pa_verdict.specs.Clauses.{IsMet, RootsArePlaces}
 use Rattle.pa_lists.proofs.Indexed.{at_in, in_at}
 use Rattle.pa_verdict.proofs.Ordering.{due_differ, order_meets, order_whole}
 
-acts_at : (pools : List PoolEntry) (es : List RootEntry) (r : Root) (j : ℕ) (e : RootEntry) → RootReplays pools es r → slice_get es j ≡ Some e
+acts_at : (pools : List PoolEntry) (es : List RootEntry) (r : Root) (j : ℕ) (e : RootEntry) → RootReplays pools es r →
+    slice_get es j ≡ Some e
     → RootActFits pools e.act (root_replayed pools (take j es) r)
 acts_at pools [] r j e h at = absurd (not_some e at)
 acts_at pools (d ∷ es) r zero e h at = subst (λ (z : RootEntry). RootActFits pools z.act r) (of_some d e at) h.0
 acts_at pools (d ∷ es) r (suc j) e h at = acts_at pools es (root_next pools d.act r) j e h.1 at
 
-acts_whole : (pools : List PoolEntry) (es : List RootEntry) (r : Root) → ((j : ℕ) (e : RootEntry) → slice_get es j ≡ Some e → RootActFits pools e.act (root_replayed pools (take j es) r))
+acts_whole : (pools : List PoolEntry) (es : List RootEntry) (r : Root) →
+    ((j : ℕ) (e : RootEntry) → slice_get es j ≡ Some e → RootActFits pools e.act (root_replayed pools (take j es) r))
     → RootReplays pools es r
 acts_whole pools [] r h = tt
 acts_whole pools (d ∷ es) r h = (h 0 d refl, acts_whole pools es (root_next pools d.act r) (λ j. h (suc j)))
@@ -34,7 +36,8 @@ acts_whole pools (d ∷ es) r h = (h 0 d refl, acts_whole pools es (root_next po
 
 abbrev pub AreRising : List RootEntry → Type 0
 AreRising es =
-    (i j a b : ℕ) (e f : RootEntry) → slice_get es i ≡ Some e → slice_get es j ≡ Some f → i < j → asked_by e.act ≡ Some a → asked_by f.act ≡ Some b → a < b
+    (i j a b : ℕ) (e f : RootEntry) → slice_get es i ≡ Some e → slice_get es j ≡ Some f → i < j → asked_by e.act ≡ Some a →
+    asked_by f.act ≡ Some b → a < b
 
 abbrev pub AreFrom : ℕ → List RootEntry → Type 0
 AreFrom least es = (j b : ℕ) (f : RootEntry) → slice_get es j ≡ Some f → asked_by f.act ≡ Some b → least ≤ b
@@ -79,7 +82,8 @@ rising_all (d ∷ es) least h (suc i) (suc j) a b e f at at' less asks asks' =
     let k = behind (asked_by d.act) least (all_asked es) h in
     rising_all es k.next k.rest i j a b e f at at' (omega arith) asks asks'
 
-rise_cons : (o : Option ℕ) (least : ℕ) (ns : List ℕ) → ((a : ℕ) → o ≡ Some a → (least ≤ a) × RiseFrom (a + 1) ns) → (o ≡ None → RiseFrom least ns) → RiseFrom least (cons_option o ns)
+rise_cons : (o : Option ℕ) (least : ℕ) (ns : List ℕ) → ((a : ℕ) → o ≡ Some a → (least ≤ a) × RiseFrom (a + 1) ns) →
+    (o ≡ None → RiseFrom least ns) → RiseFrom least (cons_option o ns)
 rise_cons None least ns some none = none refl
 rise_cons (Some a) least ns some none = some a refl
 
@@ -88,7 +92,10 @@ rise_whole [] least from rising = tt
 rise_whole (e ∷ es) least from rising =
     let later : AreRising es = λ i j a b f g at at' less. rising (suc i) (suc j) a b f g at at' (omega arith) in
     rise_cons (asked_by e.act) least (all_asked es)
-    (λ a is. (from 0 a e refl is, rise_whole es (a + 1) (λ j b f at asks. let up = rising 0 (suc j) a b e f refl at (omega arith) is asks in omega arith) later))
+    (λ a is. (
+      from 0 a e refl is,
+      rise_whole es (a + 1) (λ j b f at asks. let up = rising 0 (suc j) a b e f refl at (omega arith) is asks in omega arith) later,
+    ))
     (λ none. rise_whole es least (λ j. from (suc j)) later)
 
 -- ---- the clause
@@ -100,13 +107,15 @@ none_at : {A : Type 0} (xs : List A) → ((x : A) → slice_get xs 0 ≡ Some x 
 none_at [] h = refl
 none_at (x ∷ xs) h = absurd (h x refl)
 
-not_past : (partitions : ℕ) (ps : List Played) (pools : List PoolEntry) (roots : Journals) (p j : ℕ) (e : RootEntry) → AreRoots partitions ps pools roots → IsEntry roots p j e → p < partitions
+not_past : (partitions : ℕ) (ps : List Played) (pools : List PoolEntry) (roots : Journals) (p j : ℕ) (e : RootEntry) →
+    AreRoots partitions ps pools roots → IsEntry roots p j e → p < partitions
 not_past partitions ps pools roots p j e h at = elim (cases_lt p partitions) [
   | inl less ↦ less
   | inr past ↦ absurd (not_some e (subst (λ zs. slice_get zs j ≡ Some e) (h.none_past p past) at))
 ]
 
-entry_fits : (partitions : ℕ) (ps : List Played) (pools : List PoolEntry) (roots : Journals) (p j : ℕ) (e : RootEntry) → AreRoots partitions ps pools roots → IsEntry roots p j e
+entry_fits : (partitions : ℕ) (ps : List Played) (pools : List PoolEntry) (roots : Journals) (p j : ℕ) (e : RootEntry) →
+    AreRoots partitions ps pools roots → IsEntry roots p j e
     → EntryFits partitions ps pools roots p j e
 entry_fits partitions ps pools roots p j e h at = record {
   partition = not_past partitions ps pools roots p j e h at;
@@ -128,12 +137,14 @@ roots_are_places t r due = (
   roots_meet t r,
   λ met.
       let ps = records_of t r in
-      let fits : (p j : ℕ) (e : RootEntry) → IsEntry r.roots p j e → EntryFits t.partitions ps r.pools r.roots p j e = λ p j. met (places.Root p j) in
+      let fits : (p j : ℕ) (e : RootEntry) → IsEntry r.roots p j e →
+      EntryFits t.partitions ps r.pools r.roots p j e = λ p j. met (places.Root p j) in
       record {
         one = told_once t r;
         journals = λ p. record {
           replays = acts_whole r.pools (r.roots p) new_root (λ j e at. (fits p j e at).fits);
-          rise = rise_whole (r.roots p) 0 (λ j b f at asks. omega arith) (λ i j a b e f at at' less asks asks'. (fits p j f at').rises i a b e at less asks asks');
+          rise = rise_whole (r.roots p) 0 (λ j b f at asks. omega arith)
+              (λ i j a b e f at at' less asks asks'. (fits p j f at').rises i a b e at less asks asks');
         };
         lines = λ p j e at. (fits p j e at).line;
         order = λ p. order_whole ps root_line (r.roots p) (due_differ t r due) (λ j e at. (fits p j e at).order);

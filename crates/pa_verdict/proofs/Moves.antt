@@ -64,18 +64,22 @@ entry_moves e = moves_by e.line e.act
 abbrev pub moves_before : List RootEntry → SlotName → ℕ → ℕ → List Move → List Move
 moves_before es s k j before = moves_at (take j es) s k ++ filter (is_move_of s k) before
 
-one_more : (d : RootEntry) (es : List RootEntry) (s : SlotName) (k : ℕ) → moves_at (d ∷ es) s k ≡ filter (is_move_of s k) (entry_moves d) ++ moves_at es s k
+one_more : (d : RootEntry) (es : List RootEntry) (s : SlotName) (k : ℕ) → moves_at (d ∷ es) s k ≡ filter (is_move_of s k) (entry_moves d) ++
+    moves_at es s k
 one_more d es s k = filter-append (is_move_of s k) (entry_moves d) (flat_map entry_moves es)
 
-pub moves_split : (es : List RootEntry) (s : SlotName) (k j : ℕ) (e : RootEntry) (before after : List Move) (m : Move) → slice_get es j ≡ Some e → entry_moves e ≡ before ++ m ∷ after
+pub moves_split : (es : List RootEntry) (s : SlotName) (k j : ℕ) (e : RootEntry) (before after : List Move) (m : Move) →
+    slice_get es j ≡ Some e → entry_moves e ≡ before ++ m ∷ after
     → is_move_of s k m ≡ true → (rest : List Move) × (moves_at es s k ≡ moves_before es s k j before ++ m ∷ rest)
 moves_split [] s k j e before after m at parts hit = absurd (not_some e at)
 moves_split (d ∷ es) s k zero e before after m at parts hit =
     let test = is_move_of s k in
     let here = ap entry_moves (of_some d e at) ∙ parts in
-    let cut = ap (filter test) here ∙ filter-append test before (m ∷ after) ∙ ap (λ zs. filter test before ++ zs) (filter_here test m after hit) in (
+    let cut = ap (filter test) here ∙ filter-append test before (m ∷ after) ∙
+    ap (λ zs. filter test before ++ zs) (filter_here test m after hit) in (
       filter test after ++ moves_at es s k,
-      one_more d es s k ∙ ap (λ zs. zs ++ moves_at es s k) cut ∙ append_assoc (filter test before) (m ∷ filter test after) (moves_at es s k),
+      one_more d es s k ∙ ap (λ zs. zs ++ moves_at es s k) cut ∙
+          append_assoc (filter test before) (m ∷ filter test after) (moves_at es s k),
     )
 moves_split (d ∷ es) s k (suc j) e before after m at parts hit =
     let test = is_move_of s k in
@@ -99,7 +103,8 @@ pub record IsMoveAt (es : List RootEntry) (s : SlotName) (k : ℕ) (pre : List M
   pub passes : is_move_of s k m ≡ true
   pub first : moves_before es s k j before ≡ pre
 
-pub move_place : (es : List RootEntry) (s : SlotName) (k : ℕ) (pre rest : List Move) (m : Move) → moves_at es s k ≡ pre ++ m ∷ rest → IsMoveAt es s k pre m
+pub move_place : (es : List RootEntry) (s : SlotName) (k : ℕ) (pre rest : List Move) (m : Move) → moves_at es s k ≡ pre ++ m ∷ rest →
+    IsMoveAt es s k pre m
 move_place [] s k pre rest m e = absurd (no_parts pre rest m e)
 move_place (d ∷ es) s k pre rest m e =
     let test = is_move_of s k in
@@ -107,7 +112,16 @@ move_place (d ∷ es) s k pre rest m e =
     elim (append_cut here (moves_at es s k) pre rest m (sym (one_more d es s k) ∙ e)) [
       | inl (more, is) ↦
           let u = filtered test (entry_moves d) pre more m is in
-          record { j = 0; entry = d; before = u.before; after = u.after; at_place = refl; parts = u.parts; passes = u.passes; first = u.first }
+          record {
+            j = 0;
+            entry = d;
+            before = u.before;
+            after = u.after;
+            at_place = refl;
+            parts = u.parts;
+            passes = u.passes;
+            first = u.first;
+          }
       | inr (next, is, there) ↦
           let u = move_place es s k next rest m there in
           let left = moves_at (take u.j es) s k in
@@ -120,6 +134,7 @@ move_place (d ∷ es) s k pre rest m e =
             at_place = u.at_place;
             parts = u.parts;
             passes = u.passes;
-            first = ap (λ zs. zs ++ mid) (one_more d (take u.j es) s k) ∙ append_assoc here left mid ∙ ap (λ zs. here ++ zs) u.first ∙ sym is;
+            first = ap (λ zs. zs ++ mid) (one_more d (take u.j es) s k) ∙ append_assoc here left mid ∙ ap (λ zs. here ++ zs) u.first ∙
+                sym is;
           }
     ]

@@ -31,7 +31,8 @@ IsAt ps line x = Contains ps x × (x.line ≡ line)
 -- the entries of a list are in the order of their records
 abbrev pub AreInOrder : {A : Type 0} → List Played → (A → ℕ) → List A → Type 0
 AreInOrder {A} ps f xs =
-    (i j : ℕ) (e g : A) (x y : Played) → slice_get xs i ≡ Some e → slice_get xs j ≡ Some g → IsAt ps (f e) x → IsAt ps (f g) y → StandsBefore x y → i < j
+    (i j : ℕ) (e g : A) (x y : Played) → slice_get xs i ≡ Some e → slice_get xs j ≡ Some g → IsAt ps (f e) x → IsAt ps (f g) y →
+    StandsBefore x y → i < j
 
 pub order_meets : {A : Type 0} (ps : List Played) (f : A → ℕ) (xs : List A) (j : ℕ) → AreInOrder ps f xs → ComesInOrder ps (map f xs) j
 order_meets ps f xs j h i m n x y at at' less among is among' is' before =
@@ -40,7 +41,8 @@ order_meets ps f xs j h i m n x y at at' less among is among' is' before =
     let back = h j i g e y x there' there (among', is' ∙ sym same') (among, is ∙ sym same) before in
     omega arith
 
-pub order_whole : {A : Type 0} (ps : List Played) (f : A → ℕ) (xs : List A) → AllPairs OtherRecord ps → ((j : ℕ) (e : A) → slice_get xs j ≡ Some e → ComesInOrder ps (map f xs) j)
+pub order_whole : {A : Type 0} (ps : List Played) (f : A → ℕ) (xs : List A) → AllPairs OtherRecord ps →
+    ((j : ℕ) (e : A) → slice_get xs j ≡ Some e → ComesInOrder ps (map f xs) j)
     → AreInOrder ps f xs
 order_whole ps f xs differ h i j e g x y at at' (among, is) (among', is') before = elim (cases_order i j) [
   | inl same ↦

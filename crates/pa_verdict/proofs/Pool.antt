@@ -20,7 +20,8 @@ replays_at pools [] s j e h at = absurd (not_some e at)
 replays_at pools (d ∷ es) s zero e h at = subst (λ (z : PoolEntry). PoolActFits pools z.partition z.act s) (of_some d e at) h.0
 replays_at pools (d ∷ es) s (suc j) e h at = replays_at pools es (pool_next d.act s) j e h.1 at
 
-replays_whole : (pools es : List PoolEntry) (s : PoolState) → ((j : ℕ) (e : PoolEntry) → slice_get es j ≡ Some e → PoolActFits pools e.partition e.act (pool_replayed (take j es) s))
+replays_whole : (pools es : List PoolEntry) (s : PoolState) →
+    ((j : ℕ) (e : PoolEntry) → slice_get es j ≡ Some e → PoolActFits pools e.partition e.act (pool_replayed (take j es) s))
     → PoolReplays pools es s
 replays_whole pools [] s h = tt
 replays_whole pools (d ∷ es) s h = (h 0 d refl, replays_whole pools es (pool_next d.act s) (λ j. h (suc j)))
@@ -28,7 +29,8 @@ replays_whole pools (d ∷ es) s h = (h 0 d refl, replays_whole pools es (pool_n
 abbrev pool_line : PoolEntry → ℕ
 pool_line e = e.line
 
-pool_entry_fits : (supers : ℕ) (ps : List Played) (pools : List PoolEntry) (roots : Journals) (j : ℕ) (e : PoolEntry) → IsPoolOf supers ps pools roots → IsPoolEntry pools j e
+pool_entry_fits : (supers : ℕ) (ps : List Played) (pools : List PoolEntry) (roots : Journals) (j : ℕ) (e : PoolEntry) →
+    IsPoolOf supers ps pools roots → IsPoolEntry pools j e
     → PoolEntryFits supers ps pools roots j e
 pool_entry_fits supers ps pools roots j e h at = record {
   fits = replays_at pools pools (new_pool supers) j e h.fits at;
@@ -49,7 +51,8 @@ pool_is_places t r due = (
   pool_meets t r,
   λ met.
       let ps = records_of t r in
-      let fits : (j : ℕ) (e : PoolEntry) → IsPoolEntry r.pools j e → PoolEntryFits t.region ps r.pools r.roots j e = λ j. met (places.Pool j) in
+      let fits : (j : ℕ) (e : PoolEntry) → IsPoolEntry r.pools j e →
+      PoolEntryFits t.region ps r.pools r.roots j e = λ j. met (places.Pool j) in
       record {
         fits = replays_whole r.pools r.pools (new_pool t.region) (λ j e at. (fits j e at).fits);
         named = λ j e at. (fits j e at).named;

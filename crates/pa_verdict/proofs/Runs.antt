@@ -19,7 +19,8 @@ use Rattle.pa_lists.proofs.Indexed.{at_in, in_at}
 use Rattle.pa_verdict.proofs.Ordering.{due_differ}
 
 -- two runs of a slot from one word are one
-pub same_run : (ms : List Mark) (s : SlotName) (u w : ℕ) (vs ws : List ℕ) → AllPairs OtherLine ms → u ≡ w → IsRunFrom ms s u vs → IsRunFrom ms s w ws → vs ≡ ws
+pub same_run : (ms : List Mark) (s : SlotName) (u w : ℕ) (vs ws : List ℕ) → AllPairs OtherLine ms → u ≡ w → IsRunFrom ms s u vs →
+    IsRunFrom ms s w ws → vs ≡ ws
 same_run ms s u w [] [] h e f g = refl
 same_run ms s u w [] (x ∷ xs) h e f (m, p, first, can, is, rest) =
     absurd (f m p (subst (λ z. IsFirstAt ms s z m p) (sym e) first) (subst (λ z. CanStep p z) (sym e) can))
@@ -53,7 +54,8 @@ mark_or_none (n ∷ ms) s = elim (same_slot_cases n.slot s) [
   ]
 ]
 
-slot_whole : (ms : List Mark) (s : SlotName) → AllPairs OtherLine ms → ((m : Mark) → Contains ms m → MarkFits ms m) → (vs : List ℕ) × IsRunFrom ms s 0 vs × IsOneRun ms s (0 ∷ vs)
+slot_whole : (ms : List Mark) (s : SlotName) → AllPairs OtherLine ms → ((m : Mark) → Contains ms m → MarkFits ms m) → (vs : List ℕ) ×
+    IsRunFrom ms s 0 vs × IsOneRun ms s (0 ∷ vs)
 slot_whole ms s differ fits = elim (mark_or_none ms s) [
   | inl (m, among, same) ↦
       let (vs, run, found, used) = fits m among in

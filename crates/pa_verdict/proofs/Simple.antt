@@ -26,7 +26,10 @@ lines_meet t r h (places.Cell k j) = tt
 lines_meet t r h (places.Report i) = tt
 
 pub lines_are_places : LinesArePlaces
-lines_are_places t r = (lines_meet t r, λ met. same_lists (map key_of_entry r.entries) (map key_of_line (op_lines (rules_of t) 2 1 t.lines)) (λ i. met (places.Record i)))
+lines_are_places t r = (
+  lines_meet t r,
+  λ met. same_lists (map key_of_entry r.entries) (map key_of_line (op_lines (rules_of t) 2 1 t.lines)) (λ i. met (places.Record i)),
+)
 
 contents_meet : (t : Trace) (r : Told) → AreContents (usable_of t.version) r.cells (records_of t r) → IsMet clauses.Contents t r
 contents_meet t r h (places.Record i) = λ x at. h x (at_in (records_of t r) i x at)
@@ -55,14 +58,16 @@ seen_is_places t r = (
   seen_meets t r,
   λ met. record {
     ahead = λ x among. let (i, at) = in_at (records_of t r) x among in (met (places.Record i) x at).0;
-    rising = λ x y m n first second before. let (i, at) = in_at (records_of t r) y second in (met (places.Record i) y at).1 x m n first before;
+    rising = λ x y m n first second before. let (i, at) = in_at (records_of t r) y second in
+        (met (places.Record i) y at).1 x m n first before;
   },
 )
 
 abbrev IsRight : Trace → Told → ReportLine → Type 0
 IsRight t r l = IsReportLine t.partitions t.threads (records_of t r) r.pools r.roots l
 
-report_meets : (t : Trace) (r : Told) → IsReport (phases_in t.lines) t.partitions t.threads (records_of t r) r.pools r.roots r.report → IsMet clauses.Report t r
+report_meets : (t : Trace) (r : Told) → IsReport (phases_in t.lines) t.partitions t.threads (records_of t r) r.pools r.roots r.report →
+    IsMet clauses.Report t r
 report_meets t r h (places.Report i) = (
   ap (λ zs. slice_get zs i) h.places,
   λ l at. All-contains (IsRight t r) r.report l h.right (at_in r.report i l at),
@@ -76,7 +81,8 @@ pub report_is_places : ReportIsPlaces
 report_is_places t r = (
   report_meets t r,
   λ met. record {
-    places = same_lists (map (λ (l : ReportLine). (l.phase, l.partition)) r.report) (phases_of t.partitions 1 (phases_in t.lines)) (λ i. (met (places.Report i)).0);
+    places = same_lists (map (λ (l : ReportLine). (l.phase, l.partition)) r.report) (phases_of t.partitions 1 (phases_in t.lines))
+        (λ i. (met (places.Report i)).0);
     right = all_from_members (IsRight t r) r.report (λ l among. let (i, at) = in_at r.report l among in (met (places.Report i)).1 l at);
   },
 )

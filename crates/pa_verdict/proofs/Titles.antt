@@ -52,7 +52,8 @@ part_taken pools n es h = record {
 part_self : (pools : List PoolEntry) (es : List RootEntry) → IsJournal pools es → IsPartOf pools es es
 part_self pools es h = record { fits = h; among = λ j e at. at }
 
-part_up_to : (pools : List PoolEntry) (p n q : ℕ) (roots : Journals) → IsJournal pools (roots q) → IsPartOf pools (up_to p n roots q) (roots q)
+part_up_to : (pools : List PoolEntry) (p n q : ℕ) (roots : Journals) → IsJournal pools (roots q) →
+    IsPartOf pools (up_to p n roots q) (roots q)
 part_up_to pools p n q roots h = elim (cases_Bool (nat_lt q p)) [
   | inl below ↦ rw below (part_self pools (roots q) h)
   | inr other ↦ elim (cases_Bool (q == p)) [
@@ -61,8 +62,10 @@ part_up_to pools p n q roots h = elim (cases_Bool (nat_lt q p)) [
   ]
 ]
 
-parts_own : (supers partitions : ℕ) (ps : List Played) (pools : List PoolEntry) (roots parts : Journals) → AreRoots partitions ps pools roots → IsPoolOf supers ps pools roots
-    → ((q : ℕ) → IsPartOf pools (parts q) (roots q)) → (p q : ℕ) (t u : Title) → IsMadeBy pools (parts p) t → IsMadeBy pools (parts q) u → t.born ≡ u.born → p ≡ q
+parts_own : (supers partitions : ℕ) (ps : List Played) (pools : List PoolEntry) (roots parts : Journals) →
+    AreRoots partitions ps pools roots → IsPoolOf supers ps pools roots
+    → ((q : ℕ) → IsPartOf pools (parts q) (roots q)) → (p q : ℕ) (t u : Title) → IsMadeBy pools (parts p) t → IsMadeBy pools (parts q) u →
+    t.born ≡ u.born → p ≡ q
 parts_own supers partitions ps pools roots parts r h are p q t u made made' same =
     let (i, e, at, named) = titles_are_asked pools (parts p) t (are p).fits made in
     let (k, f, at', named') = titles_are_asked pools (parts q) u (are q).fits made' in
@@ -70,7 +73,8 @@ parts_own supers partitions ps pools roots parts r h are p q t u made made' same
     let (x, is) = asked_is pools (roots p) i t.born e (r.journals p) there named in
     (h.once t.born p q i k x is (e, there, named) (f, (are q).among k f at', named' ∙ ap Some (sym same))).0
 
-pub titles_meet : (t : Trace) (r : Told) → AreRoots t.partitions (records_of t r) r.pools r.roots → IsPoolOf t.region (records_of t r) r.pools r.roots → IsMet clauses.Titles t r
+pub titles_meet : (t : Trace) (r : Told) → AreRoots t.partitions (records_of t r) r.pools r.roots →
+    IsPoolOf t.region (records_of t r) r.pools r.roots → IsMet clauses.Titles t r
 titles_meet t r roots pool (places.Root p j) =
     let parts = up_to p (j + 1) r.roots in
     let are : (q : ℕ) → IsPartOf r.pools (parts q) (r.roots q) = λ q. part_up_to r.pools p (j + 1) q r.roots (roots.journals q) in
@@ -89,7 +93,8 @@ below_whole p n q roots less = rw (lt-ltb q p less) refl
 
 titles_whole : (t : Trace) (r : Told) → IsMet clauses.Titles t r → AreAllTitles r.pools r.roots
 titles_whole t r met = record {
-  titles = λ p. subst (λ zs. AreTitles r.pools (IsMadeBy r.pools zs)) (below_whole (p + 1) 1 p r.roots (omega arith)) ((met (places.Root (p + 1) 0)).titles p);
+  titles = λ p. subst (λ zs. AreTitles r.pools (IsMadeBy r.pools zs)) (below_whole (p + 1) 1 p r.roots (omega arith))
+      ((met (places.Root (p + 1) 0)).titles p);
   owned = λ p q u v made made' same.
       (met (places.Root (p + q + 1) 0)).owned p q u v
       (subst (λ zs. IsMadeBy r.pools zs u) (sym (below_whole (p + q + 1) 1 p r.roots (omega arith))) made)

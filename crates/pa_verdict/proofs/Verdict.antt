@@ -60,7 +60,8 @@ pub titles_never_fail : TitlesNeverFail
 titles_never_fail t r before =
     let u = told_by r in
     let lines = (lines_are_places t u).1 (before clauses.Lines (omega arith)) in
-    titles_are_places.met t u ((roots_are_places t u lines).1 (before clauses.Roots (omega arith))) ((pool_is_places t u lines).1 (before clauses.Pool (omega arith)))
+    titles_are_places.met t u ((roots_are_places t u lines).1 (before clauses.Roots (omega arith)))
+    ((pool_is_places t u lines).1 (before clauses.Pool (omega arith)))
 
 -- ---- one verdict
 

@@ -52,11 +52,13 @@ ReportIsPlaces =
 
 -- if the lines are right, the clause of the cells holds if and only if each place meets it
 abbrev pub CellsArePlaces : Type 0
-CellsArePlaces = (t : Trace) (r : Told) → AreDue (rules_of t) t.lines r.entries → AreCells r.cells (records_of t r) ↔ IsMet clauses.Cells t r
+CellsArePlaces = (t : Trace) (r : Told) → AreDue (rules_of t) t.lines r.entries →
+    AreCells r.cells (records_of t r) ↔ IsMet clauses.Cells t r
 
 -- if the lines are right, the clause of the slots holds if and only if each place meets it
 abbrev pub SlotsArePlaces : Type 0
-SlotsArePlaces = (t : Trace) (r : Told) → AreDue (rules_of t) t.lines r.entries → Slots (marks_of (records_of t r)) ↔ IsMet clauses.Slots t r
+SlotsArePlaces = (t : Trace) (r : Told) → AreDue (rules_of t) t.lines r.entries →
+    Slots (marks_of (records_of t r)) ↔ IsMet clauses.Slots t r
 
 -- if the lines are right, the clause of the pool holds if and only if each place meets it
 abbrev pub PoolIsPlaces : Type 0

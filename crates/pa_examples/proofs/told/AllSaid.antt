@@ -53,8 +53,10 @@ use Rattle.pa_examples.proofs.told.Threads.{steps_first, steps_second, steps_las
 
 -- by how many steps slots became live or quarantined, or ended that, until a phase
 pub record IsCounted (ps : List Played) (n : ℕ) (live quarantined : Tally) : Type 0 where
-  pub lives : (homes sizes : SlotName → ℕ) → homes the_slot ≡ 0 → sizes the_slot ≡ 16 → IsLeftBy issues frees homes sizes 0 2 (until n ps) live
-  pub waits : (homes sizes : SlotName → ℕ) → homes the_slot ≡ 0 → sizes the_slot ≡ 16 → IsLeftBy enters leaves homes sizes 0 2 (until n ps) quarantined
+  pub lives : (homes sizes : SlotName → ℕ) → homes the_slot ≡ 0 → sizes the_slot ≡ 16 →
+      IsLeftBy issues frees homes sizes 0 2 (until n ps) live
+  pub waits : (homes sizes : SlotName → ℕ) → homes the_slot ≡ 0 → sizes the_slot ≡ 16 →
+      IsLeftBy enters leaves homes sizes 0 2 (until n ps) quarantined
 
 -- What is required of the answer of the read: its log segment, what seats had seen, what is known at each phase's end, its rows, and the
 -- counts of steps.
@@ -74,7 +76,8 @@ pub record ReadFits (answer : Answer) (word value after : ℕ) (ts : List ToldRe
 limits : IsWithinLimits two_threads_trace
 limits = record { version = (omega arith, omega arith); head = search rules; lines = search rules; few = search rules }
 
-module _ (answer : Answer) (word value after : ℕ) (fits : ReadFits answer word value after (reading_so (so_read answer word value after))) where
+module _ (answer : Answer) (word value after : ℕ)
+    (fits : ReadFits answer word value after (reading_so (so_read answer word value after))) where
   abbrev so : Worked
   so = so_read answer word value after
 
@@ -100,7 +103,25 @@ module _ (answer : Answer) (word value after : ℕ) (fits : ReadFits answer word
           (
             refl,
             (
-              (refl, (0, 0, false, refl, record { since = no_deeds; unclean = false; rest = []; pair = refl; none = refl; quiet = refl; clean = refl; in_use = omega arith })),
+              (
+                refl,
+                (
+                  0,
+                  0,
+                  false,
+                  refl,
+                  record {
+                    since = no_deeds;
+                    unclean = false;
+                    rest = [];
+                    pair = refl;
+                    none = refl;
+                    quiet = refl;
+                    clean = refl;
+                    in_use = omega arith;
+                  },
+                ),
+              ),
               (([], tt, refl), tt),
             ),
           ),
@@ -134,7 +155,10 @@ module _ (answer : Answer) (word value after : ℕ) (fits : ReadFits answer word
             record { heard_it = covered (seen_number 2) (seen_number 4) refl },
             (
               record { heard_it = fits.heard },
-              (record { heard_it = covered (seen_number 3) (seen_number 4) refl }, (record { heard_it = covered (seen_number 4) (seen_number 4) refl }, tt)),
+              (
+                record { heard_it = covered (seen_number 3) (seen_number 4) refl },
+                (record { heard_it = covered (seen_number 4) (seen_number 4) refl }, tt),
+              ),
             ),
           ),
         ),
@@ -152,7 +176,8 @@ module _ (answer : Answer) (word value after : ℕ) (fits : ReadFits answer word
     | inr n1 ↦ elim (cases_eq 2 n) [
       | inl e ↦ subst (λ m. EndsPhase m (seat_until ts m) (seat_last so) ts) e (to_last 2 (ends_2 answer word value after fits.second))
       | inr n2 ↦ elim (cases_eq 3 n) [
-        | inl e ↦ subst (λ m. EndsPhase m (seat_until ts m) (seat_last so) ts) e (to_last 3 (ends_3 answer word value after fits.last.until))
+        | inl e ↦ subst (λ m. EndsPhase m (seat_until ts m) (seat_last so) ts) e
+            (to_last 3 (ends_3 answer word value after fits.last.until))
         | inr n3 ↦ absurd (omega arith)
       ]
     ]
@@ -172,7 +197,8 @@ module _ (answer : Answer) (word value after : ℕ) (fits : ReadFits answer word
 
   -- each record entered only what is of its line
   of_lines : (q : ℕ) → q < 6 → AreOfLines q ts
-  of_lines = below_six (λ p. AreOfLines p ts) (lines_told 0 ts refl) (lines_told 1 ts refl) (lines_told 2 ts refl) (lines_told 3 ts refl) (lines_told 4 ts refl) (lines_told 5 ts refl)
+  of_lines = below_six (λ p. AreOfLines p ts) (lines_told 0 ts refl) (lines_told 1 ts refl) (lines_told 2 ts refl) (lines_told 3 ts refl)
+      (lines_told 4 ts refl) (lines_told 5 ts refl)
 
   heap : HeapTells two_threads_trace (told_with so) ts caches_until
   heap = record {
@@ -239,16 +265,19 @@ module _ (answer : Answer) (word value after : ℕ) (fits : ReadFits answer word
 
 -- a read after a look at the slot that its record reports
 abbrev IsLook : Answer → ℕ → Type 0
-IsLook answer word = mark_of (record of_one { line = 8; thread = 1; phase = 2; op = ops.Read 0 0; answer = answer }) ≡ Some (record { line = 8; slot = the_slot; found = word; step = None })
+IsLook answer word = mark_of (record of_one { line = 8; thread = 1; phase = 2; op = ops.Read 0 0; answer = answer }) ≡ Some
+    (record { line = 8; slot = the_slot; found = word; step = None })
 
 -- What is required of the answer by itself: it is a look, and in a register's row and in the lists it changes nothing. The rest follows
 -- from what is known of logs and of what was seen.
 pub fits : (answer : Answer) (word value after : ℕ) → IsLook answer word →
     ((sizes : SlotName → ℕ) → sizes the_slot ≡ 16 → IsTold sizes (told_record (so_read answer word value after))) →
-    ((sizes : SlotName → ℕ) → sizes the_slot ≡ 16 → Row (by_length 1 sizes threads_cells) (ops.Read 0 0) after_take answer after_take) → ReadsOnly answer →
+    ((sizes : SlotName → ℕ) → sizes the_slot ≡ 16 → Row (by_length 1 sizes threads_cells) (ops.Read 0 0) after_take answer after_take) →
+    ReadsOnly answer →
     AreViewed threads_cells (reading_so (so_read answer word value after)) → KnowsUntil (reading_so (so_read answer word value after)) 1 →
     KnowsUntil (reading_so (so_read answer word value after)) 2 → KnowsLast (reading_so (so_read answer word value after)) →
-    ((u : Title) → seen_among u (seen_number after) ≤ seen_among u (seen_number 4)) → ReadFits answer word value after (reading_so (so_read answer word value after))
+    ((u : Title) → seen_among u (seen_number after) ≤ seen_among u (seen_number 4)) →
+    ReadFits answer word value after (reading_so (so_read answer word value after))
 fits answer word value after look told row cached viewed first second last heard = record {
   told = told;
   viewed = viewed;
@@ -294,7 +323,12 @@ poison_fits = fits (answers.Value (seen_at 16384 0 0x2000003) poison) 0x2000003 
       ),
     ))
     (λ sizes long. held_row sizes long 0x2000003 poison refl) (none_on two_threads_journal 8 refl, λ p c. refl) seen_so
-    (record { knows = knows_one told_first steps_first of_first; own_logs = refl; adds = λ q. refl; order = order_1 (answers.Value (seen_at 16384 0 0x2000003) poison) 0x2000003 poison 2 })
+    (record {
+      knows = knows_one told_first steps_first of_first;
+      own_logs = refl;
+      adds = λ q. refl;
+      order = order_1 (answers.Value (seen_at 16384 0 0x2000003) poison) 0x2000003 poison 2;
+    })
     (record {
       knows = knows_one told_second steps_second of_second;
       own_logs = refl;
@@ -334,7 +368,12 @@ content_fits = fits (answers.Value (seen_at 16384 0 0x2000003) 0) 0x2000003 0 2 
       ),
     ))
     (λ sizes long. held_row sizes long 0x2000003 0 refl) (none_on two_threads_journal 8 refl, λ p c. refl) other_reads_fit.content.viewed
-    (record { knows = knows_one told_first steps_first of_first; own_logs = refl; adds = λ q. refl; order = order_1 (answers.Value (seen_at 16384 0 0x2000003) 0) 0x2000003 0 2 })
+    (record {
+      knows = knows_one told_first steps_first of_first;
+      own_logs = refl;
+      adds = λ q. refl;
+      order = order_1 (answers.Value (seen_at 16384 0 0x2000003) 0) 0x2000003 0 2;
+    })
     (record {
       knows = knows_one content_second steps_second content_of_second;
       own_logs = refl;
@@ -373,8 +412,14 @@ freed_fits = fits (answers.Dangling (seen_at 16384 0 0x3000002) poison) 0x300000
         },
       ),
     ))
-    (λ sizes long. freed_row sizes long 0x3000002 poison refl) (none_on two_threads_journal 8 refl, λ p c. refl) other_reads_fit.freed.viewed
-    (record { knows = knows_one told_first steps_first of_first; own_logs = refl; adds = λ q. refl; order = order_1 (answers.Dangling (seen_at 16384 0 0x3000002) poison) 0x3000002 poison 3 })
+    (λ sizes long. freed_row sizes long 0x3000002 poison refl)
+    (none_on two_threads_journal 8 refl, λ p c. refl) other_reads_fit.freed.viewed
+    (record {
+      knows = knows_one told_first steps_first of_first;
+      own_logs = refl;
+      adds = λ q. refl;
+      order = order_1 (answers.Dangling (seen_at 16384 0 0x3000002) poison) 0x3000002 poison 3;
+    })
     (record {
       knows = knows_one freed_second steps_second freed_of_second;
       own_logs = refl;
@@ -408,4 +453,8 @@ fine read h = record {
 }
 
 pub other_reads_are_legal : OtherReadsAreLegal
-other_reads_are_legal = record { poison = fine the_read threads_say.poison; content = fine content_read threads_say.content; freed = fine freed_read threads_say.freed }
+other_reads_are_legal = record {
+  poison = fine the_read threads_say.poison;
+  content = fine content_read threads_say.content;
+  freed = fine freed_read threads_say.freed;
+}

@@ -29,11 +29,13 @@ no_hands x y h = not_some h.2 h.4
 abbrev pub NoValue : ToldRecord → Type 0
 NoValue x = (seen : Seen) (value : ℕ) → x.played.answer ≡ Value seen value → ⊥
 
-pub no_readers : (sizes : SlotName → ℕ) (cells : ℕ → List CellEntry) (ts : List ToldRecord) → ((x : ToldRecord) → Contains ts x → NoValue x) → HaveReaders 1 sizes cells ts
+pub no_readers : (sizes : SlotName → ℕ) (cells : ℕ → List CellEntry) (ts : List ToldRecord) →
+    ((x : ToldRecord) → Contains ts x → NoValue x) → HaveReaders 1 sizes cells ts
 no_readers sizes cells ts none x seen value among is = absurd (none x among seen value is)
 
 -- what is said of the written cells is said of the run's
-pub of_run : (r : Run) (written : List (List CellEntry)) → r.cells.items ≡ written → (P : (ℕ → List CellEntry) → Type 0) → P (history_at written) → P (told_by r).cells
+pub of_run : (r : Run) (written : List (List CellEntry)) → r.cells.items ≡ written → (P : (ℕ → List CellEntry) → Type 0) →
+    P (history_at written) → P (told_by r).cells
 of_run r written is P here = subst (λ xs. P (history_at xs)) (sym is) here
 
 -- the only log has no read right after a look

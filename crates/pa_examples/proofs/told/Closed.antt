@@ -55,14 +55,17 @@ not_map asked len slot e = cc
 
 made_by_free : (u : Title) → IsMadeBy two_threads_pool (roots 0) u → 0 < times_in (span_slots 256) u
 made_by_free u (inl made) = made_by_root u made
-made_by_free u (inr (e, asked, len, slot, among, act, is)) = absurd (not_map asked len slot (ap (λ (z : RootEntry). z.act) (only_one the_fill e among) ∙ act))
+made_by_free u (inr (e, asked, len, slot, among, act, is)) =
+    absurd (not_map asked len slot (ap (λ (z : RootEntry). z.act) (only_one the_fill e among) ∙ act))
 
 -- the slots of the threads' lists are of their lists' classes
 known_at : (k : ℕ) → k < 2 → IsKnown roots (caches_until 3 k)
 known_at k few = elim (cases_eq 0 k) [
-  | inl e ↦ subst (λ n. IsKnown roots (caches_until 3 n)) e (all_known 1 roots (until 3 two_threads_records) no_caches after_3 none cached_3 0)
+  | inl e ↦ subst (λ n. IsKnown roots (caches_until 3 n)) e
+      (all_known 1 roots (until 3 two_threads_records) no_caches after_3 none cached_3 0)
   | inr n0 ↦ elim (cases_eq 1 k) [
-    | inl e ↦ subst (λ n. IsKnown roots (caches_until 3 n)) e (all_known 1 roots (until 3 two_threads_records) no_caches after_3 none cached_3 1)
+    | inl e ↦ subst (λ n. IsKnown roots (caches_until 3 n)) e
+        (all_known 1 roots (until 3 two_threads_records) no_caches after_3 none cached_3 1)
     | inr n1 ↦ absurd (omega arith)
   ]
 ]
@@ -87,19 +90,28 @@ module _ (answer : Answer) (word value after : ℕ) (last : KnowsLast (reading_s
     unmaps_none _ refl,
     (
       unmaps_none _ refl,
-      (unmaps_none _ refl, (unmaps_none _ refl, (unmaps_none _ refl, (unmaps_none _ refl, (unmaps_none _ refl, (unmaps_none _ refl, tt)))))),
+      (
+        unmaps_none _ refl,
+        (
+          unmaps_none _ refl,
+          (unmaps_none _ refl, (unmaps_none _ refl, (unmaps_none _ refl, (unmaps_none _ refl, tt)))),
+        ),
+      ),
     ),
   )
 
-  listed : (k p class : ℕ) (m : Numbered) → k < 2 → p < 1 → class < 170 → Contains (caches_until 3 k p class) m → 0 < times_in (span_slots 256) (title_of sizes m.slot)
+  listed : (k p class : ℕ) (m : Numbered) → k < 2 → p < 1 → class < 170 → Contains (caches_until 3 k p class) m →
+      0 < times_in (span_slots 256) (title_of sizes m.slot)
   listed k p class m few one real among =
       let of = known_at k few p class m among in
       let home : p ≡ 0 = omega arith in
-      let (t, by, name) = has_title 1 1 two_threads_records two_threads_pool roots rooted pooled p (slot_of class) m.slot (inl (class, of, refl)) in
+      let (t, by, name) = has_title 1 1 two_threads_records two_threads_pool roots rooted pooled p (slot_of class) m.slot
+      (inl (class, of, refl)) in
       let here : IsMadeBy two_threads_pool (roots 0) t = subst (λ n. IsMadeBy two_threads_pool (roots n) t) home by in
       let long : sizes (name_of t) ≡ t.len = lengths_follow.made 1 1 0 two_threads_records two_threads_pool roots t rooted pooled here in
       let titled : t ≡ title_of sizes (name_of t) = ap (λ (n : ℕ). record { start = t.start; len = n; born = t.born }) (sym long) in
-      subst (λ (s : SlotName). 0 < times_in (span_slots 256) (title_of sizes s)) name (subst (λ u. 0 < times_in (span_slots 256) u) titled (made_by_free t here))
+      subst (λ (s : SlotName). 0 < times_in (span_slots 256) (title_of sizes s)) name
+      (subst (λ u. 0 < times_in (span_slots 256) u) titled (made_by_free t here))
 
   made_there : (p : ℕ) (u : Title) → IsMade (root_replayed two_threads_pool (roots p) new_root) u → 0 < times_in (span_slots 256) u
   made_there zero u made = made_by_root u made
@@ -113,10 +125,17 @@ module _ (answer : Answer) (word value after : ℕ) (last : KnowsLast (reading_s
       let close : CloseSays two_threads_trace (told_with so) (seat_last so) ts (says.lists 3) = subst
       (λ lists. CloseSays two_threads_trace (told_with so) (seat_last so) ts (lists 3)) (sym are) closes in
       let end = is_end answer word value after last in
-      record { says = says; closes = close; end = end; held = layers_tell_all.held last_words two_threads_trace (told_with so) (seat_last so) ts says close end }
+      record {
+        says = says;
+        closes = close;
+        end = end;
+        held = layers_tell_all.held last_words two_threads_trace (told_with so) (seat_last so) ts says close end;
+      }
 
-with_fits : (answer : Answer) (word value after : ℕ) (fits : ReadFits answer word value after (reading_so (so_read answer word value after))) → ClosesWith (so_read answer word value after)
-with_fits answer word value after fits = closes_with answer word value after fits.last (says answer word value after fits) (says_lists answer word value after fits)
+with_fits : (answer : Answer) (word value after : ℕ)
+    (fits : ReadFits answer word value after (reading_so (so_read answer word value after))) → ClosesWith (so_read answer word value after)
+with_fits answer word value after fits =
+    closes_with answer word value after fits.last (says answer word value after fits) (says_lists answer word value after fits)
 
 pub threads_close : ThreadsClose
 threads_close = record {

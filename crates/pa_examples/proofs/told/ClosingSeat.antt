@@ -47,7 +47,8 @@ module _ (answer : Answer) (word value after : ℕ) (last : KnowsLast (reading_s
   has_free t has = omega arith
 
   numbers_seen : (t : Title) → 0 < times_in (span_slots 256) t → number_of (count_word last_words t) ≡ seen_among t (seen_number 4)
-  numbers_seen = by_slot 0x4000000 (λ t. number_of (count_word last_words t) ≡ seen_among t (seen_number 4)) (ap number_of (first_word 0x4000000))
+  numbers_seen = by_slot 0x4000000 (λ t. number_of (count_word last_words t) ≡ seen_among t (seen_number 4))
+      (ap number_of (first_word 0x4000000))
       (λ t other zero_word. ap number_of zero_word ∙ rw other refl)
 
   held : FitsHolding (told_until 3 ts) (seen_number 4) v

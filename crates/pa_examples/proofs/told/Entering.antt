@@ -45,11 +45,13 @@ lines_told q ts fit x m among there =
     let own = passes (λ (y : ToldRecord). list_all (λ (n : Made). eqb (line_of n) y.played.line) (entered_in q y.stretch)) ts x fit among in
     eqb-true (line_of m) x.played.line (passes (λ (n : Made). eqb (line_of n) x.played.line) (entered_in q x.stretch) m own there)
 
-pub is_list : (q : ℕ) (list : List Made) (ts : List ToldRecord) → ((k : ℕ) → made_with k list ≡ entered_in q (log_of k ts)) → lines_fit q ts ≡ true → IsListOf q list ts
+pub is_list : (q : ℕ) (list : List Made) (ts : List ToldRecord) → ((k : ℕ) → made_with k list ≡ entered_in q (log_of k ts)) →
+    lines_fit q ts ≡ true → IsListOf q list ts
 is_list q list ts made fit = record { made = made; lines = lines_told q ts fit }
 
 pub rising : (ts : List ToldRecord) → all_pairs (λ (x y : ToldRecord). ltb x.played.line y.played.line) ts ≡ true → AreRising ts
-rising ts h = pairs_pass (λ (x y : ToldRecord). x.played.line < y.played.line) (λ x y. ltb x.played.line y.played.line) (λ x y. ltb-true x.played.line y.played.line) ts h
+rising ts h = pairs_pass (λ (x y : ToldRecord). x.played.line < y.played.line) (λ x y. ltb x.played.line y.played.line)
+    (λ x y. ltb-true x.played.line y.played.line) ts h
 
 -- at the end of a phase: what was entered, and what came later
 abbrev pub Cut : ℕ → List Made → List ToldRecord → ℕ → Type 0
@@ -71,14 +73,17 @@ pub none_past : (es : List RootEntry) (p : ℕ) → 4 ≤ p → journal_at (es �
 none_past es p past = no_journal es p (λ e. absurd (omega arith))
 
 -- what a record entered: these in the journal of partition 0, and these in the pool's list
-abbrev pub enters : (x : ToldRecord) (es : List RootEntry) (us : List PoolEntry) → map (λ (m : Made). m.numbers) (entered_in 0 x.stretch) ≡ map root_numbers es →
-    entered_in 1 x.stretch ≡ [] → entered_in 2 x.stretch ≡ [] → entered_in 3 x.stretch ≡ [] → map (λ (m : Made). m.numbers) (entered_in 4 x.stretch) ≡ map pool_numbers us → Enters x
+abbrev pub enters : (x : ToldRecord) (es : List RootEntry) (us : List PoolEntry) →
+    map (λ (m : Made). m.numbers) (entered_in 0 x.stretch) ≡ map root_numbers es →
+    entered_in 1 x.stretch ≡ [] → entered_in 2 x.stretch ≡ [] → entered_in 3 x.stretch ≡ [] →
+    map (λ (m : Made). m.numbers) (entered_in 4 x.stretch) ≡ map pool_numbers us → Enters x
 enters x es us a b c d e = record {
   roots = journal_at (es ∷ []);
   pools = us;
   roots_are =
       below_four (λ p. map (λ (m : Made). m.numbers) (entered_in p x.stretch) ≡ map root_numbers (journal_at (es ∷ []) p)) a
-      (ap (λ ms. map (λ (m : Made). m.numbers) ms) b) (ap (λ ms. map (λ (m : Made). m.numbers) ms) c) (ap (λ ms. map (λ (m : Made). m.numbers) ms) d);
+      (ap (λ ms. map (λ (m : Made). m.numbers) ms) b) (ap (λ ms. map (λ (m : Made). m.numbers) ms) c)
+      (ap (λ ms. map (λ (m : Made). m.numbers) ms) d);
   pools_are = e;
 }
 
@@ -86,8 +91,10 @@ enters x es us a b c d e = record {
 abbrev pub Asked : List Made → ToldRecord → Type 0
 Asked list x = (it : Enters x) × (AskedNone x it ⊎ AskedOnce list x it)
 
-pub asked_none : (list : List Made) (x : ToldRecord) (es : List RootEntry) → map (λ (m : Made). m.numbers) (entered_in 0 x.stretch) ≡ map root_numbers es →
-    entered_in 1 x.stretch ≡ [] → entered_in 2 x.stretch ≡ [] → entered_in 3 x.stretch ≡ [] → map (λ (m : Made). m.numbers) (entered_in 4 x.stretch) ≡ [] → filter asks es ≡ [] → Asked list x
+pub asked_none : (list : List Made) (x : ToldRecord) (es : List RootEntry) →
+    map (λ (m : Made). m.numbers) (entered_in 0 x.stretch) ≡ map root_numbers es →
+    entered_in 1 x.stretch ≡ [] → entered_in 2 x.stretch ≡ [] → entered_in 3 x.stretch ≡ [] →
+    map (λ (m : Made). m.numbers) (entered_in 4 x.stretch) ≡ [] → filter asks es ≡ [] → Asked list x
 asked_none list x es a b c d e none = (enters x es [] a b c d e, inl (record { pools = refl; roots = each }))
   where
     each : (p : ℕ) → filter asks (journal_at (es ∷ []) p) ≡ []
@@ -96,8 +103,10 @@ asked_none list x es a b c d e none = (enters x es [] a b c d e, inl (record { p
 
 -- a record that asked the pool once, for partition 0, names its entry there
 pub asked_once : (list : List Made) (x : ToldRecord) (es : List RootEntry) (m : Made) (f : PoolEntry) (e : RootEntry) (j : ℕ) →
-    map (λ (m : Made). m.numbers) (entered_in 0 x.stretch) ≡ map root_numbers es → entered_in 1 x.stretch ≡ [] → entered_in 2 x.stretch ≡ [] → entered_in 3 x.stretch ≡ [] →
-    entered_in 4 x.stretch ≡ m ∷ [] → m.numbers ≡ pool_numbers f → 0 ≡ f.partition → filter asks es ≡ e ∷ [] → asked_by e.act ≡ Some j → StandsAt list m j → Asked list x
+    map (λ (m : Made). m.numbers) (entered_in 0 x.stretch) ≡ map root_numbers es → entered_in 1 x.stretch ≡ [] →
+    entered_in 2 x.stretch ≡ [] → entered_in 3 x.stretch ≡ [] →
+    entered_in 4 x.stretch ≡ m ∷ [] → m.numbers ≡ pool_numbers f → 0 ≡ f.partition → filter asks es ≡ e ∷ [] → asked_by e.act ≡ Some j →
+    StandsAt list m j → Asked list x
 asked_once list x es m f e j a b c d made says home asked names stands = (
   enters x es (f ∷ []) a b c d (ap (λ ms. map (λ (n : Made). n.numbers) ms) made ∙ ap (λ ns. ns ∷ []) says),
   inr (record {

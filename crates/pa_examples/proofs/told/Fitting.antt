@@ -41,11 +41,13 @@ purge_list q few = below_six (λ p. IsListOf p (lists_of purge_journal purge_poo
 
 maps_list : (q : ℕ) → q < 6 → IsListOf q (lists_of direct_map_again_journal direct_map_again_pool [] q) maps_told
 maps_list q few = below_six (λ p. IsListOf p (lists_of direct_map_again_journal direct_map_again_pool [] p) maps_told)
-    (is_list 0 (map in_root direct_map_again_journal) maps_told (λ k. elim (cases_Bool (eqb 0 k)) [ inl y ↦ rw y refl | inr n ↦ rw n refl ]) refl)
+    (is_list 0 (map in_root direct_map_again_journal) maps_told
+    (λ k. elim (cases_Bool (eqb 0 k)) [ inl y ↦ rw y refl | inr n ↦ rw n refl ]) refl)
     (is_list 1 [] maps_told (λ k. elim (cases_Bool (eqb 0 k)) [ inl y ↦ rw y refl | inr n ↦ rw n refl ]) refl)
     (is_list 2 [] maps_told (λ k. elim (cases_Bool (eqb 0 k)) [ inl y ↦ rw y refl | inr n ↦ rw n refl ]) refl)
     (is_list 3 [] maps_told (λ k. elim (cases_Bool (eqb 0 k)) [ inl y ↦ rw y refl | inr n ↦ rw n refl ]) refl)
-    (is_list 4 (map in_pool direct_map_again_pool) maps_told (λ k. elim (cases_Bool (eqb 0 k)) [ inl y ↦ rw y refl | inr n ↦ rw n refl ]) refl)
+    (is_list 4 (map in_pool direct_map_again_pool) maps_told
+    (λ k. elim (cases_Bool (eqb 0 k)) [ inl y ↦ rw y refl | inr n ↦ rw n refl ]) refl)
     (is_list 5 [] maps_told (λ k. elim (cases_Bool (eqb 0 k)) [ inl y ↦ rw y refl | inr n ↦ rw n refl ]) refl)
     q few
 
@@ -53,14 +55,19 @@ maps_list q few = below_six (λ p. IsListOf p (lists_of direct_map_again_journal
 abbrev both_made : List Made
 both_made = gift_made.made ∷ taking_made.made ∷ []
 
-first_list : (q : ℕ) → q < 6 → IsListOf q (lists_of two_threads_journal two_threads_pool (gift_made.made ∷ []) q) (told_until 1 threads_told)
-first_list q few = below_six (λ p. IsListOf p (lists_of two_threads_journal two_threads_pool (gift_made.made ∷ []) p) (told_until 1 threads_told))
-    (is_list 0 (map in_root two_threads_journal) (told_until 1 threads_told) (λ k. elim (cases_Bool (eqb 0 k)) [ inl y ↦ rw y refl | inr n ↦ rw n refl ]) refl)
+first_list : (q : ℕ) → q < 6 →
+    IsListOf q (lists_of two_threads_journal two_threads_pool (gift_made.made ∷ []) q) (told_until 1 threads_told)
+first_list q few = below_six
+    (λ p. IsListOf p (lists_of two_threads_journal two_threads_pool (gift_made.made ∷ []) p) (told_until 1 threads_told))
+    (is_list 0 (map in_root two_threads_journal) (told_until 1 threads_told)
+    (λ k. elim (cases_Bool (eqb 0 k)) [ inl y ↦ rw y refl | inr n ↦ rw n refl ]) refl)
     (is_list 1 ([]) (told_until 1 threads_told) (λ k. elim (cases_Bool (eqb 0 k)) [ inl y ↦ rw y refl | inr n ↦ rw n refl ]) refl)
     (is_list 2 ([]) (told_until 1 threads_told) (λ k. elim (cases_Bool (eqb 0 k)) [ inl y ↦ rw y refl | inr n ↦ rw n refl ]) refl)
     (is_list 3 ([]) (told_until 1 threads_told) (λ k. elim (cases_Bool (eqb 0 k)) [ inl y ↦ rw y refl | inr n ↦ rw n refl ]) refl)
-    (is_list 4 (map in_pool two_threads_pool) (told_until 1 threads_told) (λ k. elim (cases_Bool (eqb 0 k)) [ inl y ↦ rw y refl | inr n ↦ rw n refl ]) refl)
-    (is_list 5 (gift_made.made ∷ []) (told_until 1 threads_told) (λ k. elim (cases_Bool (eqb 0 k)) [ inl y ↦ rw y refl | inr n ↦ rw n refl ]) refl)
+    (is_list 4 (map in_pool two_threads_pool) (told_until 1 threads_told)
+    (λ k. elim (cases_Bool (eqb 0 k)) [ inl y ↦ rw y refl | inr n ↦ rw n refl ]) refl)
+    (is_list 5 (gift_made.made ∷ []) (told_until 1 threads_told)
+    (λ k. elim (cases_Bool (eqb 0 k)) [ inl y ↦ rw y refl | inr n ↦ rw n refl ]) refl)
     q few
 
 second_list : (q : ℕ) → q < 6 → IsListOf q (lists_of two_threads_journal two_threads_pool (both_made) q) (told_until 2 threads_told)
@@ -155,7 +162,10 @@ threads_asked x among = each (Asked (threads_lists 4)) threads_told (
           asked_none (threads_lists 4) _ [] refl refl refl refl refl refl,
           (
             asked_none (threads_lists 4) _ [] refl refl refl refl refl refl,
-            (asked_none (threads_lists 4) _ [] refl refl refl refl refl refl, (asked_none (threads_lists 4) _ [] refl refl refl refl refl refl, tt)),
+            (
+              asked_none (threads_lists 4) _ [] refl refl refl refl refl refl,
+              (asked_none (threads_lists 4) _ [] refl refl refl refl refl refl, tt),
+            ),
           ),
         ),
       ),
@@ -201,7 +211,11 @@ pub no_swap : (x : ToldRecord) → entered_in 5 x.stretch ≡ [] → GivesSwap x
 no_swap x none = record { gives_it = λ m t there. absurd (not_in_none m (subst (λ ms. Contains ms m) none there)) }
 
 pub one_swap : (x : ToldRecord) (n : Made) → entered_in 5 x.stretch ≡ n ∷ [] → ((t : Title) → x.gives t ≡ seen_among t n.seen) → GivesSwap x
-one_swap x n one gives = record { gives_it = λ m t there. gives t ∙ ap (λ (z : Made). seen_among t z.seen) (only_one n m (subst (λ ms. Contains ms m) one there)) }
+one_swap x n one gives =
+    record {
+      gives_it = λ m t there. gives t ∙
+          ap (λ (z : Made). seen_among t z.seen) (only_one n m (subst (λ ms. Contains ms m) one there));
+    }
 
 threads_swapped : AreSwapped (threads_lists 5) threads_cells threads_swaps threads_told
 threads_swapped = record {
@@ -220,7 +234,11 @@ threads_swapped = record {
         (
           (λ h. let e = h.2 in absurd cc),
           (
-            (λ h. (taking_made.made, later_in gift_made.made taking_made.made (taking_made.made ∷ []) (first_in taking_made.made []), refl)),
+            (λ h. (
+              taking_made.made,
+              later_in gift_made.made taking_made.made (taking_made.made ∷ []) (first_in taking_made.made []),
+              refl,
+            )),
             ((λ h. let e = h.2 in absurd cc), ((λ h. let e = h.2 in absurd cc), ((λ h. let e = h.2 in absurd cc), tt))),
           ),
         ),
@@ -277,7 +295,13 @@ threads_answered = record {
         (
           (λ c r e. absurd cc),
           (
-            (λ c r e. (1, the_taking, refl, subst (λ (n : ℕ). slice_get (threads_cells n) 1 ≡ Some the_taking) (cell_is 0 c 0 r e) refl, refl)),
+            (λ c r e. (
+              1,
+              the_taking,
+              refl,
+              subst (λ (n : ℕ). slice_get (threads_cells n) 1 ≡ Some the_taking) (cell_is 0 c 0 r e) refl,
+              refl,
+            )),
             ((λ c r e. absurd cc), ((λ c r e. absurd cc), ((λ c r e. absurd cc), tt))),
           ),
         ),
@@ -308,13 +332,15 @@ purge_has_lists = record {
   lists_are = record {
     is = λ q few. purge_list q (omega arith);
     rising = rising purge_told refl;
-    journals = below_four (λ p. IsJournalOf (lists_of purge_journal purge_pool [] p) (journal_at (purge_journal ∷ []) p)) refl refl refl refl;
+    journals = below_four (λ p. IsJournalOf (lists_of purge_journal purge_pool [] p) (journal_at (purge_journal ∷ []) p)) refl refl refl
+        refl;
     past = none_past purge_journal;
     pool = refl;
   };
   cuts = λ q few x among.
       let all = whole_cut q (lists_of purge_journal purge_pool [] q) purge_told 1 (purge_list q few) in
-      each (λ (y : ToldRecord). Cut q (lists_of purge_journal purge_pool [] q) purge_told y.played.phase) purge_told (all, (all, (all, (all, tt)))) x among;
+      each (λ (y : ToldRecord). Cut q (lists_of purge_journal purge_pool [] q) purge_told y.played.phase) purge_told
+      (all, (all, (all, (all, tt)))) x among;
   asked = purge_asked;
 }
 
@@ -323,10 +349,12 @@ maps_pool = map in_pool direct_map_again_pool
 
 pub maps_asked : AreAsked maps_pool maps_told
 maps_asked x among = each (Asked maps_pool) maps_told (
-  asked_once maps_pool _ (map_made 2 0 16384 2002944 ∷ []) (in_pool (pool_take 2 0 1 (Some 0))) (pool_take 2 0 1 (Some 0)) (map_made 2 0 16384 2002944) 0 refl refl refl refl refl refl refl refl refl
+  asked_once maps_pool _ (map_made 2 0 16384 2002944 ∷ []) (in_pool (pool_take 2 0 1 (Some 0))) (pool_take 2 0 1 (Some 0))
+      (map_made 2 0 16384 2002944) 0 refl refl refl refl refl refl refl refl refl
       (record { older = take 0 maps_pool; rest = drop 1 maps_pool; begins = refl; index_is = refl }),
   (
-    asked_once maps_pool _ (map_gone 3 1 16384 0 2 ∷ []) (in_pool (pool_give 3 0 1 0)) (pool_give 3 0 1 0) (map_gone 3 1 16384 0 2) 1 refl refl refl refl refl refl refl refl refl
+    asked_once maps_pool _ (map_gone 3 1 16384 0 2 ∷ []) (in_pool (pool_give 3 0 1 0)) (pool_give 3 0 1 0)
+        (map_gone 3 1 16384 0 2) 1 refl refl refl refl refl refl refl refl refl
         (record { older = take 1 maps_pool; rest = drop 2 maps_pool; begins = refl; index_is = refl }),
     (
       asked_once maps_pool _ (map_made 4 2 16384 2002944 ∷ []) (in_pool (pool_take 4 0 1 (Some 0))) (pool_take 4 0 1 (Some 0))
@@ -337,10 +365,12 @@ maps_asked x among = each (Asked maps_pool) maps_told (
         (
           asked_none maps_pool _ [] refl refl refl refl refl refl,
           (
-            asked_once maps_pool _ (full 7 None 3 ∷ []) (in_pool (pool_take 7 0 1 None)) (pool_take 7 0 1 None) (full 7 None 3) 3 refl refl refl refl refl refl refl refl refl
+            asked_once maps_pool _ (full 7 None 3 ∷ []) (in_pool (pool_take 7 0 1 None)) (pool_take 7 0 1 None)
+                (full 7 None 3) 3 refl refl refl refl refl refl refl refl refl
                 (record { older = take 3 maps_pool; rest = drop 4 maps_pool; begins = refl; index_is = refl }),
             (
-              asked_once maps_pool _ (map_gone 8 4 16384 2 4 ∷ []) (in_pool (pool_give 8 0 1 0)) (pool_give 8 0 1 0) (map_gone 8 4 16384 2 4) 4 refl refl refl refl refl refl refl refl refl
+              asked_once maps_pool _ (map_gone 8 4 16384 2 4 ∷ []) (in_pool (pool_give 8 0 1 0)) (pool_give 8 0 1 0)
+                  (map_gone 8 4 16384 2 4) 4 refl refl refl refl refl refl refl refl refl
                   (record { older = take 4 maps_pool; rest = drop 5 maps_pool; begins = refl; index_is = refl }),
               (
                 asked_once maps_pool _ (map_made 9 5 16384 2002944 ∷ []) (in_pool (pool_take 9 0 1 (Some 0))) (pool_take 9 0 1 (Some 0))
@@ -362,7 +392,8 @@ direct_map_has_lists = record {
     is = λ q few. maps_list q (omega arith);
     rising = rising maps_told refl;
     journals =
-        below_four (λ p. IsJournalOf (lists_of direct_map_again_journal direct_map_again_pool [] p) (journal_at (direct_map_again_journal ∷ []) p)) refl refl refl refl;
+        below_four (λ p. IsJournalOf (lists_of direct_map_again_journal direct_map_again_pool [] p)
+        (journal_at (direct_map_again_journal ∷ []) p)) refl refl refl refl;
     past = none_past direct_map_again_journal;
     pool = refl;
   };

@@ -99,7 +99,8 @@ none_raw (t ∷ ts) rest b =
     omega arith
 
 -- two slots that cover a byte are one
-pub slots_apart : (t u : Title) (b : ℕ) → 0 < times_in (span_slots 256) t → 0 < times_in (span_slots 256) u → Covers t b → Covers u b → t ≡ u
+pub slots_apart : (t u : Title) (b : ℕ) → 0 < times_in (span_slots 256) t → 0 < times_in (span_slots 256) u → Covers t b → Covers u b →
+    t ≡ u
 slots_apart t u b first second here there =
     let (m, few, is) = slot_is 256 t (one_of_them (span_slots 256) t first) in
     let (n, few', is') = slot_is 256 u (one_of_them (span_slots 256) u second) in
@@ -117,7 +118,8 @@ shape_of s = (s.place, s.born, s.class, s.made)
 -- a slot that was made is one of the first 256
 pub made_free : (r : Root) → map shape_of r.spans ≡ (16384, 0, 0, 256) ∷ [] → (u : Title) → IsMade r u → 0 < times_in (span_slots 256) u
 made_free r spans_are u (s, among, number, below, is) =
-    let shape = only_one (16384, 0, 0, 256) (shape_of s) (subst (λ xs. Contains xs (shape_of s)) spans_are (map_in shape_of r.spans s among)) in
+    let shape = only_one (16384, 0, 0, 256) (shape_of s)
+    (subst (λ xs. Contains xs (shape_of s)) spans_are (map_in shape_of r.spans s among)) in
     let place : 16384 ≡ s.place = ap (λ (x : ℕ × ℕ × ℕ × ℕ). x.0) shape in
     let born : 0 ≡ s.born = ap (λ (x : ℕ × ℕ × ℕ × ℕ). x.1) shape in
     let class : 0 ≡ s.class = ap (λ (x : ℕ × ℕ × ℕ × ℕ). x.2) shape in
@@ -125,12 +127,14 @@ made_free r spans_are u (s, among, number, below, is) =
     let size : 16 ≡ slot_of s.class = sym sixteen_bytes ∙ ap slot_of class in
     let named : title_number number ≡ title_at s number =
     ap (λ (n : ℕ). record { start = n + 16 * number; len = 16; born = 0 }) place
-    ∙ (ap (λ (n : ℕ). record { start = s.place + n * number; len = n; born = 0 }) size ∙ ap (λ (n : ℕ). record { start = s.place + slot_of s.class * number; len = slot_of s.class; born = n }) born) in
+    ∙ (ap (λ (n : ℕ). record { start = s.place + n * number; len = n; born = 0 }) size ∙
+    ap (λ (n : ℕ). record { start = s.place + slot_of s.class * number; len = slot_of s.class; born = n }) born) in
     stands_in (span_slots 256) u (subst (λ t. Contains (span_slots 256) t) (named ∙ sym is) (slot_has 256 number (omega arith)))
 
 -- ---- the words
 
-pub words_at : (before after word i : ℕ) → (i ≡ before → slice_index (one_word before word after) i ≡ word) × ((i ≡ before → ⊥) → slice_index (one_word before word after) i ≡ 0)
+pub words_at : (before after word i : ℕ) → (i ≡ before → slice_index (one_word before word after) i ≡ word) ×
+    ((i ≡ before → ⊥) → slice_index (one_word before word after) i ≡ 0)
 unfolding blank
 words_at zero after word zero = (λ e. refl, λ ne. absurd (ne refl))
 words_at zero after word (suc i) = (λ e. absurd (omega arith), λ ne. blank_at after i)
@@ -162,7 +166,8 @@ module _ (word : ℕ) where
   other_word n some_number = let at = place_of n in (words_at 2049 260094 word (count_place (title_number n))).1 (λ e. omega arith)
 
   -- what holds of the first slot, and of each other slot that the seat has
-  pub by_slot : (P : Title → Type 0) → P its_title → ((t : Title) → same_title its_title t ≡ false → count_word words t ≡ 0 → P t) → (t : Title) → 0 < times_in (span_slots 256) t → P t
+  pub by_slot : (P : Title → Type 0) → P its_title → ((t : Title) → same_title its_title t ≡ false → count_word words t ≡ 0 → P t) →
+      (t : Title) → 0 < times_in (span_slots 256) t → P t
   by_slot P first others t free =
       let (n, below, is) = slot_is 256 t (one_of_them (span_slots 256) t free) in
       subst P is (by_number n)

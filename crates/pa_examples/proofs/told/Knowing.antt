@@ -38,10 +38,18 @@ below (suc n) k =
     elim (one_lt k n) [
       | inl y ↦ elim (one_eq n k) [
         | inl e ↦ let a = y.1 in let b = e.1 in absurd (omega arith)
-        | inr e ↦ elim (one_lt k (suc n)) [ inl z ↦ let a = y.0 in let b = e.0 in let c = z.0 in omega arith | inr z ↦ let a = y.1 in let b = z.1 in absurd (omega arith) ]
+        | inr e ↦ elim (one_lt k (suc n)) [
+          | inl z ↦ let a = y.0 in let b = e.0 in let c = z.0 in omega arith
+          | inr z ↦ let a = y.1 in
+              let b = z.1 in absurd (omega arith)
+        ]
       ]
       | inr y ↦ elim (one_eq n k) [
-        | inl e ↦ elim (one_lt k (suc n)) [ inl z ↦ let a = y.0 in let b = e.0 in let c = z.0 in omega arith | inr z ↦ let a = e.1 in let b = z.1 in absurd (omega arith) ]
+        | inl e ↦ elim (one_lt k (suc n)) [
+          | inl z ↦ let a = y.0 in let b = e.0 in let c = z.0 in omega arith
+          | inr z ↦ let a = e.1 in
+              let b = z.1 in absurd (omega arith)
+        ]
         | inr e ↦ elim (one_lt k (suc n)) [
           | inl z ↦ let a = y.1 in let b = z.1 in absurd (e.1 (omega arith))
           | inr z ↦ let a = y.0 in let b = e.0 in let c = z.0 in omega arith
@@ -94,7 +102,8 @@ module _ (ts : List ToldRecord) (history : Title → List Done) (is : AreKnown t
       history = history;
       chain = λ t. subst (λ (logs : (Entry → ℕ) → ℕ). IsChained logs t (history t)) same_logs (is.chained t);
       well = λ t mine. let a = weighed (names t) in rw (blank_long 262144) (is.well t (omega arith));
-      one_name = λ t u mine other start born. let a = weighed (names t) in let b = weighed (names u) in is.one_name t u (omega arith) (omega arith) start born;
+      one_name = λ t u mine other start born. let a = weighed (names t) in let b = weighed (names u) in
+          is.one_name t u (omega arith) (omega arith) start born;
       reads = is.reads;
     };
   }
@@ -130,7 +139,8 @@ pub record IsOfOne (ts : List ToldRecord) (steps : List Done) : Type 0 where
   pub freed : paired_of (view_of ts) gave_no_poison ≡ 0
   pub own : (t : Title) (found value : ℕ) → 0 < paired_of (view_of ts) (quiet_read true t found value) → ⊥
   pub ref : (r : ℕ) (t : Title) (found value : ℕ) → held_of found ≡ 1 → 0 < paired_of_by (view_of ts) r (quiet_read false t found value) →
-      (its_title ≡ t) × ((value ≡ content_at_number (number_of found) steps) ⊎ ((value ≡ poison) × IsFreedElsewhere (logged_of_by (view_of ts)) steps its_title r (number_of found)))
+      (its_title ≡ t) × ((value ≡ content_at_number (number_of found) steps) ⊎
+      ((value ≡ poison) × IsFreedElsewhere (logged_of_by (view_of ts)) steps its_title r (number_of found)))
 
 well_here : IsWellFormed 262144 its_title
 well_here = record { start_aligned = refl; len_aligned = refl; long = lit≤ tt; inside = lit≤ tt }
@@ -145,7 +155,8 @@ history_of_one steps t = history_if steps (same_title its_title t)
 module _ (ts : List ToldRecord) (steps : List Done) (is : IsOfOne ts steps) where
   chain_told : (t : Title) → IsChained (told_of ts) t (history_of_one steps t)
   chain_told t = elim (title_tells its_title t) [
-    | inl y ↦ subst (λ b. IsChained (told_of ts) t (history_if steps b)) (sym y.0) (subst (λ u. IsChained (told_of ts) u steps) y.1 is.chained)
+    | inl y ↦ subst (λ b. IsChained (told_of ts) t (history_if steps b)) (sym y.0)
+        (subst (λ u. IsChained (told_of ts) u steps) y.1 is.chained)
     | inr n ↦ subst (λ b. IsChained (told_of ts) t (history_if steps b)) (sym n.0) (chain_there ts t (is.other t n.0))
   ]
 
@@ -156,7 +167,8 @@ module _ (ts : List ToldRecord) (steps : List Done) (is : IsOfOne ts steps) wher
   ]
 
   ref_read : (r : ℕ) (t : Title) (found value : ℕ) → held_of found ≡ 1 → 0 < paired_of_by (view_of ts) r (quiet_read false t found value) →
-      (value ≡ content_at_number (number_of found) (history_of_one steps t)) ⊎ ((value ≡ poison) × IsFreedElsewhere (logged_of_by (view_of ts)) (history_of_one steps t) t r (number_of found))
+      (value ≡ content_at_number (number_of found) (history_of_one steps t)) ⊎
+      ((value ≡ poison) × IsFreedElsewhere (logged_of_by (view_of ts)) (history_of_one steps t) t r (number_of found))
   ref_read r t found value held some_pair =
       let (same, gave) = is.ref r t found value held some_pair in
       subst

@@ -101,7 +101,8 @@ module _ (answer : Answer) (word value after : ℕ) where
     list = refl;
     fits = is_pool;
     asked = λ x among. each (Asked (list_of 4 (seat_last so))) ts (
-      asked_once (list_of 4 (seat_last so)) _ (the_fill ∷ []) (in_pool the_take) the_take the_fill 0 refl refl refl refl refl refl refl refl refl
+      asked_once (list_of 4 (seat_last so)) _ (the_fill ∷ [])
+          (in_pool the_take) the_take the_fill 0 refl refl refl refl refl refl refl refl refl
           (record { older = []; rest = []; begins = refl; index_is = refl }),
       (
         asked_none (list_of 4 (seat_last so)) _ [] refl refl refl refl refl refl,
@@ -171,7 +172,8 @@ module _ (answer : Answer) (word value after : ℕ) where
     journals = used.rooted.journals;
     none_past = used.rooted.none_past;
     makes = λ x p m e few among.
-        (below_four (λ q. Makes two_threads_pool q x) (fill_made x among) (none_makes two_threads_pool 1 ts (refl, (refl, (refl, (refl, (refl, (refl, (refl, (refl, tt)))))))) x among)
+        (below_four (λ q. Makes two_threads_pool q x) (fill_made x among)
+        (none_makes two_threads_pool 1 ts (refl, (refl, (refl, (refl, (refl, (refl, (refl, (refl, tt)))))))) x among)
         (none_makes two_threads_pool 2 ts (refl, (refl, (refl, (refl, (refl, (refl, (refl, (refl, tt)))))))) x among)
         (none_makes two_threads_pool 3 ts (refl, (refl, (refl, (refl, (refl, (refl, (refl, (refl, tt)))))))) x among) p few).makes_it m e;
     refused = λ x j reg p size among full op. absurd (none_refused x among j reg p size full op);
@@ -200,7 +202,10 @@ module _ (answer : Answer) (word value after : ℕ) where
       none_only _ refl,
       (
         none_only _ refl,
-        (one_only _ (0, 1, refl), (none_only _ refl, (one_only _ (0, 0, refl), (none_only _ refl, (none_only _ refl, (none_only _ refl, tt)))))),
+        (
+          one_only _ (0, 1, refl),
+          (none_only _ refl, (one_only _ (0, 0, refl), (none_only _ refl, (none_only _ refl, (none_only _ refl, tt))))),
+        ),
       ),
     ) x among).only_it m within;
     answers = λ x k reg among op. each AnswersAt ts (
@@ -208,11 +213,27 @@ module _ (answer : Answer) (word value after : ℕ) where
       (
         (λ c r e. absurd cc),
         (
-          (λ c r e. record { older = []; rest = taking_made ∷ []; swap = gift_made; begins = refl; cell = cell_is 0 c 1 r e; line = refl; answer = refl_at 0 c (cell_is 0 c 1 r e) }),
+          (λ c r e. record {
+            older = [];
+            rest = taking_made ∷ [];
+            swap = gift_made;
+            begins = refl;
+            cell = cell_is 0 c 1 r e;
+            line = refl;
+            answer = refl_at 0 c (cell_is 0 c 1 r e);
+          }),
           (
             (λ c r e. absurd cc),
             (
-              (λ c r e. record { older = gift_made ∷ []; rest = []; swap = taking_made; begins = refl; cell = cell_is 0 c 0 r e; line = refl; answer = one_at c (cell_is 0 c 0 r e) }),
+              (λ c r e. record {
+                older = gift_made ∷ [];
+                rest = [];
+                swap = taking_made;
+                begins = refl;
+                cell = cell_is 0 c 0 r e;
+                line = refl;
+                answer = one_at c (cell_is 0 c 0 r e);
+              }),
               ((λ c r e. absurd cc), ((λ c r e. absurd cc), ((λ c r e. absurd cc), tt))),
             ),
           ),
@@ -244,7 +265,8 @@ module _ (answer : Answer) (word value after : ℕ) where
 
   -- ---- the report
 
-  pub census_said : (n : ℕ) → IsJournalOf (list_of 0 (seat_until ts n)) two_threads_journal → IsCensusBy (list_of 0 (seat_until ts n)) (list_of 4 (seat_last so)) two_threads_census
+  pub census_said : (n : ℕ) → IsJournalOf (list_of 0 (seat_until ts n)) two_threads_journal →
+      IsCensusBy (list_of 0 (seat_until ts n)) (list_of 4 (seat_last so)) two_threads_census
   census_said n is = record {
     journal = two_threads_journal;
     journal_is = is;

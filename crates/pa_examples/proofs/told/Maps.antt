@@ -59,14 +59,19 @@ abbrev pub steps_first : List Done
 steps_first = record { step = Free; value = 0 } ∷ record { step = Issue; value = 0 } ∷ []
 
 abbrev steps_second : List Done
-steps_second = record { step = Reset; value = 0 } ∷ record { step = Free; value = 0 } ∷ record { step = Copy; value = 0 } ∷ record { step = Issue; value = 0 } ∷ []
+steps_second = record { step = Reset; value = 0 } ∷ record { step = Free; value = 0 } ∷ record { step = Copy; value = 0 } ∷ record {
+  step =
+      Issue;
+  value = 0;
+} ∷ []
 
 abbrev pub steps_third : List Done
 steps_third = record { step = Issue; value = 0 } ∷ []
 
 abbrev pub history : Title → List Done
 history t =
-    if same_title (map_title 0) t then steps_first else (if same_title (map_title 2) t then steps_second else (if same_title (map_title 5) t then steps_third else []))
+    if same_title (map_title 0) t then steps_first else (if same_title
+    (map_title 2) t then steps_second else (if same_title (map_title 5) t then steps_third else []))
 
 first_chained : IsChained (told_of maps_told) (map_title 0) steps_first
 first_chained = record {
@@ -79,7 +84,10 @@ first_chained = record {
 
 second_chained : IsChained (told_of maps_told) (map_title 2) steps_second
 second_chained = record {
-  legal = ((omega arith, omega arith, tt), ((refl, omega arith, tt), ((omega arith, omega arith, omega arith), (((refl, refl), omega arith, tt), tt))));
+  legal = (
+    (omega arith, omega arith, tt),
+    ((refl, omega arith, tt), ((omega arith, omega arith, omega arith), (((refl, refl), omega arith, tt), tt))),
+  );
   steps = (refl, (refl, (refl, (refl, tt))));
   numbers = λ k. let b = below 4 k in omega arith;
   all = refl;
@@ -130,7 +138,8 @@ chained t = elim (which t) [
 ]
 
 -- what holds of the three holds of each title that an entry names
-pub by_name : (P : Title → Type 0) → P (map_title 0) → P (map_title 2) → P (map_title 5) → (t : Title) → 0 < told_of maps_told (names t) → P t
+pub by_name : (P : Title → Type 0) → P (map_title 0) → P (map_title 2) → P (map_title 5) → (t : Title) → 0 < told_of maps_told (names t) →
+    P t
 by_name P a b c t mine = elim (which t) [
   | inl e ↦ subst P e a
   | inr rest ↦ elim rest [
@@ -150,7 +159,8 @@ long_as t mine = by_name (λ (u : Title). u.len ≡ 2002944) refl refl refl t mi
 
 are_known : AreKnown maps_told history
 are_known = record {
-  low = λ x among. each (λ (y : ToldRecord). y.played.thread < 16) maps_told (lit< tt, (lit< tt, (lit< tt, (lit< tt, (lit< tt, (lit< tt, (lit< tt, (lit< tt, tt)))))))) x among;
+  low = λ x among. each (λ (y : ToldRecord). y.played.thread < 16) maps_told
+      (lit< tt, (lit< tt, (lit< tt, (lit< tt, (lit< tt, (lit< tt, (lit< tt, (lit< tt, tt)))))))) x among;
   chained = chained;
   well = by_name (λ (u : Title). IsWellFormed 262144 u) (well_formed 0) (well_formed 2) (well_formed 5);
   one_name = λ t u mine other start born. title_is t u start (long_as t mine ∙ sym (long_as u other)) born;
@@ -193,9 +203,11 @@ none m n = false
 pub seen_so : AreViewed (history_at []) maps_told
 seen_so = viewed (history_at []) maps_worked none refl (λ x y h. absurd (no_hands x y h))
 
-module _ (r : Run) (is : IsRunOf r (map entry_of direct_map_records) (direct_map_again_journal ∷ []) direct_map_again_pool [] direct_map_report) where
+module _ (r : Run) (is : IsRunOf r (map entry_of direct_map_records) (direct_map_again_journal ∷ []) direct_map_again_pool
+    [] direct_map_report) where
   same : direct_map_records ≡ records_of direct_map_trace (told_by r)
-  same = sym (ap (played (rules_of direct_map_trace) direct_map_trace.lines) is.entries ∙ records_are_lines.same (rules_of direct_map_trace) direct_map_trace.lines direct_map_records lines)
+  same = sym (ap (played (rules_of direct_map_trace) direct_map_trace.lines) is.entries ∙
+      records_are_lines.same (rules_of direct_map_trace) direct_map_trace.lines direct_map_records lines)
 
   known : IsKnown direct_map_trace (told_by r) direct_map_records
   known = subst (λ ps. IsKnown direct_map_trace (told_by r) ps) (sym same) (direct_map_is_known r is)

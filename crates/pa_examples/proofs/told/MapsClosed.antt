@@ -83,14 +83,16 @@ ends_third : EndsWith maps_words seat_maps (map_title 5) (the_logs.history (map_
 ends_third = record {
   last = its_word ∙ sym (ap reached (its_history (map_title 5) ∙ last_history (map_title 5)));
   poison = λ freed. let bit : 1 ≡ 0 = sym (ap held_of its_word) ∙ freed.0 in absurd (omega arith);
-  content = λ own clean i low high. (words_at 252415 9728 0x1000001 (2048 + i)).1 (λ e. absurd (omega arith)) ∙ sym (ap content_of (its_history (map_title 5) ∙ last_history (map_title 5)));
+  content = λ own clean i low high. (words_at 252415 9728 0x1000001 (2048 + i)).1 (λ e. absurd (omega arith)) ∙
+      sym (ap content_of (its_history (map_title 5) ∙ last_history (map_title 5)));
 }
 
 -- of the three that the logs name two were uncut
 named_is : (t : Title) → 0 < logged_of seat_maps (names t) → uncut_of seat_maps t ≡ 0 → map_title 5 ≡ t
 named_is t named cut =
     let all = weighed maps_told notes maps_lists maps_holding fits (names t) in
-    by_name (λ u. told_of maps_told (uncuts u) ≡ 0 → map_title 5 ≡ u) (λ none. absurd (omega arith)) (λ none. absurd (omega arith)) (λ none. refl) t (omega arith)
+    by_name (λ u. told_of maps_told (uncuts u) ≡ 0 → map_title 5 ≡ u) (λ none. absurd (omega arith)) (λ none. absurd (omega arith))
+    (λ none. refl) t (omega arith)
     (sym (weighed maps_told notes maps_lists maps_holding fits (uncuts t)) ∙ cut)
 
 is_end : IsEnd maps_words seat_maps
@@ -175,4 +177,9 @@ pub direct_map_closes : DirectMapIsClosed
 direct_map_closes =
     let all = says logs in
     let close : Closes (all.lists 1) = subst (λ lists. Closes (lists 1)) (sym (says_lists logs)) closes in
-    record { says = all; closes = close; end = is_end; held = layers_tell_all.held maps_words direct_map_trace told_maps seat_maps maps_told all close is_end }
+    record {
+      says = all;
+      closes = close;
+      end = is_end;
+      held = layers_tell_all.held maps_words direct_map_trace told_maps seat_maps maps_told all close is_end;
+    }

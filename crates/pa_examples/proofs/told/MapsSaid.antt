@@ -143,7 +143,8 @@ module _ (has : HasLogs seat_maps maps_told) where
   ends : (n : ℕ) → 1 ≤ n → n ≤ 1 → EndsPhase n seat_maps seat_maps maps_told
   ends n low high =
       let one : 1 ≡ n = omega arith in
-      subst (λ m. EndsPhase m seat_maps seat_maps maps_told) one (record { has = has; begins = λ q few. ([], append_none (list_of q seat_maps)) })
+      subst (λ m. EndsPhase m seat_maps seat_maps maps_told) one
+      (record { has = has; begins = λ q few. ([], append_none (list_of q seat_maps)) })
 
   runner : RunnerSays direct_map_trace told_maps seat_maps maps_told (λ n. seat_maps)
   runner = record {
@@ -188,7 +189,8 @@ first_makes x among = each (Makes direct_map_again_pool 0) maps_told (
 
 -- only the third allocation was refused
 abbrev IsRefused : ToldRecord → Type 0
-IsRefused x = (j reg p size : ℕ) → x.played.answer ≡ answers.Full j → x.played.op ≡ ops.Alloc reg p size → IsFullAt (list_of p seat_maps) x j
+IsRefused x = (j reg p size : ℕ) → x.played.answer ≡ answers.Full j → x.played.op ≡ ops.Alloc reg p size →
+    IsFullAt (list_of p seat_maps) x j
 
 is_refused : (x : ToldRecord) → x.played.line ≡ 7 → x.played.answer ≡ answers.Full 3 → x.played.op ≡ ops.Alloc 2 0 2000000 → IsRefused x
 is_refused x line answer op j reg p size a b =
@@ -197,7 +199,12 @@ is_refused x line answer op j reg p size a b =
     subst (λ k. IsFullAt (list_of p seat_maps) x k) entry (subst (λ q. IsFullAt (list_of q seat_maps) x 3) home (record {
       made = in_root (full 7 None 3);
       entry = full 7 None 3;
-      stands = record { older = take 3 (map in_root direct_map_again_journal); rest = drop 4 (map in_root direct_map_again_journal); begins = refl; index_is = refl };
+      stands = record {
+        older = take 3 (map in_root direct_map_again_journal);
+        rest = drop 4 (map in_root direct_map_again_journal);
+        begins = refl;
+        index_is = refl;
+      };
       says = refl;
       line = sym line;
       full = (None, 3, refl);
@@ -232,8 +239,10 @@ roots_tell = record {
   lists = below_four (λ p. IsJournalOf (list_of p seat_maps) (roots p)) refl refl refl refl;
   journals = rooted.journals;
   none_past = rooted.none_past;
-  makes = λ x p m e few among. (below_four (λ q. Makes direct_map_again_pool q x) (first_makes x among) (none_makes direct_map_again_pool 1 maps_told none_1 x among)
-      (none_makes direct_map_again_pool 2 maps_told none_2 x among) (none_makes direct_map_again_pool 3 maps_told none_3 x among) p few).makes_it m e;
+  makes = λ x p m e few among.
+      (below_four (λ q. Makes direct_map_again_pool q x) (first_makes x among) (none_makes direct_map_again_pool 1 maps_told none_1 x among)
+      (none_makes direct_map_again_pool 2 maps_told none_2 x among)
+      (none_makes direct_map_again_pool 3 maps_told none_3 x among) p few).makes_it m e;
   refused = λ x j reg p size among full op. refused x among j reg p size full op;
   numbers = known.numbers;
   unmaps = λ x among. known.unmaps x.played (map_in (λ (y : ToldRecord). y.played) maps_told x among);
@@ -351,12 +360,14 @@ heap = record {
   seen = have_seen (history_at []) maps_told seen_so;
   caches = λ n k low high.
       let one : 1 ≡ n = omega arith in
-      subst (λ m. CacheLeadsTo 1 roots (no_caches k) (records_by k (until m direct_map_records)) (at_end k)) one (leads_of 1 roots no_caches direct_map_records at_end cached_to k);
+      subst (λ m. CacheLeadsTo 1 roots (no_caches k) (records_by k (until m direct_map_records)) (at_end k)) one
+      (leads_of 1 roots no_caches direct_map_records at_end cached_to k);
 }
 
 -- ---- the report
 
-line : IsLineSaid direct_map_trace told_maps seat_maps maps_told at_end seat_maps (report_line 1 (tally 1 2002944) (tally 0 0) (tally 0 0) direct_map_again_census)
+line : IsLineSaid direct_map_trace told_maps seat_maps maps_told at_end seat_maps
+    (report_line 1 (tally 1 2002944) (tally 0 0) (tally 0 0) direct_map_again_census)
 unfolding rows row_of slot_of listed_slots listed_bytes
 line = record {
   live = lives homes sizes first.home second.home third.home first.long second.long third.long;
@@ -374,11 +385,13 @@ line = record {
   };
 }
   where
-    lives : (h z : SlotName → ℕ) → h (slot_by 0) ≡ 0 → h (slot_by 2) ≡ 0 → h (slot_by 5) ≡ 0 → z (slot_by 0) ≡ 2002944 → z (slot_by 2) ≡ 2002944 → z (slot_by 5) ≡ 2002944 →
+    lives : (h z : SlotName → ℕ) → h (slot_by 0) ≡ 0 → h (slot_by 2) ≡ 0 → h (slot_by 5) ≡ 0 → z (slot_by 0) ≡ 2002944 →
+        z (slot_by 2) ≡ 2002944 → z (slot_by 5) ≡ 2002944 →
         IsLeftBy issues frees h z 0 1 (until 1 direct_map_records) (tally 1 2002944)
     lives h z a b c d e f = record { slots = rw (a, b, c) refl; bytes = rw (a, b, c, d, e, f) refl }
 
-    waits : (h z : SlotName → ℕ) → h (slot_by 2) ≡ 0 → z (slot_by 2) ≡ 2002944 → IsLeftBy enters leaves h z 0 1 (until 1 direct_map_records) (tally 0 0)
+    waits : (h z : SlotName → ℕ) → h (slot_by 2) ≡ 0 → z (slot_by 2) ≡ 2002944 →
+        IsLeftBy enters leaves h z 0 1 (until 1 direct_map_records) (tally 0 0)
     waits h z a b = record { slots = rw a refl; bytes = rw (a, b) refl }
 
 pub says : HasLogs seat_maps maps_told → LayersSay direct_map_trace told_maps seat_maps maps_told
@@ -391,7 +404,9 @@ says has = record {
   roots = roots_tell;
   cells = cells_tell;
   heap = heap;
-  report = λ l among. each (λ (k : ReportLine). IsLineSaid direct_map_trace told_maps seat_maps maps_told at_end seat_maps k) direct_map_report (line, tt) l among;
+  report = λ l among. each
+      (λ (k : ReportLine). IsLineSaid direct_map_trace told_maps seat_maps maps_told at_end seat_maps k) direct_map_report
+      (line, tt) l among;
 }
 
 pub says_lists : (has : HasLogs seat_maps maps_told) → (says has).lists ≡ (λ n. at_end)

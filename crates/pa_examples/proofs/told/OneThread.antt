@@ -111,26 +111,32 @@ pub record IsAlone (ts : List ToldRecord) (notes : List SeenNumber) (journal : L
   pub found : all_find [] (map first_did (log_of 0 ts)) ≡ true
   pub unread : all_unread (map first_did (log_of 0 ts)) ≡ true
 
-module _ (ts : List ToldRecord) (notes : List SeenNumber) (journal : List RootEntry) (pools : List PoolEntry) (is : IsAlone ts notes journal pools) where
+module _ (ts : List ToldRecord) (notes : List SeenNumber) (journal : List RootEntry) (pools : List PoolEntry)
+    (is : IsAlone ts notes journal pools) where
   abbrev lists : ℕ → List Made
   lists = lists_of journal pools []
 
   -- each stake made what its log entered
   made : (q k : ℕ) → made_with k (list_of q (seat_of ts notes lists)) ≡ entered_in q (log_of k ts)
   made q k = list_cases ts notes lists (λ p ms. made_with k ms ≡ entered_in p (log_of k ts))
-      (by_one (λ j. made_with j (map in_root journal) ≡ entered_in 0 (log_of j ts)) (all_first in_root (λ e. refl) (λ e. refl) journal ∙ sym is.root)
+      (by_one (λ j. made_with j (map in_root journal) ≡ entered_in 0 (log_of j ts))
+      (all_first in_root (λ e. refl) (λ e. refl) journal ∙ sym is.root)
       (λ j other. none_else in_root (λ e. refl) (λ e. refl) journal j other ∙ sym (ap (λ log. entered_in 0 log) (is.alone j other))) k)
-      (by_one (λ j. made_with j (map in_pool pools) ≡ entered_in 4 (log_of j ts)) (all_first in_pool (λ e. refl) (λ e. refl) pools ∙ sym is.pool)
+      (by_one (λ j. made_with j (map in_pool pools) ≡ entered_in 4 (log_of j ts))
+      (all_first in_pool (λ e. refl) (λ e. refl) pools ∙ sym is.pool)
       (λ j other. none_else in_pool (λ e. refl) (λ e. refl) pools j other ∙ sym (ap (λ log. entered_in 4 log) (is.alone j other))) k)
-      (by_one (λ j. [] ≡ entered_in 5 (log_of j ts)) (sym (is.others 5 (λ e. absurd (omega arith)) (λ e. absurd (omega arith)))) (λ j other. sym (ap (λ log. entered_in 5 log) (is.alone j other))) k)
-      (λ p n0 n4 n5. by_one (λ j. [] ≡ entered_in p (log_of j ts)) (sym (is.others p n0 n4)) (λ j other. sym (ap (λ log. entered_in p log) (is.alone j other))) k)
+      (by_one (λ j. [] ≡ entered_in 5 (log_of j ts)) (sym (is.others 5 (λ e. absurd (omega arith)) (λ e. absurd (omega arith))))
+      (λ j other. sym (ap (λ log. entered_in 5 log) (is.alone j other))) k)
+      (λ p n0 n4 n5. by_one (λ j. [] ≡ entered_in p (log_of j ts)) (sym (is.others p n0 n4))
+      (λ j other. sym (ap (λ log. entered_in p log) (is.alone j other))) k)
       q
 
   -- the log of stake 0, the only stake that did anything, is an order of what the records did
   its_order : IsOrderOf ts notes lists (map first_did (log_of 0 ts))
   its_order = record {
     stakes = first_small (log_of 0 ts);
-    logs = by_one (λ k. log_of k ts ≡ by_stake k (map first_did (log_of 0 ts))) (first_log (log_of 0 ts)) (λ k other. is.alone k other ∙ other_log k other (log_of 0 ts));
+    logs = by_one (λ k. log_of k ts ≡ by_stake k (map first_did (log_of 0 ts))) (first_log (log_of 0 ts))
+        (λ k other. is.alone k other ∙ other_log k other (log_of 0 ts));
     lists_are = λ q. entered q ∙ ap (entered_in q) (first_entries (log_of 0 ts));
     found = is.found;
     steps = stepwise [] (map first_did (log_of 0 ts));
@@ -147,10 +153,12 @@ module _ (ts : List ToldRecord) (notes : List SeenNumber) (journal : List RootEn
   fits_seat = record {
     knows = is.knows;
     is = made;
-    rises = list_cases ts notes lists (λ q ms. Rises ms) (all_rise in_root (λ e. refl) (λ e. refl) journal) (all_rise in_pool (λ e. refl) (λ e. refl) pools) tt (λ q n0 n4 n5. tt);
+    rises = list_cases ts notes lists (λ q ms. Rises ms) (all_rise in_root (λ e. refl) (λ e. refl) journal)
+        (all_rise in_pool (λ e. refl) (λ e. refl) pools) tt (λ q n0 n4 n5. tt);
     makers = list_cases ts notes lists (λ q ms. Each (λ (m : Made). m.stake < 16) ms) (all_staked in_root (λ e. refl) (λ e. refl) journal)
         (all_staked in_pool (λ e. refl) (λ e. refl) pools) tt (λ q n0 n4 n5. tt);
-    follows = list_cases ts notes lists (λ q ms. Each (λ (m : Made). IsKnownTo notes m) ms) (all_known in_root (λ e. refl) (λ e. refl) notes journal)
+    follows = list_cases ts notes lists (λ q ms. Each (λ (m : Made). IsKnownTo notes m) ms)
+        (all_known in_root (λ e. refl) (λ e. refl) notes journal)
         (all_known in_pool (λ e. refl) (λ e. refl) notes pools) tt (λ q n0 n4 n5. tt);
     own_logs = is.own_logs;
     adds = is.adds;
@@ -164,29 +172,34 @@ module _ (ts : List ToldRecord) (notes : List SeenNumber) (journal : List RootEn
 
 -- ---- no exchange
 
-pub no_cells_tell : (r : Told) (v : View) (ts : List ToldRecord) → r.cells ≡ history_at [] → list_of 5 v ≡ [] → Each (λ (x : ToldRecord). entered_in 5 x.stretch ≡ []) ts →
+pub no_cells_tell : (r : Told) (v : View) (ts : List ToldRecord) → r.cells ≡ history_at [] → list_of 5 v ≡ [] →
+    Each (λ (x : ToldRecord). entered_in 5 x.stretch ≡ []) ts →
     list_all (λ (p : Played). not (is_swap p.op)) (played_in ts) ≡ true → CellsTell r v ts []
 no_cells_tell r v ts cells list entered none = record {
   swaps_are = record { list_is = list; lines = λ e among. absurd (not_in_none e among); cells_are = λ k. ap (λ c. c k) cells };
   chain = λ k. rw cells tt;
-  one_each = λ x among. let here = ap (λ (ms : List Made). length ms) (each (λ (y : ToldRecord). entered_in 5 y.stretch ≡ []) ts entered x among) in omega arith;
+  one_each = λ x among. let here =
+      ap (λ (ms : List Made). length ms) (each (λ (y : ToldRecord). entered_in 5 y.stretch ≡ []) ts entered x among) in omega arith;
   only = λ x m among within. absurd (nothing x m among within);
   answers = λ x k reg among op. absurd (no_swap (played_in ts) none x.played k reg (map_in (λ (y : ToldRecord). y.played) ts x among) op);
   gives = λ x m u among within. absurd (nothing x m among within);
 }
   where
     nothing : (x : ToldRecord) (m : Made) → Contains ts x → Contains (entered_in 5 x.stretch) m → ⊥
-    nothing x m among within = not_in_none m (subst (λ ms. Contains ms m) (each (λ (y : ToldRecord). entered_in 5 y.stretch ≡ []) ts entered x among) within)
+    nothing x m among within =
+        not_in_none m (subst (λ ms. Contains ms m) (each (λ (y : ToldRecord). entered_in 5 y.stretch ≡ []) ts entered x among) within)
 
 -- ---- the lists of each thread, from those of all
 pub leads_of : (partitions : ℕ) (roots : Journals) (all : Caches) (ps : List Played) (ends : Caches)
     → CachesTo partitions roots all ps ends → (k : ℕ) → CacheLeadsTo partitions roots (all k) (records_by k ps) (ends k)
 leads_of partitions roots all [] ends same k = ap (λ (c : Caches). c k) same
 leads_of partitions roots all (x ∷ xs) ends (next, row, rest) k =
-    let again : CacheLeadsTo partitions roots (with_cache all x.thread next k) (records_by k xs) (ends k) = leads_of partitions roots (with_cache all x.thread next) xs ends rest k in
+    let again : CacheLeadsTo partitions roots (with_cache all x.thread next k) (records_by k xs) (ends k) =
+    leads_of partitions roots (with_cache all x.thread next) xs ends rest k in
     elim (cases_eq k x.thread) [
       | inl e ↦
-          let here : CacheRow partitions roots x x.answer (all k) next = subst (λ n. CacheRow partitions roots x x.answer (all n) next) (sym e) row in
+          let here : CacheRow partitions roots x x.answer (all k) next =
+          subst (λ n. CacheRow partitions roots x x.answer (all n) next) (sym e) row in
           let rows_on : CacheLeadsTo partitions roots next (records_by k xs) (ends k) = rw (eq-eqb k x.thread e) at again in
           subst (λ ys. CacheLeadsTo partitions roots (all k) ys (ends k)) (sym (own_first k x xs (sym e))) (next, here, rows_on)
       | inr ne ↦

@@ -32,7 +32,8 @@ by_second e = record { stake = 1; entry = e }
 -- in the first phase the first thread makes the slot, copies and gives
 abbrev until_1 : List Stamped
 until_1 =
-    by_first (took the_take) ∷ by_first (filled the_fill) ∷ by_first (Counted its_title Issue 0 0) ∷ by_first (Counted its_title Copy 0x1000001 0)
+    by_first (took the_take) ∷ by_first (filled the_fill) ∷ by_first (Counted its_title Issue 0 0) ∷ by_first
+    (Counted its_title Copy 0x1000001 0)
     ∷ by_first (exchanged 0 the_gift 2) ∷ []
 
 -- the steps of the second phase: the first thread frees the slot, and the second takes the raw_ptr and looks, before the free or after it
@@ -61,7 +62,8 @@ told answer word value after = reading_so (so_read answer word value after)
 -- The steps of the first phase, the latest first. No word is poisoned in it.
 abbrev steps_until_1 : List OneStep
 steps_until_1 =
-    Logged (by_first (exchanged 0 the_gift 2)) ∷ Logged (by_first (Counted its_title Copy 0x1000001 0)) ∷ Logged (by_first (Counted its_title Issue 0 0))
+    Logged (by_first (exchanged 0 the_gift 2)) ∷ Logged (by_first (Counted its_title Copy 0x1000001 0)) ∷ Logged
+    (by_first (Counted its_title Issue 0 0))
     ∷ Logged (by_first (filled the_fill)) ∷ Logged (by_first (took the_take)) ∷ []
 
 placed_until_1 : AreInPlace steps_until_1
@@ -93,7 +95,10 @@ content_steps = Logged the_free ∷ Spoiled its_title 0 ∷ read_step 0 ∷ look
 pub held_content : AreFreed (held_until_2 0) content_steps
 held_content = record {
   logged = refl;
-  placed = ((refl, inl refl), ((refl, lit< tt), (record { right = λ clean. refl; calm = λ found is handed. inl refl }, (tt, (tt, placed_until_1)))));
+  placed = (
+    (refl, inl refl),
+    ((refl, lit< tt), (record { right = λ clean. refl; calm = λ found is handed. inl refl }, (tt, (tt, placed_until_1)))),
+  );
   freed = λ t. elim (title_tells its_title t) [ inl y ↦ rw y.0 refl | inr n ↦ rw n.0 refl ];
   content = refl;
 }
@@ -119,7 +124,10 @@ freed_steps = read_step poison ∷ look_step 0x3000002 ∷ taking_step ∷ Logge
 pub freed_poison : AreFreed (freed_until_2 poison) freed_steps
 freed_poison = record {
   logged = refl;
-  placed = (record { right = λ clean. refl; calm = λ found is handed. inl refl }, (tt, (tt, ((refl, inl refl), ((refl, lit< tt), placed_until_1)))));
+  placed = (
+    record { right = λ clean. refl; calm = λ found is handed. inl refl },
+    (tt, (tt, ((refl, inl refl), ((refl, lit< tt), placed_until_1)))),
+  );
   freed = λ t. elim (title_tells its_title t) [ inl y ↦ rw y.0 refl | inr n ↦ rw n.0 refl ];
   content = refl;
 }
@@ -136,7 +144,8 @@ third_freed all steps is t = elim (title_tells its_title t) [ inl y ↦ rw y.0 (
 
 third_logged : (all : List Stamped) (steps : List OneStep) → AreFreed all steps → logged_among (third_steps steps) ≡ all ++ last_of
 third_logged all steps is =
-    ap (λ (xs : List Stamped). ((xs ++ by_second (Looked its_title 0x3000002) ∷ []) ++ by_second (Read its_title 0 poison no_deeds false false) ∷ [])
+    ap (λ (xs : List Stamped). ((xs ++ by_second (Looked its_title 0x3000002) ∷ []) ++
+    by_second (Read its_title 0 poison no_deeds false false) ∷ [])
     ++ by_second (Counted its_title Reset 0x3000002 0) ∷ []) is.logged
     ∙ (append_assoc (all ++ by_second (Looked its_title 0x3000002) ∷ []) (by_second (Read its_title 0 poison no_deeds false false) ∷ [])
     (by_second (Counted its_title Reset 0x3000002 0) ∷ [])
@@ -161,7 +170,8 @@ order_1 answer word value after =
       freed = none_until_1;
     })
 
-pub held_2 : (answer : Answer) (value after : ℕ) (steps : List OneStep) → AreFreed (held_until_2 value) steps → HasOneOrder (seat_until (told answer 0x2000003 value after) 2)
+pub held_2 : (answer : Answer) (value after : ℕ) (steps : List OneStep) → AreFreed (held_until_2 value) steps →
+    HasOneOrder (seat_until (told answer 0x2000003 value after) 2)
 held_2 answer value after steps is =
     let ts = told_until 2 (told answer 0x2000003 value after) in
     has_order ts (seen_number 3) (lists_until 2) (held_until_2 value) (record {
@@ -176,12 +186,20 @@ held_2 answer value after steps is =
       freed = is.freed;
     })
 
-pub held_3 : (answer : Answer) (value after : ℕ) (steps : List OneStep) → AreFreed (held_until_2 value) steps → HasOneOrder (seat_until (told answer 0x2000003 value after) 3)
+pub held_3 : (answer : Answer) (value after : ℕ) (steps : List OneStep) → AreFreed (held_until_2 value) steps →
+    HasOneOrder (seat_until (told answer 0x2000003 value after) 3)
 held_3 answer value after steps is =
     let ts = told_until 3 (told answer 0x2000003 value after) in
     has_order ts (seen_number 4) (lists_until 3) (held_until_2 value ++ last_of) (record {
-      stakes = (lit< tt, (lit< tt, (lit< tt, (lit< tt, (lit< tt, (lit< tt, (lit< tt, (lit< tt, (lit< tt, (lit< tt, (lit< tt, (lit< tt, tt))))))))))));
-      logs = by_two (λ k. log_of k ts ≡ by_stake k (held_until_2 value ++ last_of)) refl refl (λ k n0 n1. rw (ne_eqb 0 k n0, ne_eqb 1 k n1) refl);
+      stakes = (
+        lit< tt,
+        (
+          lit< tt,
+          (lit< tt, (lit< tt, (lit< tt, (lit< tt, (lit< tt, (lit< tt, (lit< tt, (lit< tt, (lit< tt, (lit< tt, tt)))))))))),
+        ),
+      );
+      logs = by_two (λ k. log_of k ts ≡ by_stake k (held_until_2 value ++ last_of)) refl refl
+          (λ k n0 n1. rw (ne_eqb 0 k n0, ne_eqb 1 k n1) refl);
       lists_are = list_cases ts (seen_number 4) (lists_until 3) (ListIn (held_until_2 value ++ last_of)) refl refl refl
           (λ q n0 n4 n5. rw (ne_eqb 0 q n0, ne_eqb 4 q n4, ne_eqb 5 q n5) refl);
       found = refl;
@@ -191,7 +209,8 @@ held_3 answer value after steps is =
       freed = third_freed (held_until_2 value) steps is;
     })
 
-pub freed_2 : (answer : Answer) (value after : ℕ) (steps : List OneStep) → AreFreed (freed_until_2 value) steps → HasOneOrder (seat_until (told answer 0x3000002 value after) 2)
+pub freed_2 : (answer : Answer) (value after : ℕ) (steps : List OneStep) → AreFreed (freed_until_2 value) steps →
+    HasOneOrder (seat_until (told answer 0x3000002 value after) 2)
 freed_2 answer value after steps is =
     let ts = told_until 2 (told answer 0x3000002 value after) in
     has_order ts (seen_number 3) (lists_until 2) (freed_until_2 value) (record {
@@ -206,12 +225,20 @@ freed_2 answer value after steps is =
       freed = is.freed;
     })
 
-pub freed_3 : (answer : Answer) (value after : ℕ) (steps : List OneStep) → AreFreed (freed_until_2 value) steps → HasOneOrder (seat_until (told answer 0x3000002 value after) 3)
+pub freed_3 : (answer : Answer) (value after : ℕ) (steps : List OneStep) → AreFreed (freed_until_2 value) steps →
+    HasOneOrder (seat_until (told answer 0x3000002 value after) 3)
 freed_3 answer value after steps is =
     let ts = told_until 3 (told answer 0x3000002 value after) in
     has_order ts (seen_number 4) (lists_until 3) (freed_until_2 value ++ last_of) (record {
-      stakes = (lit< tt, (lit< tt, (lit< tt, (lit< tt, (lit< tt, (lit< tt, (lit< tt, (lit< tt, (lit< tt, (lit< tt, (lit< tt, (lit< tt, tt))))))))))));
-      logs = by_two (λ k. log_of k ts ≡ by_stake k (freed_until_2 value ++ last_of)) refl refl (λ k n0 n1. rw (ne_eqb 0 k n0, ne_eqb 1 k n1) refl);
+      stakes = (
+        lit< tt,
+        (
+          lit< tt,
+          (lit< tt, (lit< tt, (lit< tt, (lit< tt, (lit< tt, (lit< tt, (lit< tt, (lit< tt, (lit< tt, (lit< tt, tt)))))))))),
+        ),
+      );
+      logs = by_two (λ k. log_of k ts ≡ by_stake k (freed_until_2 value ++ last_of)) refl refl
+          (λ k n0 n1. rw (ne_eqb 0 k n0, ne_eqb 1 k n1) refl);
       lists_are = list_cases ts (seen_number 4) (lists_until 3) (ListIn (freed_until_2 value ++ last_of)) refl refl refl
           (λ q n0 n4 n5. rw (ne_eqb 0 q n0, ne_eqb 4 q n4, ne_eqb 5 q n5) refl);
       found = refl;

@@ -38,13 +38,15 @@ read_gives w given t found value some_pair =
     found_is a b m n e = cc
 
 -- no quiet read is through an Own
-never_owned : (w given : ℕ) (t : Title) (found value : ℕ) → 0 < quiet_read true t found value (Looked its_title w) (Read its_title 0 given no_deeds false false) → ⊥
+never_owned : (w given : ℕ) (t : Title) (found value : ℕ) →
+    0 < quiet_read true t found value (Looked its_title w) (Read its_title 0 given no_deeds false false) → ⊥
 never_owned w given t found value some_pair =
     let is = quiet_tells true t found value (Looked its_title w) its_title 0 given no_deeds false false some_pair in
     true≢false (sym is.owner)
 
 -- a look that found the bit 0 is no look at a held slot
-found_free : (t : Title) (found value : ℕ) → held_of found ≡ 1 → 0 < quiet_read false t found value (Looked its_title 50331650) (Read its_title 0 poison no_deeds false false) → ⊥
+found_free : (t : Title) (found value : ℕ) → held_of found ≡ 1 →
+    0 < quiet_read false t found value (Looked its_title 50331650) (Read its_title 0 poison no_deeds false false) → ⊥
 found_free t found value held some_pair =
     let (title, word, is) = read_gives 50331650 poison t found value some_pair in
     let bit : 0 ≡ held_of found = ap held_of word in
@@ -96,19 +98,22 @@ content_chain_last = record {
 
 pub content_of_second : IsOfOne content_second steps_second
 content_of_second = record {
-  low = λ x among. each (λ (y : ToldRecord). y.played.thread < 16) content_second (lit< tt, (lit< tt, (lit< tt, (lit< tt, (lit< tt, (lit< tt, tt)))))) x among;
+  low = λ x among. each (λ (y : ToldRecord). y.played.thread < 16) content_second
+      (lit< tt, (lit< tt, (lit< tt, (lit< tt, (lit< tt, (lit< tt, tt)))))) x among;
   chained = content_chain_second;
   other = λ t other. record { at = λ k. rw other refl; on = rw other refl; looked = λ word. rw other refl; named = rw other refl };
   freed = refl;
   own = λ t found value some_pair. never_owned 33554435 0 t found value (omega arith);
   ref = λ r t found value held some_pair.
-      by_second content_second r (quiet_read false t found value) (λ q. GaveRef content_second steps_second q t found value) refl (λ a b. rw (a, b) refl) some_pair
+      by_second content_second r (quiet_read false t found value) (λ q. GaveRef content_second steps_second q t found value) refl
+      (λ a b. rw (a, b) refl) some_pair
       (λ mine. gave_content content_second t found value (omega arith));
 }
 
 pub content_of_last : IsOfOne so_content steps_last
 content_of_last = record {
-  low = λ x among. each (λ (y : ToldRecord). y.played.thread < 16) so_content (lit< tt, (lit< tt, (lit< tt, (lit< tt, (lit< tt, (lit< tt, (lit< tt, (lit< tt, tt)))))))) x among;
+  low = λ x among. each (λ (y : ToldRecord). y.played.thread < 16) so_content
+      (lit< tt, (lit< tt, (lit< tt, (lit< tt, (lit< tt, (lit< tt, (lit< tt, (lit< tt, tt)))))))) x among;
   chained = content_chain_last;
   other = λ t other. record { at = λ k. rw other refl; on = rw other refl; looked = λ word. rw other refl; named = rw other refl };
   freed = refl;
@@ -118,7 +123,8 @@ content_of_last = record {
         | inr none ↦ never_owned 50331650 poison t found value (omega arith)
       ];
   ref = λ r t found value held some_pair.
-      by_second so_content r (quiet_read false t found value) (λ q. GaveRef so_content steps_last q t found value) refl (λ a b. rw (a, b) refl) some_pair
+      by_second so_content r (quiet_read false t found value) (λ q. GaveRef so_content steps_last q t found value) refl
+      (λ a b. rw (a, b) refl) some_pair
       (λ mine. elim (cases_lt 0 (quiet_read false t found value (Looked its_title 33554435) (Read its_title 0 0 no_deeds false false))) [
         | inl early ↦ gave_at_last so_content t found value early
         | inr none ↦ absurd (found_free t found value held (omega arith))
@@ -153,25 +159,29 @@ freed_chain_last = record {
 
 pub freed_of_second : IsOfOne freed_second steps_second
 freed_of_second = record {
-  low = λ x among. each (λ (y : ToldRecord). y.played.thread < 16) freed_second (lit< tt, (lit< tt, (lit< tt, (lit< tt, (lit< tt, (lit< tt, tt)))))) x among;
+  low = λ x among. each (λ (y : ToldRecord). y.played.thread < 16) freed_second
+      (lit< tt, (lit< tt, (lit< tt, (lit< tt, (lit< tt, (lit< tt, tt)))))) x among;
   chained = freed_chain_second;
   other = λ t other. record { at = λ k. rw other refl; on = rw other refl; looked = λ word. rw other refl; named = rw other refl };
   freed = refl;
   own = λ t found value some_pair. never_owned 50331650 poison t found value (omega arith);
   ref = λ r t found value held some_pair.
-      by_second freed_second r (quiet_read false t found value) (λ q. GaveRef freed_second steps_second q t found value) refl (λ a b. rw (a, b) refl) some_pair
+      by_second freed_second r (quiet_read false t found value) (λ q. GaveRef freed_second steps_second q t found value) refl
+      (λ a b. rw (a, b) refl) some_pair
       (λ mine. absurd (found_free t found value held (omega arith)));
 }
 
 pub freed_of_last : IsOfOne so_freed steps_last
 freed_of_last = record {
-  low = λ x among. each (λ (y : ToldRecord). y.played.thread < 16) so_freed (lit< tt, (lit< tt, (lit< tt, (lit< tt, (lit< tt, (lit< tt, (lit< tt, (lit< tt, tt)))))))) x among;
+  low = λ x among. each (λ (y : ToldRecord). y.played.thread < 16) so_freed
+      (lit< tt, (lit< tt, (lit< tt, (lit< tt, (lit< tt, (lit< tt, (lit< tt, (lit< tt, tt)))))))) x among;
   chained = freed_chain_last;
   other = λ t other. record { at = λ k. rw other refl; on = rw other refl; looked = λ word. rw other refl; named = rw other refl };
   freed = refl;
   own = λ t found value some_pair. never_owned 50331650 poison t found value (omega arith);
   ref = λ r t found value held some_pair.
-      by_second so_freed r (quiet_read false t found value) (λ q. GaveRef so_freed steps_last q t found value) refl (λ a b. rw (a, b) refl) some_pair
+      by_second so_freed r (quiet_read false t found value) (λ q. GaveRef so_freed steps_last q t found value) refl
+      (λ a b. rw (a, b) refl) some_pair
       (λ mine. absurd (found_free t found value held (omega arith)));
 }
 
@@ -186,14 +196,16 @@ content_ends x among =
     let first : EndsAt so_content 1 = (view_of told_first, knows_one told_first steps_first of_first) in
     let second : EndsAt so_content 2 = (view_of content_second, knows_one content_second steps_second content_of_second) in
     let last : EndsAt so_content 3 = (view_of so_content, knows_one so_content steps_last content_of_last) in
-    each (λ (y : ToldRecord). EndsAt so_content y.played.phase) so_content (first, (first, (first, (second, (second, (second, (last, (last, tt)))))))) x among
+    each (λ (y : ToldRecord). EndsAt so_content y.played.phase) so_content
+    (first, (first, (first, (second, (second, (second, (last, (last, tt)))))))) x among
 
 freed_ends : HaveEnds so_freed
 freed_ends x among =
     let first : EndsAt so_freed 1 = (view_of told_first, knows_one told_first steps_first of_first) in
     let second : EndsAt so_freed 2 = (view_of freed_second, knows_one freed_second steps_second freed_of_second) in
     let last : EndsAt so_freed 3 = (view_of so_freed, knows_one so_freed steps_last freed_of_last) in
-    each (λ (y : ToldRecord). EndsAt so_freed y.played.phase) so_freed (first, (first, (first, (second, (second, (second, (last, (last, tt)))))))) x among
+    each (λ (y : ToldRecord). EndsAt so_freed y.played.phase) so_freed
+    (first, (first, (first, (second, (second, (second, (last, (last, tt)))))))) x among
 
 content_told : AreTold sixteen so_content
 content_told x among = each (IsTold sixteen) so_content (
@@ -207,9 +219,45 @@ content_told x among = each (IsTold sixteen) so_content (
         (
           refl,
           (
-            (refl, (0, 0, false, refl, record { since = no_deeds; unclean = false; rest = []; pair = refl; none = refl; quiet = refl; clean = refl; in_use = omega arith })),
             (
-              (refl, (0, 0, false, refl, record { since = no_deeds; unclean = false; rest = []; pair = refl; none = refl; quiet = refl; clean = refl; in_use = omega arith })),
+              refl,
+              (
+                0,
+                0,
+                false,
+                refl,
+                record {
+                  since = no_deeds;
+                  unclean = false;
+                  rest = [];
+                  pair = refl;
+                  none = refl;
+                  quiet = refl;
+                  clean = refl;
+                  in_use = omega arith;
+                },
+              ),
+            ),
+            (
+              (
+                refl,
+                (
+                  0,
+                  0,
+                  false,
+                  refl,
+                  record {
+                    since = no_deeds;
+                    unclean = false;
+                    rest = [];
+                    pair = refl;
+                    none = refl;
+                    quiet = refl;
+                    clean = refl;
+                    in_use = omega arith;
+                  },
+                ),
+              ),
               (([], tt, refl), tt),
             ),
           ),
@@ -231,9 +279,45 @@ freed_told x among = each (IsTold sixteen) so_freed (
         (
           refl,
           (
-            (refl, (0, 0, false, refl, record { since = no_deeds; unclean = false; rest = []; pair = refl; none = refl; quiet = refl; clean = refl; in_use = omega arith })),
             (
-              (refl, (0, 0, false, refl, record { since = no_deeds; unclean = false; rest = []; pair = refl; none = refl; quiet = refl; clean = refl; in_use = omega arith })),
+              refl,
+              (
+                0,
+                0,
+                false,
+                refl,
+                record {
+                  since = no_deeds;
+                  unclean = false;
+                  rest = [];
+                  pair = refl;
+                  none = refl;
+                  quiet = refl;
+                  clean = refl;
+                  in_use = omega arith;
+                },
+              ),
+            ),
+            (
+              (
+                refl,
+                (
+                  0,
+                  0,
+                  false,
+                  refl,
+                  record {
+                    since = no_deeds;
+                    unclean = false;
+                    rest = [];
+                    pair = refl;
+                    none = refl;
+                    quiet = refl;
+                    clean = refl;
+                    in_use = omega arith;
+                  },
+                ),
+              ),
               (([], tt, refl), tt),
             ),
           ),

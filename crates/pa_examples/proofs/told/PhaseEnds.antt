@@ -38,7 +38,8 @@ pub record KnowsUntil (ts : List ToldRecord) (n : ℕ) : Type 0 where
   pub order : HasOneOrder (seat_until ts n)
 
 -- a seat that holds nothing has all logs
-holds_none : (ts : List ToldRecord) (notes : List SeenNumber) (lists : ℕ → List Made) → FitsSeat ts notes lists → HasLogs (seat_of ts notes lists) ts
+holds_none : (ts : List ToldRecord) (notes : List SeenNumber) (lists : ℕ → List Made) → FitsSeat ts notes lists →
+    HasLogs (seat_of ts notes lists) ts
 holds_none ts notes lists fits = has_logs ts notes lists _ fits (fits_nothing ts notes lists)
 
 -- what the lists of a phase's end say, whatever the logs
@@ -53,11 +54,14 @@ module _ (ts : List ToldRecord) (n : ℕ) where
   all_rise cells = list_cases ts (seen_number (suc n)) lists (λ q ms. Rises ms) (tt, tt) (tt, tt) cells (λ q n0 n4 n5. tt)
 
   all_make : Each (λ (m : Made). m.stake < 16) (lists 5) → OfAll (λ q ms. Each (λ (m : Made). m.stake < 16) ms)
-  all_make cells = list_cases ts (seen_number (suc n)) lists (λ q ms. Each (λ (m : Made). m.stake < 16) ms) (lit< tt, tt) (lit< tt, tt) cells (λ q n0 n4 n5. tt)
+  all_make cells = list_cases ts (seen_number (suc n)) lists (λ q ms. Each (λ (m : Made). m.stake < 16) ms) (lit< tt, tt)
+      (lit< tt, tt) cells (λ q n0 n4 n5. tt)
 
-  all_follow : Each (λ (m : Made). IsKnownTo (seen_number (suc n)) m) (lists 5) → OfAll (λ q ms. Each (λ (m : Made). IsKnownTo (seen_number (suc n)) m) ms)
+  all_follow : Each (λ (m : Made). IsKnownTo (seen_number (suc n)) m) (lists 5) →
+      OfAll (λ q ms. Each (λ (m : Made). IsKnownTo (seen_number (suc n)) m) ms)
   all_follow cells =
-      list_cases ts (seen_number (suc n)) lists (λ q ms. Each (λ (m : Made). IsKnownTo (seen_number (suc n)) m) ms) (λ t. omega arith, tt) (λ t. omega arith, tt) cells (λ q n0 n4 n5. tt)
+      list_cases ts (seen_number (suc n)) lists (λ q ms. Each (λ (m : Made). IsKnownTo (seen_number (suc n)) m) ms) (λ t. omega arith, tt)
+      (λ t. omega arith, tt) cells (λ q n0 n4 n5. tt)
 
 module _ (answer : Answer) (word value after : ℕ) where
   abbrev ts : List ToldRecord
@@ -72,7 +76,8 @@ module _ (answer : Answer) (word value after : ℕ) where
       (by_two (λ j. MadeIn 1 j 0 (lists_until 1 0)) refl refl (λ j n0 n1. rw (ne_eqb 0 j n0) refl) k)
       (by_two (λ j. MadeIn 1 j 4 (lists_until 1 4)) refl refl (λ j n0 n1. rw (ne_eqb 0 j n0) refl) k)
       (by_two (λ j. MadeIn 1 j 5 (lists_until 1 5)) refl refl (λ j n0 n1. rw (ne_eqb 0 j n0) refl) k)
-      (λ p n0 n4 n5. by_two (λ j. MadeIn 1 j p []) (rw (ne_eqb 0 p n0, ne_eqb 4 p n4, ne_eqb 5 p n5) refl) refl (λ j m0 m1. rw (ne_eqb 0 j m0) refl) k)
+      (λ p n0 n4 n5. by_two (λ j. MadeIn 1 j p []) (rw (ne_eqb 0 p n0, ne_eqb 4 p n4, ne_eqb 5 p n5) refl) refl
+      (λ j m0 m1. rw (ne_eqb 0 j m0) refl) k)
       q
 
   made_2 : (k q : ℕ) → MadeIn 2 k q (list_of q (seat_until ts 2))
@@ -80,7 +85,8 @@ module _ (answer : Answer) (word value after : ℕ) where
       (by_two (λ j. MadeIn 2 j 0 (lists_until 2 0)) refl refl (λ j n0 n1. rw (ne_eqb 0 j n0, ne_eqb 1 j n1) refl) k)
       (by_two (λ j. MadeIn 2 j 4 (lists_until 2 4)) refl refl (λ j n0 n1. rw (ne_eqb 0 j n0, ne_eqb 1 j n1) refl) k)
       (by_two (λ j. MadeIn 2 j 5 (lists_until 2 5)) refl refl (λ j n0 n1. rw (ne_eqb 0 j n0, ne_eqb 1 j n1) refl) k)
-      (λ p n0 n4 n5. by_two (λ j. MadeIn 2 j p []) (rw (ne_eqb 0 p n0, ne_eqb 4 p n4, ne_eqb 5 p n5) refl) (rw (ne_eqb 5 p n5) refl) (λ j m0 m1. rw (ne_eqb 0 j m0, ne_eqb 1 j m1) refl) k)
+      (λ p n0 n4 n5. by_two (λ j. MadeIn 2 j p []) (rw (ne_eqb 0 p n0, ne_eqb 4 p n4, ne_eqb 5 p n5) refl) (rw (ne_eqb 5 p n5) refl)
+      (λ j m0 m1. rw (ne_eqb 0 j m0, ne_eqb 1 j m1) refl) k)
       q
 
   made_3 : (k q : ℕ) → MadeIn 3 k q (list_of q (seat_until ts 3))
@@ -88,7 +94,8 @@ module _ (answer : Answer) (word value after : ℕ) where
       (by_two (λ j. MadeIn 3 j 0 (lists_until 3 0)) refl refl (λ j n0 n1. rw (ne_eqb 0 j n0, ne_eqb 1 j n1) refl) k)
       (by_two (λ j. MadeIn 3 j 4 (lists_until 3 4)) refl refl (λ j n0 n1. rw (ne_eqb 0 j n0, ne_eqb 1 j n1) refl) k)
       (by_two (λ j. MadeIn 3 j 5 (lists_until 3 5)) refl refl (λ j n0 n1. rw (ne_eqb 0 j n0, ne_eqb 1 j n1) refl) k)
-      (λ p n0 n4 n5. by_two (λ j. MadeIn 3 j p []) (rw (ne_eqb 0 p n0, ne_eqb 4 p n4, ne_eqb 5 p n5) refl) (rw (ne_eqb 5 p n5) refl) (λ j m0 m1. rw (ne_eqb 0 j m0, ne_eqb 1 j m1) refl) k)
+      (λ p n0 n4 n5. by_two (λ j. MadeIn 3 j p []) (rw (ne_eqb 0 p n0, ne_eqb 4 p n4, ne_eqb 5 p n5) refl) (rw (ne_eqb 5 p n5) refl)
+      (λ j m0 m1. rw (ne_eqb 0 j m0, ne_eqb 1 j m1) refl) k)
       q
 
   fits_1 : KnowsUntil ts 1 → FitsSeat (told_until 1 ts) (seen_number 2) (lists_until 1)
@@ -113,7 +120,10 @@ module _ (answer : Answer) (word value after : ℕ) where
     is = λ q k. made_2 k q;
     rises = all_rise (told_until 2 ts) 2 ((λ t. omega arith, tt), (tt, tt));
     makers = all_make (told_until 2 ts) 2 (lit< tt, (lit< tt, tt));
-    follows = all_follow (told_until 2 ts) 2 (λ t. covered (seen_number 2) (seen_number 3) refl t, (λ t. covered (seen_number 2) (seen_number 3) refl t, tt));
+    follows = all_follow (told_until 2 ts) 2 (
+      λ t. covered (seen_number 2) (seen_number 3) refl t,
+      (λ t. covered (seen_number 2) (seen_number 3) refl t, tt),
+    );
     own_logs = h.own_logs;
     adds = h.adds;
     order = h.order;
@@ -129,7 +139,10 @@ module _ (answer : Answer) (word value after : ℕ) where
     is = λ q k. made_3 k q;
     rises = all_rise (told_until 3 ts) 3 ((λ t. omega arith, tt), (tt, tt));
     makers = all_make (told_until 3 ts) 3 (lit< tt, (lit< tt, tt));
-    follows = all_follow (told_until 3 ts) 3 (λ t. covered (seen_number 2) (seen_number 4) refl t, (λ t. covered (seen_number 2) (seen_number 4) refl t, tt));
+    follows = all_follow (told_until 3 ts) 3 (
+      λ t. covered (seen_number 2) (seen_number 4) refl t,
+      (λ t. covered (seen_number 2) (seen_number 4) refl t, tt),
+    );
     own_logs = h.own_logs;
     adds = h.adds;
     order = h.order;

@@ -71,7 +71,8 @@ module _ (sizes : SlotName → ℕ) (long : sizes the_slot ≡ 16) where
   -- a read through the raw_ptr, before which the slot was seen
   through_ref : (x : ToldRecord) → 1 ≤ x.saw its_title → IsReadThrough sizes (Ref the_slot) x
   through_ref x some_number = record {
-    issued = λ s has. subst (λ u. 1 ≤ x.saw (title_of sizes u)) has (subst (λ n. 1 ≤ x.saw (record { start = 16384; len = n; born = 0 })) (sym long) some_number);
+    issued = λ s has. subst (λ u. 1 ≤ x.saw (title_of sizes u)) has
+        (subst (λ n. 1 ≤ x.saw (record { start = 16384; len = n; born = 0 })) (sym long) some_number);
     owned = λ s t place value since owner unclean own among. absurd (not_own s own);
   }
 
@@ -83,10 +84,12 @@ module _ (sizes : SlotName → ℕ) (long : sizes the_slot ≡ 16) where
   inside = omega arith
 
   -- the read that finds the allocator's bit, and the one that finds the slot freed
-  pub held_row : (word value : ℕ) → held_of word ≡ 1 → Row facts (ops.Read 0 0) after_take (answers.Value (seen_at 16384 0 word) value) after_take
+  pub held_row : (word value : ℕ) → held_of word ≡ 1 →
+      Row facts (ops.Read 0 0) after_take (answers.Value (seen_at 16384 0 word) value) after_take
   held_row word value held = (λ k. refl, inr (inside, seen_at 16384 0 word, value, refl, inl (held, refl)))
 
-  pub freed_row : (word value : ℕ) → held_of word ≡ 0 → Row facts (ops.Read 0 0) after_take (answers.Dangling (seen_at 16384 0 word) value) after_take
+  pub freed_row : (word value : ℕ) → held_of word ≡ 0 →
+      Row facts (ops.Read 0 0) after_take (answers.Dangling (seen_at 16384 0 word) value) after_take
   freed_row word value freed = (λ k. refl, inr (inside, seen_at 16384 0 word, value, refl, inr (freed, refl)))
 
   module _ (answer : Answer) (word value after : ℕ) (read : Row facts (ops.Read 0 0) after_take answer after_take) where
@@ -147,18 +150,23 @@ second_cache = with_list (no_caches 1) 0 0 (record { slot = the_slot; number = 4
 abbrev pub caches_until : ℕ → Caches
 caches_until n k = if leb 1 n && eqb 0 k then kept else if eqb 3 n && eqb 1 k then second_cache else no_caches k
 
-free_row : DoneRow roots (record of_one { line = 6; thread = 0; phase = 2; op = ops.Free 0; answer = answers.Done (seen_at 16384 0 0x2000003) }) (Some steps.Free) (seen_at 16384 0 0x2000003)
+free_row : DoneRow roots
+    (record of_one { line = 6; thread = 0; phase = 2; op = ops.Free 0; answer = answers.Done (seen_at 16384 0 0x2000003) })
+    (Some steps.Free) (seen_at 16384 0 0x2000003)
     kept kept
 free_row = inr (λ h. absurd (omega (arith, h.1)), none_on two_threads_journal 6 refl, λ p c. refl)
 
-reset_row : DoneRow roots (record of_one { line = 11; thread = 1; phase = 3; op = ops.Reset 0; answer = answers.Done (seen_at 16384 0 0x3000002) }) (Some steps.Reset) (seen_at 16384 0 0x3000002)
+reset_row : DoneRow roots
+    (record of_one { line = 11; thread = 1; phase = 3; op = ops.Reset 0; answer = answers.Done (seen_at 16384 0 0x3000002) })
+    (Some steps.Reset) (seen_at 16384 0 0x3000002)
     (no_caches 1) second_cache
 unfolding rows row_of limit_of
 reset_row = inl ((refl, refl), inl (0, 0, of_class, (refl, no_other two_threads_journal 11), λ p c. refl))
 
 -- the read touches no list
 abbrev pub ReadsOnly : Answer → Type 0
-ReadsOnly answer = CacheRow 1 roots (record of_one { line = 8; thread = 1; phase = 2; op = ops.Read 0 0; answer = answer }) answer (no_caches 1) (no_caches 1)
+ReadsOnly answer = CacheRow 1 roots (record of_one { line = 8; thread = 1; phase = 2; op = ops.Read 0 0; answer = answer }) answer
+    (no_caches 1) (no_caches 1)
 
 module _ (answer : Answer) (word value after : ℕ) (read : ReadsOnly answer) where
   abbrev ps : List Played
@@ -177,23 +185,44 @@ module _ (answer : Answer) (word value after : ℕ) (read : ReadsOnly answer) wh
   until_0 k = refl
 
   until_1 : (k : ℕ) → Leads 1 k
-  until_1 = by_thread 1
-      (kept, made_row, (kept, inr (λ h. h, none_on two_threads_journal 3 refl, λ p c. refl), (kept, (none_on two_threads_journal 4 refl, λ p c. refl), refl)))
+  until_1 = by_thread 1 (
+    kept,
+    made_row,
+    (
+      kept,
+      inr (λ h. h, none_on two_threads_journal 3 refl, λ p c. refl),
+      (kept, (none_on two_threads_journal 4 refl, λ p c. refl), refl),
+    ),
+  )
       refl (λ k n0 n1. rw (ne_eqb 0 k n0) refl)
 
   until_2 : (k : ℕ) → Leads 2 k
-  until_2 = by_thread 2
-      (kept, made_row, (kept, inr (λ h. h, none_on two_threads_journal 3 refl, λ p c. refl), (kept, (none_on two_threads_journal 4 refl, λ p c. refl), (kept, free_row, refl))))
+  until_2 = by_thread 2 (
+    kept,
+    made_row,
+    (
+      kept,
+      inr (λ h. h, none_on two_threads_journal 3 refl, λ p c. refl),
+      (kept, (none_on two_threads_journal 4 refl, λ p c. refl), (kept, free_row, refl)),
+    ),
+  )
       (no_caches 1, (none_on two_threads_journal 7 refl, λ p c. refl), (no_caches 1, read, refl))
       (λ k n0 n1. rw (ne_eqb 0 k n0, ne_eqb 1 k n1) refl)
 
   until_3 : (k : ℕ) → Leads 3 k
-  until_3 = by_thread 3
-      (kept, made_row, (kept, inr (λ h. h, none_on two_threads_journal 3 refl, λ p c. refl), (kept, (none_on two_threads_journal 4 refl, λ p c. refl), (kept, free_row, refl)))) (
-        no_caches 1,
-        (none_on two_threads_journal 7 refl, λ p c. refl),
-        (no_caches 1, read, (no_caches 1, (none_on two_threads_journal 10 refl, λ p c. refl), (second_cache, reset_row, refl))),
-      )
+  until_3 = by_thread 3 (
+    kept,
+    made_row,
+    (
+      kept,
+      inr (λ h. h, none_on two_threads_journal 3 refl, λ p c. refl),
+      (kept, (none_on two_threads_journal 4 refl, λ p c. refl), (kept, free_row, refl)),
+    ),
+  ) (
+    no_caches 1,
+    (none_on two_threads_journal 7 refl, λ p c. refl),
+    (no_caches 1, read, (no_caches 1, (none_on two_threads_journal 10 refl, λ p c. refl), (second_cache, reset_row, refl))),
+  )
       (λ k n0 n1. rw (ne_eqb 0 k n0, ne_eqb 1 k n1) refl)
 
   pub leads_of : (n k : ℕ) → n < 4 → Leads n k

@@ -65,7 +65,8 @@ unfolding spoils
 alone_spoils r t u zero older alone = alone
 alone_spoils r t u (suc n) older alone = alone_spoils r t u n older alone
 
-placed_spoils : (t : Title) (n : ℕ) (older : List OneStep) → n ≤ content_count t → spoiled t older ≡ 0 → AreInPlace older → AreInPlace (spoils t n older)
+placed_spoils : (t : Title) (n : ℕ) (older : List OneStep) → n ≤ content_count t → spoiled t older ≡ 0 → AreInPlace older →
+    AreInPlace (spoils t n older)
 unfolding spoils
 placed_spoils t zero older few none placed = placed
 placed_spoils t (suc n) older few none placed =
@@ -89,7 +90,11 @@ counted_ready Copy r t found value older h = record { placed = (tt, h.placed); n
 counted_ready Reset r t found value older h = record { placed = (tt, h.placed); none = λ u. unfreed (same_title t u) (h.none u) }
 counted_ready Free r t found value older h = record {
   placed = (
-    (let m = own_spoils t (content_count t) older in let z = h.none t in omega arith, alone_spoils r t t (content_count t) older (alone_none r t older (h.none t))),
+    (
+      let m = own_spoils t (content_count t) older in let z = h.none t in
+          omega arith,
+      alone_spoils r t t (content_count t) older (alone_none r t older (h.none t)),
+    ),
     placed_spoils t (content_count t) older (omega arith) (h.none t) h.placed,
   );
   none = λ u. elim (title_tells t u) [
@@ -99,7 +104,8 @@ counted_ready Free r t found value older h = record {
 }
 counted_ready Write r t found value older h = record { placed = (h.none t, h.placed); none = λ u. unfreed (same_title t u) (h.none u) }
 
-entry_ready : (r : ℕ) (e : Entry) (older : List OneStep) → is_unread e ≡ true → IsReady older → IsReady (Logged (record { stake = r; entry = e }) ∷ readied e older)
+entry_ready : (r : ℕ) (e : Entry) (older : List OneStep) → is_unread e ≡ true → IsReady older →
+    IsReady (Logged (record { stake = r; entry = e }) ∷ readied e older)
 unfolding readied
 entry_ready r (Counted t step found value) older unread h = counted_ready step r t found value older h
 entry_ready r (Looked t found) older unread h = record { placed = (tt, h.placed); none = h.none }
@@ -116,7 +122,8 @@ all_ready older (m ∷ ms) unread h =
     all_ready (Logged m ∷ readied m.entry older) ms both.1 (entry_ready m.stake m.entry older both.0 h)
 
 -- the steps of an order without reads are in place, and each poisoning has a free after it
-pub stepwise_placed : (ms : List Stamped) → all_unread ms ≡ true → AreInPlace (stepwise [] ms) × ((t : Title) → spoiled t (stepwise [] ms) ≡ 0)
+pub stepwise_placed : (ms : List Stamped) → all_unread ms ≡ true → AreInPlace (stepwise [] ms) ×
+    ((t : Title) → spoiled t (stepwise [] ms) ≡ 0)
 stepwise_placed ms unread = let h = all_ready [] ms unread (record { placed = tt; none = λ t. refl }) in (h.placed, h.none)
 
 -- readying a step logs nothing

@@ -83,7 +83,10 @@ ends x among =
     each (λ (y : ToldRecord). Ended y.played.phase) purge_told (here, (here, (here, (here, tt)))) x among
 
 no_value : (x : ToldRecord) → Contains purge_told x → NoValue x
-no_value x among = each NoValue purge_told ((λ s v e. absurd cc), ((λ s v e. absurd cc), ((λ s v e. absurd cc), ((λ s v e. absurd cc), tt)))) x among
+no_value x among = each NoValue purge_told (
+  (λ s v e. absurd cc),
+  ((λ s v e. absurd cc), ((λ s v e. absurd cc), ((λ s v e. absurd cc), tt))),
+) x among
 
 abbrev none : ℕ → ℕ → Bool
 none m n = false
@@ -93,10 +96,12 @@ seen_so = viewed (history_at []) purge_worked none refl (λ x y h. absurd (no_ha
 
 module _ (r : Run) (is : IsRunOf r (map entry_of purge_records) (purge_journal ∷ []) purge_pool [] purge_report) where
   same : purge_records ≡ records_of purge_trace (told_by r)
-  same = sym (ap (played (rules_of purge_trace) purge_trace.lines) is.entries ∙ records_are_lines.same (rules_of purge_trace) purge_trace.lines purge_records lines)
+  same = sym (ap (played (rules_of purge_trace) purge_trace.lines) is.entries ∙
+      records_are_lines.same (rules_of purge_trace) purge_trace.lines purge_records lines)
 
   known : IsKnown purge_trace (told_by r) purge_records
-  known = subst (λ ps. IsKnown purge_trace (told_by r) ps) (sym same) (known_of purge_trace r purge_records lines (sym is.entries) (purge_is_filed r is).0 (all_used purge_records refl))
+  known = subst (λ ps. IsKnown purge_trace (told_by r) ps) (sym same)
+      (known_of purge_trace r purge_records lines (sym is.entries) (purge_is_filed r is).0 (all_used purge_records refl))
 
   played_out : IsPlayedOut sixteen (λ line. line) purge_trace (told_by r) (view_of purge_told) purge_told
   played_out = record {

@@ -60,7 +60,8 @@ is_free : (t : Title) → 0 < times_in (span_slots 256) t → same_title its_tit
 is_free t there other = let all = whole 255 t in let none : one (same_title its_title t) ≡ 0 = rw other refl in omega arith
 
 numbers_seen : (t : Title) → 0 < times_in (span_slots 256) t → number_of (count_word purge_words t) ≡ seen_among t (seen_number 3)
-numbers_seen = by_slot 0x3000001 (λ t. number_of (count_word purge_words t) ≡ seen_among t (seen_number 3)) (ap number_of (first_word 0x3000001))
+numbers_seen = by_slot 0x3000001 (λ t. number_of (count_word purge_words t) ≡ seen_among t (seen_number 3))
+    (ap number_of (first_word 0x3000001))
     (λ t other zero_word. ap number_of zero_word ∙ rw other refl)
 
 held : FitsHolding purge_told (seen_number 3) seat_purge
@@ -101,10 +102,12 @@ ends_first : EndsWith purge_words seat_purge its_title (the_logs.history its_tit
 ends_first = record {
   last = first_word 0x3000001 ∙ sym (ap reached (its_history its_title ∙ last_history));
   poison = λ freed. let bit : 1 ≡ 0 = sym (ap held_of (first_word 0x3000001)) ∙ freed.0 in absurd (omega arith);
-  content = λ own clean i low high. (words_at 2049 260094 0x3000001 (2048 + i)).1 (λ e. absurd (omega arith)) ∙ sym (ap content_of (its_history its_title ∙ last_history));
+  content = λ own clean i low high. (words_at 2049 260094 0x3000001 (2048 + i)).1 (λ e. absurd (omega arith)) ∙
+      sym (ap content_of (its_history its_title ∙ last_history));
 }
 
-ends_other : (t : Title) → same_title its_title t ≡ false → count_word purge_words t ≡ 0 → EndsWith purge_words seat_purge t (the_logs.history t)
+ends_other : (t : Title) → same_title its_title t ≡ false → count_word purge_words t ≡ 0 →
+    EndsWith purge_words seat_purge t (the_logs.history t)
 ends_other t other zero_word = record {
   last = zero_word ∙ sym (ap reached (its_history t ∙ last_other t other));
   poison = λ freed. let some_refs = subst (λ w. 0 < refs_of w) zero_word freed.1 in absurd (omega arith);
@@ -146,9 +149,11 @@ is_out = elim (out_is_left purge_pool purge_journal (name_of its_title) purge.is
     none : times_left (name_of its_title) purge_journal ≡ times_back (name_of its_title) purge_journal → ⊥
     none e = absurd (omega arith)
 
-rooted : (p : ℕ) (u : Title) → IsMade (root_replayed purge_pool (roots p) new_root) u → (IsNameOut (root_replayed purge_pool (roots p) new_root) (name_of u) → ⊥) → 0 < times_in (later_slots 255) u
+rooted : (p : ℕ) (u : Title) → IsMade (root_replayed purge_pool (roots p) new_root) u →
+    (IsNameOut (root_replayed purge_pool (roots p) new_root) (name_of u) → ⊥) → 0 < times_in (later_slots 255) u
 rooted zero u made stays = elim (title_tells its_title u) [
-  | inl y ↦ absurd (subst (λ (w : Title). IsNameOut (root_replayed purge_pool purge_journal new_root) (name_of w) → ⊥) (sym y.1) stays is_out)
+  | inl y ↦ absurd (subst (λ (w : Title). IsNameOut (root_replayed purge_pool purge_journal new_root) (name_of w) → ⊥)
+      (sym y.1) stays is_out)
   | inr n ↦ is_free u (made_free (root_replayed purge_pool purge_journal new_root) spans_are u made) n.0
 ]
 rooted (suc p) u (s, among, number, below, is) stays = absurd (not_in_none s among)
@@ -157,11 +162,14 @@ rooted (suc p) u (s, among, number, below, is) stays = absurd (not_in_none s amo
 abbrev IsListed : Numbered → Type 0
 IsListed m = 0 < times_in (later_slots 255) (title_of sizes m.slot)
 
-slot_free : (n : ℕ) → 0 < n → n < 256 → IsOfClass roots (name_of (title_number n)) 0 0 → 0 < times_in (later_slots 255) (title_of sizes (name_of (title_number n)))
+slot_free : (n : ℕ) → 0 < n → n < 256 → IsOfClass roots (name_of (title_number n)) 0 0 →
+    0 < times_in (later_slots 255) (title_of sizes (name_of (title_number n)))
 slot_free n some_number few of =
     let bytes = size_is (name_of (title_number n)) (in_class_0 (name_of (title_number n)) of) in
-    let title : title_number n ≡ title_of sizes (name_of (title_number n)) = ap (λ (len : ℕ). record { start = 16384 + 16 * n; len = len; born = 0 }) (sym bytes) in
-    subst (λ u. 0 < times_in (later_slots 255) u) title (is_free (title_number n) (stands_in (span_slots 256) (title_number n) (slot_has 256 n few)) (other n some_number))
+    let title : title_number n ≡ title_of sizes (name_of (title_number n)) =
+    ap (λ (len : ℕ). record { start = 16384 + 16 * n; len = len; born = 0 }) (sym bytes) in
+    subst (λ u. 0 < times_in (later_slots 255) u) title
+    (is_free (title_number n) (stands_in (span_slots 256) (title_number n) (slot_has 256 n few)) (other n some_number))
   where
     other : (m : ℕ) → 0 < m → same_title its_title (title_number m) ≡ false
     other m more = elim (title_tells its_title (title_number m)) [
@@ -169,11 +177,13 @@ slot_free n some_number few of =
       | inr n ↦ n.0
     ]
 
-listed : (k p class : ℕ) (m : Numbered) → k < 1 → p < 1 → class < 170 → Contains (worked.at_end k p class) m → 0 < times_in (later_slots 255) (title_of sizes m.slot)
+listed : (k p class : ℕ) (m : Numbered) → k < 1 → p < 1 → class < 170 → Contains (worked.at_end k p class) m →
+    0 < times_in (later_slots 255) (title_of sizes m.slot)
 listed k p class m few alone real among =
     let first : 0 ≡ k = omega arith in
     let home : 0 ≡ p = omega arith in
-    of_class class m (subst (λ q. Contains (worked.at_end 0 q class) m) (sym home) (subst (λ j. Contains (worked.at_end j p class) m) (sym first) among))
+    of_class class m (subst (λ q. Contains (worked.at_end 0 q class) m) (sym home)
+    (subst (λ j. Contains (worked.at_end j p class) m) (sym first) among))
   where
     in_list : (m : Numbered) → Contains rest m → IsListed m
     in_list m there = each IsListed rest (
@@ -217,4 +227,9 @@ pub purge_closes : PurgeIsClosed
 purge_closes =
     let all = says logs in
     let close : Closes (all.lists 1) = subst (λ lists. Closes (lists 1)) (sym (says_lists logs)) closes in
-    record { says = all; closes = close; end = is_end; held = layers_tell_all.held purge_words purge_trace told_purge seat_purge purge_told all close is_end }
+    record {
+      says = all;
+      closes = close;
+      end = is_end;
+      held = layers_tell_all.held purge_words purge_trace told_purge seat_purge purge_told all close is_end;
+    }

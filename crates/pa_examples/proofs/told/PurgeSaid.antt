@@ -132,7 +132,8 @@ module _ (has : HasLogs seat_purge purge_told) where
   ends : (n : ℕ) → 1 ≤ n → n ≤ 1 → EndsPhase n seat_purge seat_purge purge_told
   ends n low high =
       let one : 1 ≡ n = omega arith in
-      subst (λ m. EndsPhase m seat_purge seat_purge purge_told) one (record { has = has; begins = λ q few. ([], append_none (list_of q seat_purge)) })
+      subst (λ m. EndsPhase m seat_purge seat_purge purge_told) one
+      (record { has = has; begins = λ q few. ([], append_none (list_of q seat_purge)) })
 
   runner : RunnerSays purge_trace told_purge seat_purge purge_told (λ n. seat_purge)
   runner = record {
@@ -171,7 +172,8 @@ abbrev IsNoRefusal : ToldRecord → Type 0
 IsNoRefusal x = (j reg p size : ℕ) → x.played.answer ≡ answers.Full j → x.played.op ≡ ops.Alloc reg p size → ⊥
 
 none_refused : (x : ToldRecord) → Contains purge_told x → IsNoRefusal x
-none_refused x among = each IsNoRefusal purge_told ((λ j r p s a o. absurd cc), ((λ j r p s a o. absurd cc), ((λ j r p s a o. absurd cc), ((λ j r p s a o. absurd cc), tt)))) x among
+none_refused x among = each IsNoRefusal purge_told
+    ((λ j r p s a o. absurd cc), ((λ j r p s a o. absurd cc), ((λ j r p s a o. absurd cc), ((λ j r p s a o. absurd cc), tt)))) x among
 
 roots_tell : RootsTell purge_trace told_purge seat_purge purge_told
 roots_tell = record {
@@ -179,8 +181,10 @@ roots_tell = record {
   journals = worked.rooted.journals;
   none_past = worked.rooted.none_past;
   makes = λ x p m e few among.
-      (below_four (λ q. Makes purge_pool q x) (first_makes x among) (none_makes purge_pool 1 purge_told (refl, (refl, (refl, (refl, tt)))) x among)
-      (none_makes purge_pool 2 purge_told (refl, (refl, (refl, (refl, tt)))) x among) (none_makes purge_pool 3 purge_told (refl, (refl, (refl, (refl, tt)))) x among) p few).makes_it m e;
+      (below_four (λ q. Makes purge_pool q x) (first_makes x among)
+      (none_makes purge_pool 1 purge_told (refl, (refl, (refl, (refl, tt)))) x among)
+      (none_makes purge_pool 2 purge_told (refl, (refl, (refl, (refl, tt)))) x among)
+      (none_makes purge_pool 3 purge_told (refl, (refl, (refl, (refl, tt)))) x among) p few).makes_it m e;
   refused = λ x j reg p size among full op. absurd (none_refused x among j reg p size full op);
   numbers = known.numbers;
   unmaps = λ x among. known.unmaps x.played (map_in (λ (y : ToldRecord). y.played) purge_told x among);
@@ -239,12 +243,14 @@ heap = record {
   seen = have_seen (history_at []) purge_told seen_so;
   caches = λ n k low high.
       let one : 1 ≡ n = omega arith in
-      subst (λ m. CacheLeadsTo 1 roots (no_caches k) (records_by k (until m purge_records)) (worked.at_end k)) one (leads_of 1 roots no_caches purge_records worked.at_end worked.cached_to k);
+      subst (λ m. CacheLeadsTo 1 roots (no_caches k) (records_by k (until m purge_records)) (worked.at_end k)) one
+      (leads_of 1 roots no_caches purge_records worked.at_end worked.cached_to k);
 }
 
 -- ---- the report
 
-line : IsLineSaid purge_trace told_purge seat_purge purge_told worked.at_end seat_purge (report_line 1 (tally 1 16) (tally 0 0) (tally 7 112) purge_census)
+line : IsLineSaid purge_trace told_purge seat_purge purge_told worked.at_end seat_purge
+    (report_line 1 (tally 1 16) (tally 0 0) (tally 7 112) purge_census)
 unfolding rows row_of slot_of listed_slots listed_bytes
 line = record {
   live = counted homes sizes home long;
@@ -275,7 +281,9 @@ says has = record {
   roots = roots_tell;
   cells = cells_tell;
   heap = heap;
-  report = λ l among. each (λ (k : ReportLine). IsLineSaid purge_trace told_purge seat_purge purge_told worked.at_end seat_purge k) purge_report (line, tt) l among;
+  report = λ l among. each
+      (λ (k : ReportLine). IsLineSaid purge_trace told_purge seat_purge purge_told worked.at_end seat_purge k) purge_report
+      (line, tt) l among;
 }
 
 pub says_lists : (has : HasLogs seat_purge purge_told) → (says has).lists ≡ (λ n. worked.at_end)

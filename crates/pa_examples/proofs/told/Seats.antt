@@ -74,7 +74,8 @@ pub record IsOrderOf (ts : List ToldRecord) (notes : List SeenNumber) (lists : �
   pub placed : AreInPlace steps
   pub freed : (t : Title) → spoiled t steps ≡ 0
 
-pub has_order : (ts : List ToldRecord) (notes : List SeenNumber) (lists : ℕ → List Made) (all : List Stamped) → IsOrderOf ts notes lists all → HasOneOrder (seat_of ts notes lists)
+pub has_order : (ts : List ToldRecord) (notes : List SeenNumber) (lists : ℕ → List Made) (all : List Stamped) →
+    IsOrderOf ts notes lists all → HasOneOrder (seat_of ts notes lists)
 has_order ts notes lists all is = record {
   all = all;
   ordered = record {

@@ -52,7 +52,8 @@ pub heard_by : (ws : List Worked) (notes : List SeenNumber) → list_all (λ (w 
     (x : ToldRecord) (u : Title) → Contains (told_records ws) x → x.gives u ≤ seen_among u notes
 heard_by ws notes h x u among =
     let (w, mine, e) = map_cases told_record ws x among in
-    subst (λ (z : ToldRecord). z.gives u ≤ seen_among u notes) e (covered w.gives notes (passes (λ (y : Worked). covers y.gives notes) ws w h mine) u)
+    subst (λ (z : ToldRecord). z.gives u ≤ seen_among u notes) e
+    (covered w.gives notes (passes (λ (y : Worked). covers y.gives notes) ws w h mine) u)
 
 -- a step or look found no less than these notes say, and what it left those notes do
 abbrev pub fits : List SeenNumber → List SeenNumber → Entry → Bool
@@ -74,22 +75,26 @@ module _ (cells : ℕ → List CellEntry) (ws : List Worked) (hands : ℕ → �
     (handed : (x y : Played) → HandsTo cells x y → hands x.line y.line ≡ true) where
   -- what the tests say of one record
   own : (x : Worked) → Contains ws x → (list_all (fits x.saw x.gives) x.stretch ≡ true) × (covers x.saw x.gives ≡ true)
-  own x among = and_parts _ _ (passes (λ (y : Worked). list_all (fits y.saw y.gives) y.stretch && covers y.saw y.gives) ws x (and_parts _ _ seen).0 among)
+  own x among = and_parts _ _
+      (passes (λ (y : Worked). list_all (fits y.saw y.gives) y.stretch && covers y.saw y.gives) ws x (and_parts _ _ seen).0 among)
 
   pub viewed : AreViewed cells (told_records ws)
   viewed = record {
     steps = λ x t step found value among there.
         let (w, mine, e) = map_cases told_record ws x among in
-        let there' : Contains w.stretch (Counted t step found value) = subst (λ (z : ToldRecord). Contains z.stretch (Counted t step found value)) (sym e) there in
+        let there' : Contains w.stretch (Counted t step found value) =
+        subst (λ (z : ToldRecord). Contains z.stretch (Counted t step found value)) (sym e) there in
         let both = and_parts (leb (seen_among t w.saw) (number_of found)) (leb (number_of found + 1) (seen_among t w.gives))
         (passes (fits w.saw w.gives) w.stretch (Counted t step found value) (own w mine).0 there') in
-        subst (λ (z : ToldRecord). (z.saw t ≤ number_of found) × (number_of found + 1 ≤ z.gives t)) e (leb-true _ _ both.0, leb-true _ _ both.1);
+        subst (λ (z : ToldRecord). (z.saw t ≤ number_of found) × (number_of found + 1 ≤ z.gives t)) e
+        (leb-true _ _ both.0, leb-true _ _ both.1);
     looks = λ x t found among there.
         let (w, mine, e) = map_cases told_record ws x among in
         let there' : Contains w.stretch (Looked t found) = subst (λ (z : ToldRecord). Contains z.stretch (Looked t found)) (sym e) there in
         let both = and_parts (leb (seen_among t w.saw) (number_of found)) (leb (number_of found) (seen_among t w.gives))
         (passes (fits w.saw w.gives) w.stretch (Looked t found) (own w mine).0 there') in
-        subst (λ (z : ToldRecord). (z.saw t ≤ number_of found) × (number_of found ≤ z.gives t)) e (leb-true _ _ both.0, leb-true _ _ both.1);
+        subst (λ (z : ToldRecord). (z.saw t ≤ number_of found) × (number_of found ≤ z.gives t)) e
+        (leb-true _ _ both.0, leb-true _ _ both.1);
     grows = λ x t among.
         let (w, mine, e) = map_cases told_record ws x among in
         subst (λ (z : ToldRecord). z.saw t ≤ z.gives t) e (covered w.saw w.gives (own w mine).1 t);
@@ -97,18 +102,25 @@ module _ (cells : ℕ → List CellEntry) (ws : List Worked) (hands : ℕ → �
         let (w, mine, e) = map_cases told_record ws x first in
         let (u, mine', f) = map_cases told_record ws y second in
         let before' : StandsBefore w.played u.played =
-        subst (λ (z : ToldRecord). StandsBefore w.played z.played) (sym f) (subst (λ (z : ToldRecord). StandsBefore z.played y.played) (sym e) before) in
+        subst (λ (z : ToldRecord). StandsBefore w.played z.played) (sym f)
+        (subst (λ (z : ToldRecord). StandsBefore z.played y.played) (sym e) before) in
         let test : Worked → Worked → Bool = λ (a : Worked) (b : Worked). implies (stands a.played b.played) (covers a.gives b.saw) in
-        let here = implied _ _ (both_pass test ws w u (and_parts _ _ (and_parts _ _ seen).1).0 mine mine') (stands-from w.played u.played before') in
-        subst (λ (z : ToldRecord). z.gives t ≤ y.saw t) e (subst (λ (z : ToldRecord). seen_among t w.gives ≤ z.saw t) f (covered w.gives u.saw here t));
+        let here = implied _ _ (both_pass test ws w u (and_parts _ _ (and_parts _ _ seen).1).0 mine mine')
+        (stands-from w.played u.played before') in
+        subst (λ (z : ToldRecord). z.gives t ≤ y.saw t) e
+        (subst (λ (z : ToldRecord). seen_among t w.gives ≤ z.saw t) f (covered w.gives u.saw here t));
     hands = λ x y t first second hand.
         let (w, mine, e) = map_cases told_record ws x first in
         let (u, mine', f) = map_cases told_record ws y second in
         let hand' : HandsTo cells w.played u.played =
-        subst (λ (z : ToldRecord). HandsTo cells w.played z.played) (sym f) (subst (λ (z : ToldRecord). HandsTo cells z.played y.played) (sym e) hand) in
-        let test : Worked → Worked → Bool = λ (a : Worked) (b : Worked). implies (hands a.played.line b.played.line) (covers a.gives b.gives) in
-        let here = implied _ _ (both_pass test ws w u (and_parts _ _ (and_parts _ _ seen).1).1 mine mine') (handed w.played u.played hand') in
-        subst (λ (z : ToldRecord). z.gives t ≤ y.gives t) e (subst (λ (z : ToldRecord). seen_among t w.gives ≤ z.gives t) f (covered w.gives u.gives here t));
+        subst (λ (z : ToldRecord). HandsTo cells w.played z.played) (sym f)
+        (subst (λ (z : ToldRecord). HandsTo cells z.played y.played) (sym e) hand) in
+        let test : Worked → Worked →
+        Bool = λ (a : Worked) (b : Worked). implies (hands a.played.line b.played.line) (covers a.gives b.gives) in
+        let here = implied _ _ (both_pass test ws w u (and_parts _ _ (and_parts _ _ seen).1).1 mine mine')
+        (handed w.played u.played hand') in
+        subst (λ (z : ToldRecord). z.gives t ≤ y.gives t) e
+        (subst (λ (z : ToldRecord). seen_among t w.gives ≤ z.gives t) f (covered w.gives u.gives here t));
   }
 
 -- what seats had seen, each by its own, is a part of it

@@ -61,9 +61,45 @@ told x among = each (IsTold sixteen) threads_told (
         (
           refl,
           (
-            (refl, (0, 0, false, refl, record { since = no_deeds; unclean = false; rest = []; pair = refl; none = refl; quiet = refl; clean = refl; in_use = omega arith })),
             (
-              (refl, (0, 0, false, refl, record { since = no_deeds; unclean = false; rest = []; pair = refl; none = refl; quiet = refl; clean = refl; in_use = omega arith })),
+              refl,
+              (
+                0,
+                0,
+                false,
+                refl,
+                record {
+                  since = no_deeds;
+                  unclean = false;
+                  rest = [];
+                  pair = refl;
+                  none = refl;
+                  quiet = refl;
+                  clean = refl;
+                  in_use = omega arith;
+                },
+              ),
+            ),
+            (
+              (
+                refl,
+                (
+                  0,
+                  0,
+                  false,
+                  refl,
+                  record {
+                    since = no_deeds;
+                    unclean = false;
+                    rest = [];
+                    pair = refl;
+                    none = refl;
+                    quiet = refl;
+                    clean = refl;
+                    in_use = omega arith;
+                  },
+                ),
+              ),
               (([], tt, refl), tt),
             ),
           ),
@@ -131,7 +167,8 @@ read_is t word found value some_pair =
     found_is a b w u e = cc
 
 -- no quiet read is through an Own
-not_owned : (t : Title) (word found value : ℕ) → 0 < quiet_read true t found value (Looked its_title word) (Read its_title 0 poison no_deeds false false) → ⊥
+not_owned : (t : Title) (word found value : ℕ) →
+    0 < quiet_read true t found value (Looked its_title word) (Read its_title 0 poison no_deeds false false) → ⊥
 not_owned t word found value some_pair =
     let is = quiet_tells true t found value (Looked its_title word) its_title 0 poison no_deeds false false some_pair in
     true≢false (sym is.owner)
@@ -139,16 +176,20 @@ not_owned t word found value some_pair =
 -- what the second thread's reads gave by a history in which the first thread's free is the next one
 abbrev pub GaveRef : List ToldRecord → List Done → ℕ → Title → ℕ → ℕ → Type 0
 GaveRef ts steps r t found value =
-    (its_title ≡ t) × ((value ≡ content_at_number (number_of found) steps) ⊎ ((value ≡ poison) × IsFreedElsewhere (logged_of_by (view_of ts)) steps its_title r (number_of found)))
+    (its_title ≡ t) × ((value ≡ content_at_number (number_of found) steps) ⊎
+    ((value ≡ poison) × IsFreedElsewhere (logged_of_by (view_of ts)) steps its_title r (number_of found)))
 
 module _ (ts : List ToldRecord) (steps : List Done) (freed : IsFreedElsewhere (logged_of_by (view_of ts)) steps its_title 1 2) where
-  gave : (t : Title) (found value : ℕ) → 0 < quiet_read false t found value (Looked its_title 33554435) (Read its_title 0 poison no_deeds false false) → GaveRef ts steps 1 t found value
+  gave : (t : Title) (found value : ℕ) →
+      0 < quiet_read false t found value (Looked its_title 33554435) (Read its_title 0 poison no_deeds false false) →
+      GaveRef ts steps 1 t found value
   gave t found value some_pair =
       let (title, word, is) = read_is t 33554435 found value some_pair in
       (title, inr (sym is, subst (λ w. IsFreedElsewhere (logged_of_by (view_of ts)) steps its_title 1 (number_of w)) word freed))
 
 -- a look that found the bit 0 is no look at a held slot
-not_held : (t : Title) (found value : ℕ) → held_of found ≡ 1 → 0 < quiet_read false t found value (Looked its_title 50331650) (Read its_title 0 poison no_deeds false false) → ⊥
+not_held : (t : Title) (found value : ℕ) → held_of found ≡ 1 →
+    0 < quiet_read false t found value (Looked its_title 50331650) (Read its_title 0 poison no_deeds false false) → ⊥
 not_held t found value held some_pair =
     let (title, word, is) = read_is t 50331650 found value some_pair in
     let bit : 0 ≡ held_of found = ap held_of word in
@@ -184,25 +225,29 @@ of_first = record {
   freed = refl;
   own = λ t found value some_pair. absurd (omega arith);
   ref = λ r t found value held some_pair.
-      by_second told_first r (quiet_read false t found value) (λ q. GaveRef told_first steps_first q t found value) refl (λ a b. rw a refl) some_pair
+      by_second told_first r (quiet_read false t found value) (λ q. GaveRef told_first steps_first q t found value) refl
+      (λ a b. rw a refl) some_pair
       (λ mine. absurd (omega arith));
 }
 
 pub of_second : IsOfOne told_second steps_second
 of_second = record {
-  low = λ x among. each (λ (y : ToldRecord). y.played.thread < 16) told_second (lit< tt, (lit< tt, (lit< tt, (lit< tt, (lit< tt, (lit< tt, tt)))))) x among;
+  low = λ x among. each (λ (y : ToldRecord). y.played.thread < 16) told_second
+      (lit< tt, (lit< tt, (lit< tt, (lit< tt, (lit< tt, (lit< tt, tt)))))) x among;
   chained = chained_second;
   other = λ t other. record { at = λ k. rw other refl; on = rw other refl; looked = λ word. rw other refl; named = rw other refl };
   freed = refl;
   own = λ t found value some_pair. not_owned t 33554435 found value (omega arith);
   ref = λ r t found value held some_pair.
-      by_second told_second r (quiet_read false t found value) (λ q. GaveRef told_second steps_second q t found value) refl (λ a b. rw (a, b) refl) some_pair
+      by_second told_second r (quiet_read false t found value) (λ q. GaveRef told_second steps_second q t found value) refl
+      (λ a b. rw (a, b) refl) some_pair
       (λ mine. gave told_second steps_second freed_second t found value (omega arith));
 }
 
 pub of_last : IsOfOne threads_told steps_last
 of_last = record {
-  low = λ x among. each (λ (y : ToldRecord). y.played.thread < 16) threads_told (lit< tt, (lit< tt, (lit< tt, (lit< tt, (lit< tt, (lit< tt, (lit< tt, (lit< tt, tt)))))))) x among;
+  low = λ x among. each (λ (y : ToldRecord). y.played.thread < 16) threads_told
+      (lit< tt, (lit< tt, (lit< tt, (lit< tt, (lit< tt, (lit< tt, (lit< tt, (lit< tt, tt)))))))) x among;
   chained = chained_last;
   other = λ t other. record { at = λ k. rw other refl; on = rw other refl; looked = λ word. rw other refl; named = rw other refl };
   freed = refl;
@@ -212,7 +257,8 @@ of_last = record {
         | inr none ↦ not_owned t 50331650 found value (omega arith)
       ];
   ref = λ r t found value held some_pair.
-      by_second threads_told r (quiet_read false t found value) (λ q. GaveRef threads_told steps_last q t found value) refl (λ a b. rw (a, b) refl) some_pair
+      by_second threads_told r (quiet_read false t found value) (λ q. GaveRef threads_told steps_last q t found value) refl
+      (λ a b. rw (a, b) refl) some_pair
       (λ mine. elim (cases_lt 0 (quiet_read false t found value (Looked its_title 33554435) (Read its_title 0 poison no_deeds false false))) [
         | inl early ↦ gave threads_told steps_last freed_last t found value early
         | inr none ↦ absurd (not_held t found value held (omega arith))
@@ -228,13 +274,15 @@ ends x among =
     let first : Ended 1 = (view_of told_first, knows_one told_first steps_first of_first) in
     let second : Ended 2 = (view_of told_second, knows_one told_second steps_second of_second) in
     let last : Ended 3 = (view_of threads_told, knows_one threads_told steps_last of_last) in
-    each (λ (y : ToldRecord). Ended y.played.phase) threads_told (first, (first, (first, (second, (second, (second, (last, (last, tt)))))))) x among
+    each (λ (y : ToldRecord). Ended y.played.phase) threads_told
+    (first, (first, (first, (second, (second, (second, (last, (last, tt)))))))) x among
 
 -- the read of the second phase was through a raw_ptr that the cell gave
 abbrev HasReader : ToldRecord → Type 0
 HasReader x =
     (seen : Seen) (value : ℕ) → x.played.answer ≡ Value seen value →
-    (reg place : ℕ) × (regs : Regs) × (x.played.op ≡ ops.Read reg place) × HasRegs (usable_of 1) cells two_threads_records x.played regs × ReadsThrough sixteen (regs reg) seen place value x
+    (reg place : ℕ) × (regs : Regs) × (x.played.op ≡ ops.Read reg place) × HasRegs (usable_of 1) cells two_threads_records x.played regs ×
+    ReadsThrough sixteen (regs reg) seen place value x
 
 value_is : (a b : Seen) (v w : ℕ) → Value a v ≡ Value b w → (a ≡ b) × (v ≡ w)
 value_is a b v w e = (cc, cc)
@@ -243,7 +291,16 @@ abbrev the_seen : Seen
 the_seen = seen_at 16384 0 0x2000003
 
 read_told : IsReadTold (title_of sixteen the_seen.slot) 0 the_seen.found.0 poison false (read_poison 0x2000003)
-read_told = record { since = no_deeds; unclean = false; rest = []; pair = refl; none = refl; quiet = refl; clean = refl; in_use = omega arith }
+read_told = record {
+  since = no_deeds;
+  unclean = false;
+  rest = [];
+  pair = refl;
+  none = refl;
+  quiet = refl;
+  clean = refl;
+  in_use = omega arith;
+}
 
 reader_read : ReadsThrough sixteen (after_take 0) the_seen 0 poison (told_record the_read)
 reader_read = (refl, false, read_told)
@@ -286,7 +343,8 @@ abbrev pub hands : ℕ → ℕ → Bool
 hands m n = eqb 4 m && eqb 7 n
 
 handed : (x y : Played) → HandsTo cells x y → (4 ≡ x.line) × (7 ≡ y.line)
-handed x y (zero, zero, e, f, at, at', line, line', gave_one) = (ap cell_line (of_some _ e at) ∙ line, ap cell_line (of_some _ f at') ∙ line')
+handed x y (zero, zero, e, f, at, at', line, line', gave_one) =
+    (ap cell_line (of_some _ e at) ∙ line, ap cell_line (of_some _ f at') ∙ line')
 handed x y (zero, suc j, e, f, at, at', line, line', gave_one) = absurd (not_some f (rw add-one at at'))
 handed x y (suc k, j, e, f, at, at', line, line', gave_one) = absurd (not_some e at)
 
@@ -299,9 +357,11 @@ seen_so = viewed cells threads_worked hands refl hands_so
 handed_on : (x y : Played) → HandsTo cells x y → x.line < y.line
 handed_on x y h = let (a, b) = handed x y h in omega arith
 
-module _ (r : Run) (is : IsRunOf r (map entry_of two_threads_records) (two_threads_journal ∷ []) two_threads_pool (two_threads_history ∷ []) two_threads_report) where
+module _ (r : Run) (is : IsRunOf r (map entry_of two_threads_records) (two_threads_journal ∷ []) two_threads_pool
+    (two_threads_history ∷ []) two_threads_report) where
   same : two_threads_records ≡ records_of two_threads_trace (told_by r)
-  same = sym (ap (played (rules_of two_threads_trace) two_threads_trace.lines) is.entries ∙ records_are_lines.same (rules_of two_threads_trace) two_threads_trace.lines two_threads_records lines)
+  same = sym (ap (played (rules_of two_threads_trace) two_threads_trace.lines) is.entries ∙
+      records_are_lines.same (rules_of two_threads_trace) two_threads_trace.lines two_threads_records lines)
 
   known : IsKnown two_threads_trace (told_by r) two_threads_records
   known = subst (λ ps. IsKnown two_threads_trace (told_by r) ps) (sym same) (two_threads_are_known r is)

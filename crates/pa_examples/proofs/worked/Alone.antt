@@ -23,8 +23,10 @@ is_swap op = false
 no_exchange : (k j : ℕ) (e : CellEntry) → IsExchange no_cells k j e → ⊥
 no_exchange k j e at = not_some e at
 
-pub no_swap : (ps : List Played) → list_all (λ (x : Played). not (is_swap x.op)) ps ≡ true → (x : Played) (k reg : ℕ) → Contains ps x → x.op ≡ ops.Swap k reg → ⊥
-no_swap ps h x k reg among is = both_ways _ (not-true _ (passes (λ (y : Played). not (is_swap y.op)) ps x h among)) (subst (λ o. is_swap o ≡ true) (sym is) refl)
+pub no_swap : (ps : List Played) → list_all (λ (x : Played). not (is_swap x.op)) ps ≡ true → (x : Played) (k reg : ℕ) → Contains ps x →
+    x.op ≡ ops.Swap k reg → ⊥
+no_swap ps h x k reg among is =
+    both_ways _ (not-true _ (passes (λ (y : Played). not (is_swap y.op)) ps x h among)) (subst (λ o. is_swap o ≡ true) (sym is) refl)
 
 pub no_cell_used : (ps : List Played) → list_all (λ (x : Played). not (is_swap x.op)) ps ≡ true → AreCells no_cells ps
 no_cell_used ps h = record {
@@ -40,4 +42,5 @@ abbrev pub by_line : Played → Played → Bool
 by_line x y = ltb x.line y.line
 
 pub seen_by_line : (ps : List Played) → is_seen by_line ps ≡ true → IsSeenInOrder no_cells ps
-seen_by_line ps h = seen_in_order no_cells ps by_line h (λ x y among among' (k, j, e, f, at, at', line, line', gave). absurd (no_exchange k j e at))
+seen_by_line ps h = seen_in_order no_cells ps by_line h
+    (λ x y among among' (k, j, e, f, at, at', line, line', gave). absurd (no_exchange k j e at))

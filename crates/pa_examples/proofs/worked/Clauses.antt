@@ -28,7 +28,8 @@ use Rattle.pa_rules.proofs.Recorded.{records_are_lines}
 use Rattle.pa_examples.specs.Worked.{IsRunOf}
 use Rattle.pa_one_run.proofs.OneThread.{one_thread}
 
-pub record IsWritten (t : Trace) (ps : List Played) (journals : List (List RootEntry)) (pools : List PoolEntry) (exchanged : List (List CellEntry)) (heaps : List ReportLine) : Type 0 where
+pub record IsWritten (t : Trace) (ps : List Played) (journals : List (List RootEntry)) (pools : List PoolEntry)
+    (exchanged : List (List CellEntry)) (heaps : List ReportLine) : Type 0 where
   pub lines : AreLines (rules_of t) t.lines ps
   pub cells : AreCells (history_at exchanged) ps
   pub registers : AreRegisters (usable_of t.version) (history_at exchanged) ps
@@ -43,9 +44,11 @@ pub record IsWritten (t : Trace) (ps : List Played) (journals : List (List RootE
   pub report : IsReport (phases_in t.lines) t.partitions t.threads ps pools (journal_at journals) heaps
 
 -- the clauses hold of a run with these lists
-own_lists : (t : Trace) (r : Run) (ps : List Played) → map entry_of ps ≡ r.entries.items → IsWritten t ps r.roots.items r.pool.items r.cells.items r.report.items → IsLegal t r
+own_lists : (t : Trace) (r : Run) (ps : List Played) → map entry_of ps ≡ r.entries.items →
+    IsWritten t ps r.roots.items r.pool.items r.cells.items r.report.items → IsLegal t r
 own_lists t r ps told w =
-    let same : records_of t (told_by r) ≡ ps = ap (played (rules_of t) t.lines) (sym told) ∙ records_are_lines.same (rules_of t) t.lines ps w.lines in
+    let same : records_of t (told_by r) ≡ ps = ap (played (rules_of t) t.lines) (sym told) ∙
+    records_are_lines.same (rules_of t) t.lines ps w.lines in
     subst (IsLegalBy t (told_by r)) (sym same)
     (record {
       lines = subst (AreDue (rules_of t) t.lines) told (records_are_lines.due (rules_of t) t.lines ps w.lines);
@@ -62,17 +65,21 @@ own_lists t r ps told w =
       report = w.report;
     })
 
-pub written_is_legal : (t : Trace) (r : Run) (ps : List Played) (journals : List (List RootEntry)) (pools : List PoolEntry) (exchanged : List (List CellEntry)) (heaps : List ReportLine) →
+pub written_is_legal : (t : Trace) (r : Run) (ps : List Played) (journals : List (List RootEntry)) (pools : List PoolEntry)
+    (exchanged : List (List CellEntry)) (heaps : List ReportLine) →
     IsRunOf r (map entry_of ps) journals pools exchanged heaps → IsWritten t ps journals pools exchanged heaps → IsLegal t r
 written_is_legal t r ps journals pools exchanged heaps is w =
     own_lists t r ps (sym is.entries)
     (subst (λ hs. IsWritten t ps r.roots.items r.pool.items r.cells.items hs) (sym is.report)
     (subst (λ cs. IsWritten t ps r.roots.items r.pool.items cs heaps) (sym is.cells)
-    (subst (λ xs. IsWritten t ps r.roots.items xs exchanged heaps) (sym is.pool) (subst (λ js. IsWritten t ps js pools exchanged heaps) (sym is.roots) w))))
+    (subst (λ xs. IsWritten t ps r.roots.items xs exchanged heaps) (sym is.pool)
+    (subst (λ js. IsWritten t ps js pools exchanged heaps) (sym is.roots) w))))
 
 -- a run of one thread
-pub written_is_filed : (t : Trace) (r : Run) (ps : List Played) (journals : List (List RootEntry)) (pools : List PoolEntry) (exchanged : List (List CellEntry)) (heaps : List ReportLine) →
-    IsWithinLimits t → t.threads ≡ 1 → IsRunOf r (map entry_of ps) journals pools exchanged heaps → IsWritten t ps journals pools exchanged heaps → IsFileRun t r
+pub written_is_filed : (t : Trace) (r : Run) (ps : List Played) (journals : List (List RootEntry)) (pools : List PoolEntry)
+    (exchanged : List (List CellEntry)) (heaps : List ReportLine) →
+    IsWithinLimits t → t.threads ≡ 1 → IsRunOf r (map entry_of ps) journals pools exchanged heaps →
+    IsWritten t ps journals pools exchanged heaps → IsFileRun t r
 written_is_filed t r ps journals pools exchanged heaps limits one is w =
     let legal = written_is_legal t r ps journals pools exchanged heaps is w in
     (legal, one_thread t (told_by r) limits one legal)

@@ -106,15 +106,19 @@ all_answered = (
   (
     λ k reg e. absurd cc,
     (
-      answered (record of_one { line = 4; thread = 0; phase = 1; op = ops.Swap 0 1; answer = answers.Swapped 0 }) 0 1 (0, _, refl, refl, refl) refl,
+      answered (record of_one { line = 4; thread = 0; phase = 1; op = ops.Swap 0 1; answer = answers.Swapped 0 }) 0 1
+          (0, _, refl, refl, refl) refl,
       (
-        answered (record of_one { line = 6; thread = 1; phase = 2; op = ops.Swap 0 0; answer = answers.Swapped 1 }) 0 0 (1, _, refl, refl, refl) refl,
+        answered (record of_one { line = 6; thread = 1; phase = 2; op = ops.Swap 0 0; answer = answers.Swapped 1 }) 0 0
+            (1, _, refl, refl, refl) refl,
         (
           λ k reg e. absurd cc,
           (
-            answered (record of_one { line = 8; thread = 1; phase = 2; op = ops.Swap 1 0; answer = answers.Swapped 0 }) 1 0 (0, _, refl, refl, refl) refl,
+            answered (record of_one { line = 8; thread = 1; phase = 2; op = ops.Swap 1 0; answer = answers.Swapped 0 }) 1 0
+                (0, _, refl, refl, refl) refl,
             (
-              answered (record of_one { line = 9; thread = 0; phase = 2; op = ops.Swap 1 2; answer = answers.Swapped 1 }) 1 2 (1, _, refl, refl, refl) refl,
+              answered (record of_one { line = 9; thread = 0; phase = 2; op = ops.Swap 1 2; answer = answers.Swapped 1 }) 1 2
+                  (1, _, refl, refl, refl) refl,
               (λ k reg e. absurd cc, tt),
             ),
           ),
@@ -125,7 +129,8 @@ all_answered = (
 )
 
 -- the exchanges of each cell are in the order of their lines
-ordered : (k i j : ℕ) (e f : CellEntry) (p q : Played) → IsExchange cells k i e → IsExchange cells k j f → IsOfLine early_read_records e.line p →
+ordered : (k i j : ℕ) (e f : CellEntry) (p q : Played) → IsExchange cells k i e → IsExchange cells k j f →
+    IsOfLine early_read_records e.line p →
     IsOfLine early_read_records f.line q → StandsBefore p q → i < j
 ordered zero i j e f p q at at' of of' before =
     in_order early_read_records cell_line there_history follow (rises cell_line there_history refl) i j e f p q at at' of of' before
@@ -159,12 +164,16 @@ before x y = ltb x.line y.line
 before_by : (x y : Played) (m n : ℕ) → m ≡ x.line → n ≡ y.line → ltb m n ≡ true → before x y ≡ true
 before_by x y m n e f h = subst (λ a. ltb a y.line ≡ true) e (subst (λ b. ltb m b ≡ true) f h)
 
-handed : (x y : Played) (k j : ℕ) (e f : CellEntry) → IsExchange cells k j e → IsExchange cells k (j + 1) f → e.line ≡ x.line → f.line ≡ y.line → before x y ≡ true
-handed x y zero zero e f at at' line line' = before_by x y 4 6 (ap cell_line (of_some _ e at) ∙ line) (ap cell_line (of_some _ f at') ∙ line') refl
+handed : (x y : Played) (k j : ℕ) (e f : CellEntry) → IsExchange cells k j e → IsExchange cells k (j + 1) f → e.line ≡ x.line →
+    f.line ≡ y.line → before x y ≡ true
+handed x y zero zero e f at at' line line' =
+    before_by x y 4 6 (ap cell_line (of_some _ e at) ∙ line) (ap cell_line (of_some _ f at') ∙ line') refl
 handed x y zero (suc j) e f at at' line line' = absurd (not_some f (rw add-one at at'))
-handed x y (suc zero) zero e f at at' line line' = before_by x y 8 9 (ap cell_line (of_some _ e at) ∙ line) (ap cell_line (of_some _ f at') ∙ line') refl
+handed x y (suc zero) zero e f at at' line line' =
+    before_by x y 8 9 (ap cell_line (of_some _ e at) ∙ line) (ap cell_line (of_some _ f at') ∙ line') refl
 handed x y (suc zero) (suc j) e f at at' line line' = absurd (not_some f (rw add-one at at'))
 handed x y (suc (suc k)) j e f at at' line line' = absurd (not_some e at)
 
 pub seen : IsSeenInOrder cells early_read_records
-seen = seen_in_order cells early_read_records before refl (λ x y among among' (k, j, e, f, at, at', line, line', gave). handed x y k j e f at at' line line')
+seen = seen_in_order cells early_read_records before refl
+    (λ x y among among' (k, j, e, f, at, at', line, line', gave). handed x y k j e f at at' line line')

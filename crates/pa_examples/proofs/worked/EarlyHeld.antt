@@ -77,14 +77,21 @@ abbrev after_1 : Caches
 after_1 = with_cache (with_cache (with_cache no_caches 0 kept) 0 kept) 0 kept
 
 abbrev after_2 : Caches
-after_2 = with_cache (with_cache (with_cache (with_cache (with_cache after_1 1 (no_caches 1)) 1 (no_caches 1)) 1 (no_caches 1)) 0 kept) 0 kept
+after_2 = with_cache (with_cache (with_cache (with_cache (with_cache after_1 1 (no_caches 1)) 1 (no_caches 1)) 1 (no_caches 1)) 0 kept) 0
+    kept
 
-free_row : DoneRow roots (record of_one { line = 10; thread = 0; phase = 2; op = ops.Free 0; answer = answers.Done (seen_at 16384 0 0x2000003) }) (Some steps.Free) (seen_at 16384 0 0x2000003)
+free_row : DoneRow roots
+    (record of_one { line = 10; thread = 0; phase = 2; op = ops.Free 0; answer = answers.Done (seen_at 16384 0 0x2000003) })
+    (Some steps.Free) (seen_at 16384 0 0x2000003)
     kept kept
 free_row = inr (λ h. absurd (omega (arith, h.1)), none_on two_threads_journal 10 refl, λ p c. refl)
 
 cached_1 : CachesTo 1 roots no_caches (until 1 early_read_records) after_1
-cached_1 = (kept, made_row, (kept, inr (λ h. h, none_on two_threads_journal 3 refl, λ p c. refl), (kept, (none_on two_threads_journal 4 refl, λ p c. refl), refl)))
+cached_1 = (
+  kept,
+  made_row,
+  (kept, inr (λ h. h, none_on two_threads_journal 3 refl, λ p c. refl), (kept, (none_on two_threads_journal 4 refl, λ p c. refl), refl)),
+)
 
 cached_2 : CachesTo 1 roots no_caches (until 2 early_read_records) after_2
 cached_2 = (
@@ -139,10 +146,24 @@ alone_2 : AllPairs OtherLine (marks_of (records 2))
 alone_2 = other_lines (marks_of (records 2)) refl
 
 live_1 : IsTally IsLive roots (records 1) 0 (tally 1 16)
-live_1 = (_, 16 ∷ [], slots_of_kind IsLive is_live live_is is_live_of refl roots (records 1) 0 words_1 (16 ∷ []) alone_1 worded_1 (has_size, tt) refl, refl, refl)
+live_1 = (
+  _,
+  16 ∷ [],
+  slots_of_kind IsLive is_live live_is is_live_of refl roots (records 1) 0 words_1 (16 ∷ []) alone_1 worded_1
+      (has_size, tt) refl,
+  refl,
+  refl,
+)
 
 quarantined_1 : IsTally IsQuarantined roots (records 1) 0 (tally 0 0)
-quarantined_1 = (_, [], slots_of_kind IsQuarantined is_quarantined quarantined_is is_quarantined_of refl roots (records 1) 0 words_1 [] alone_1 worded_1 tt refl, refl, refl)
+quarantined_1 = (
+  _,
+  [],
+  slots_of_kind IsQuarantined is_quarantined quarantined_is is_quarantined_of refl roots (records 1) 0 words_1
+      [] alone_1 worded_1 tt refl,
+  refl,
+  refl,
+)
 
 live_2 : IsTally IsLive roots (records 2) 0 (tally 0 0)
 live_2 = (_, [], slots_of_kind IsLive is_live live_is is_live_of refl roots (records 2) 0 words [] alone_2 worded tt refl, refl, refl)
@@ -151,14 +172,16 @@ quarantined_2 : IsTally IsQuarantined roots (records 2) 0 (tally 1 16)
 quarantined_2 = (
   _,
   16 ∷ [],
-  slots_of_kind IsQuarantined is_quarantined quarantined_is is_quarantined_of refl roots (records 2) 0 words (16 ∷ []) alone_2 worded (has_size, tt) refl,
+  slots_of_kind IsQuarantined is_quarantined quarantined_is is_quarantined_of refl roots (records 2) 0 words (16 ∷ []) alone_2 worded
+      (has_size, tt) refl,
   refl,
   refl,
 )
 
 -- the fill is of phase 1, and there is no other entry
 has_census : (phase : ℕ) → 1 ≤ phase → HasCensus early_read_records two_threads_pool roots phase 0 two_threads_census
-has_census phase from = census_of_one early_read_records two_threads_pool two_threads_journal phase _ ((_, ((0, lit< tt, refl), refl), from), tt) refl counted
+has_census phase from = census_of_one early_read_records two_threads_pool two_threads_journal phase _
+    ((_, ((0, lit< tt, refl), refl), from), tt) refl counted
 
 abbrev IsRight : ReportLine → Type 0
 IsRight l = IsReportLine 1 2 early_read_records two_threads_pool roots l

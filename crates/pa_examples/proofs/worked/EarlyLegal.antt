@@ -11,10 +11,13 @@ use Rattle.pa_examples.proofs.worked.Early as early
 use Rattle.pa_examples.proofs.worked.EarlyRead as read
 use Rattle.pa_examples.proofs.worked.EarlyHeld as used
 
-few : AreFew (map entry_of early_read_records) (two_threads_journal ∷ []) two_threads_pool (there_history ∷ back_history ∷ []) early_read_report
+few : AreFew (map entry_of early_read_records) (two_threads_journal ∷ []) two_threads_pool
+    (there_history ∷ back_history ∷ []) early_read_report
 few = (lit< tt, lit< tt, lit< tt, lit< tt, lit< tt)
 
-fits : (heap : Global) → RunInBits (run_of (map entry_of early_read_records) (two_threads_journal ∷ []) two_threads_pool (there_history ∷ back_history ∷ []) early_read_report few heap)
+fits : (heap : Global) →
+    RunInBits (run_of (map entry_of early_read_records) (two_threads_journal ∷ []) two_threads_pool
+    (there_history ∷ back_history ∷ []) early_read_report few heap)
 fits heap = record { entries = search rules; roots = search rules; pool = search rules; cells = search rules; report = search rules }
 
 limits : IsWithinLimits early_read_trace
@@ -22,9 +25,11 @@ limits = record { version = (omega arith, omega arith); head = search rules; lin
 
 pub early_read_is_told : EarlyReadIsTold
 early_read_is_told =
-    told_by (map entry_of early_read_records) (two_threads_journal ∷ []) two_threads_pool (there_history ∷ back_history ∷ []) early_read_report few early_read_trace limits fits
+    told_by (map entry_of early_read_records) (two_threads_journal ∷ []) two_threads_pool
+    (there_history ∷ back_history ∷ []) early_read_report few early_read_trace limits fits
 
-written : IsWritten early_read_trace early_read_records (two_threads_journal ∷ []) two_threads_pool (there_history ∷ back_history ∷ []) early_read_report
+written : IsWritten early_read_trace early_read_records (two_threads_journal ∷ []) two_threads_pool
+    (there_history ∷ back_history ∷ []) early_read_report
 written = record {
   lines = early.lines;
   cells = early.exchanged;
@@ -42,4 +47,5 @@ written = record {
 
 pub early_read_is_legal : EarlyReadIsLegal
 early_read_is_legal r is =
-    written_is_legal early_read_trace r early_read_records (two_threads_journal ∷ []) two_threads_pool (there_history ∷ back_history ∷ []) early_read_report is written
+    written_is_legal early_read_trace r early_read_records (two_threads_journal ∷ []) two_threads_pool
+    (there_history ∷ back_history ∷ []) early_read_report is written

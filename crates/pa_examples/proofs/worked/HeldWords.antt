@@ -31,8 +31,10 @@ use Rattle.pa_examples.proofs.worked.Words.{between, between-length, between-in,
 use Rattle.pa_buckets.proofs.Facts.{sixteen_bytes}
 
 -- a slot's word is the last one of those that were worked out
-word_by : (ps : List Played) (named : List Worded) (s : SlotName) (w : ℕ) → are_worded (marks_of ps) named ≡ true → w ≡ last_word 0 (words_of (find (is_named s) named)) → HasWord ps s w
-word_by ps named s w worded last = (words_of (find (is_named s) named), (run_at (marks_of ps) named s (find (is_named s) named) worded refl).0, last)
+word_by : (ps : List Played) (named : List Worded) (s : SlotName) (w : ℕ) → are_worded (marks_of ps) named ≡ true →
+    w ≡ last_word 0 (words_of (find (is_named s) named)) → HasWord ps s w
+word_by ps named s w worded last =
+    (words_of (find (is_named s) named), (run_at (marks_of ps) named s (find (is_named s) named) worded refl).0, last)
 
 -- ---- slots
 
@@ -58,7 +60,8 @@ slot_title n = record { start = 16384 + 16 * n; len = 16; born = 0 }
 standing : (t : Title) → IsStanding held_told.pools held_journal t → (n : ℕ) × (t ≡ slot_title n)
 standing t (inr member) = absurd (not_in_none t (subst (λ ts. Contains ts t) no_maps member))
 standing t (inl (s, among, n, below, is)) =
-    let same : (16384, 0, 0, 256) ≡ says s = in_one (16384, 0, 0, 256) (says s) (subst (λ zs. Contains zs (says s)) one_span (map_in says root.spans s among)) in
+    let same : (16384, 0, 0, 256) ≡ says s =
+    in_one (16384, 0, 0, 256) (says s) (subst (λ zs. Contains zs (says s)) one_span (map_in says root.spans s among)) in
     let title : ℕ × ℕ × ℕ × ℕ → Title = λ z. record { start = z.0 + slot_of z.2 * n; len = slot_of z.2; born = z.1 } in
     (n, is ∙ ap title (sym same) ∙ ap (λ len. record { start = 16384 + len * n; len = len; born = 0 }) sixteen_bytes)
 
@@ -76,7 +79,8 @@ module _ (words : List ℕ) (w : HasWords words) where
   first : HasSlot words held_records (slot_title 0)
   first =
       let s : SlotName = record { start = 16384; born = 0 } in
-      let content : IsContent held_records s 2 5 = content_of held_records s 1 2 refl 5 (_, first_slot 0x1000001, 0, (1, lit< tt, refl), refl, refl, refl, refl) (lit< tt) in
+      let content : IsContent held_records s 2 5 =
+      content_of held_records s 1 2 refl 5 (_, first_slot 0x1000001, 0, (1, lit< tt, refl), refl, refl, refl, refl) (lit< tt) in
       record {
         word = word_by held_records named s (slice_index words 2049) worded w.live;
         quarantined = λ is. let free : 1 ≡ 0 = sym (ap held_of w.live) ∙ is.0 in absurd (omega arith);
@@ -108,13 +112,17 @@ module _ (words : List ℕ) (w : HasWords words) where
       let none : find (is_named (name_of t)) named ≡ None = unnamed n in
       let zero_word : count_word words t ≡ 0 = w.others _ (omega arith) in
       record {
-        word = word_by held_records named (name_of t) (count_word words t) worded (zero_word ∙ ap (λ o. last_word 0 (words_of o)) (sym none));
+        word = word_by held_records named (name_of t) (count_word words t) worded
+            (zero_word ∙ ap (λ o. last_word 0 (words_of o)) (sym none));
         quarantined = λ is. let some = is.1 in let free : refs_of (count_word words t) ≡ 0 = ap refs_of zero_word in absurd (omega arith);
         live = λ is. let held : 0 ≡ 1 = sym (ap held_of zero_word) ∙ is in absurd (omega arith);
       }
     where
       unnamed : (n : ℕ) → find (is_named (name_of (slot_title (suc (suc n))))) named ≡ None
-      unnamed n = rw (ne_eqb 16384 (16384 + 16 * suc (suc n)) (λ e. omega arith), ne_eqb 16400 (16384 + 16 * suc (suc n)) (λ e. omega arith)) refl
+      unnamed n = rw (
+        ne_eqb 16384 (16384 + 16 * suc (suc n)) (λ e. omega arith),
+        ne_eqb 16400 (16384 + 16 * suc (suc n)) (λ e. omega arith),
+      ) refl
 
   slots_held : (n : ℕ) → HasSlot words held_records (slot_title n)
   slots_held zero = first
@@ -130,15 +138,30 @@ module _ (words : List ℕ) (w : HasWords words) where
 mid : List ℕ
 mid = 5 ∷ 0x2000001 ∷ poison ∷ 0x3000002 ∷ []
 
-some_words : (n back : ℕ) → (words : List ℕ) × (length words ≡ n + (4 + back)) × ((i : ℕ) → i < 4 → slice_index words (n + i) ≡ slice_index mid i) × ((i : ℕ) → n + 4 ≤ i → slice_index words i ≡ 0)
+some_words : (n back : ℕ) → (words : List ℕ) × (length words ≡ n + (4 + back)) ×
+    ((i : ℕ) → i < 4 → slice_index words (n + i) ≡ slice_index mid i) × ((i : ℕ) → n + 4 ≤ i → slice_index words i ≡ 0)
 unfolding mid
-some_words n back = (between n mid back, between-length n mid back, λ i low. between-in n mid back i low, λ i past. between-past n mid back i past)
+some_words n back = (
+  between n mid back,
+  between-length n mid back,
+  λ i low. between-in n mid back i low,
+  λ i past. between-past n mid back i past,
+)
 
 there_are : (words : List ℕ) × (length words ≡ 262144) × HasWords words
 unfolding mid
 there_are =
-    let (words, long, here, past) = some_words 2048 260092 in
-    (words, long, record { value = here 0 (lit< tt); live = here 1 (lit< tt); freed = here 2 (lit< tt); quarantined = here 3 (lit< tt); others = λ i above. past i (omega arith) })
+    let (words, long, here, past) = some_words 2048 260092 in (
+      words,
+      long,
+      record {
+        value = here 0 (lit< tt);
+        live = here 1 (lit< tt);
+        freed = here 2 (lit< tt);
+        quarantined = here 3 (lit< tt);
+        others = λ i above. past i (omega arith);
+      },
+    )
 
 pub words_are_held : WordsAreHeld
 words_are_held = record { some = there_are; held = held_in }
@@ -163,7 +186,8 @@ is_write op = false
 
 never_written : (s : SlotName) (k n other : ℕ) → IsWrittenFor direct_map_records s k n other → ⊥
 never_written s k n value ((p, seen, reg, among, op, is, slot, number), less, since) =
-    both_ways _ (not-true _ (passes (λ (x : Played). not (is_write x.op)) direct_map_records p refl among)) (subst (λ o. is_write o ≡ true) (sym op) refl)
+    both_ways _ (not-true _ (passes (λ (x : Played). not (is_write x.op)) direct_map_records p refl among))
+    (subst (λ o. is_write o ≡ true) (sym op) refl)
 
 module _ (words : List ℕ) (w : HasMapWords words) where
   map_held : HasSlot words direct_map_records last_map
@@ -177,12 +201,19 @@ module _ (words : List ℕ) (w : HasMapWords words) where
 
   map_held_in : IsHeldIn direct_map_trace direct_map_told words
   map_held_in zero t (inl (s, among, n, below, is)) = absurd (not_in_none s (subst (λ ss. Contains ss s) no_spans among))
-  map_held_in zero t (inr member) = subst (λ z. HasSlot words direct_map_records z) (in_one last_map t (subst (λ ts. Contains ts t) one_map member)) map_held
+  map_held_in zero t (inr member) =
+      subst (λ z. HasSlot words direct_map_records z) (in_one last_map t (subst (λ ts. Contains ts t) one_map member)) map_held
   map_held_in (suc p) t (inl (s, among, n, below, is)) = absurd (not_in_none s among)
   map_held_in (suc p) t (inr member) = absurd (not_in_none t member)
 
-some_map_words : (n back : ℕ) → (words : List ℕ) × (length words ≡ n + (1 + back)) × (slice_index words (n + 0) ≡ 0x1000001) × ((i : ℕ) → i < n → slice_index words i ≡ 0)
-some_map_words n back = (between n (0x1000001 ∷ []) back, between-length n (0x1000001 ∷ []) back, between-in n (0x1000001 ∷ []) back 0 (lit< tt), λ i low. between-before n (0x1000001 ∷ []) back i low)
+some_map_words : (n back : ℕ) → (words : List ℕ) × (length words ≡ n + (1 + back)) × (slice_index words (n + 0) ≡ 0x1000001) ×
+    ((i : ℕ) → i < n → slice_index words i ≡ 0)
+some_map_words n back = (
+  between n (0x1000001 ∷ []) back,
+  between-length n (0x1000001 ∷ []) back,
+  between-in n (0x1000001 ∷ []) back 0 (lit< tt),
+  λ i low. between-before n (0x1000001 ∷ []) back i low,
+)
 
 there_are_map_words : (words : List ℕ) × (length words ≡ 262144) × HasMapWords words
 there_are_map_words =

@@ -28,7 +28,8 @@ use Rattle.pa_lists.proofs.Elements.{passes}
 abbrev pub HasItsHolders : List Played → List Move → Move → Type 0
 HasItsHolders ps ms m = HasHolders ps m.slot m.number (filter (is_move_of m.slot m.number) ms)
 
-pub all_have_holders : (ps : List Played) (ms : List Move) → AllByRecursion (HasItsHolders ps ms) ms → (s : SlotName) (k : ℕ) → HasHolders ps s k (filter (is_move_of s k) ms)
+pub all_have_holders : (ps : List Played) (ms : List Move) → AllByRecursion (HasItsHolders ps ms) ms → (s : SlotName) (k : ℕ) →
+    HasHolders ps s k (filter (is_move_of s k) ms)
 all_have_holders ps ms h s k = elim (none_or_some (filter (is_move_of s k) ms)) [
   | inl e ↦ subst (λ xs. HasHolders ps s k xs) (sym e) tt
   | inr (m, among) ↦
@@ -48,7 +49,8 @@ HasIt ps roots thread seen = IsHeld ps roots seen.slot (number_of seen.found.0) 
 abbrev pub IsIssued : List Played → Journals → Played → Type 0
 IsIssued ps roots x = (seen : Seen) (usable : ℕ) → x.answer ≡ answers.Made seen usable → HasIt ps roots x.thread seen
 
-pub issued : (ps : List Played) (roots : Journals) (thread : ℕ) (seen : Seen) (usable : ℕ) → HasIt ps roots thread seen → (other : Seen) (usable' : ℕ) →
+pub issued : (ps : List Played) (roots : Journals) (thread : ℕ) (seen : Seen) (usable : ℕ) → HasIt ps roots thread seen →
+    (other : Seen) (usable' : ℕ) →
     answers.Made seen usable ≡ answers.Made other usable' → HasIt ps roots thread other
 issued ps roots thread seen usable has other usable' a = let same : seen ≡ other = cc in subst (λ z. HasIt ps roots thread z) same has
 
@@ -78,17 +80,21 @@ abbrev pub all_stay_away : List RootEntry → Bool
 all_stay_away [] = true
 all_stay_away (e ∷ es) = stays_away (gone_by e.act) es && all_stay_away es
 
-not_named : (s : SlotName) (es : List RootEntry) (f : RootEntry) → list_all (λ (e : RootEntry). not (names_slot s e)) es ≡ true → Contains es f → NamesSlot f s → ⊥
+not_named : (s : SlotName) (es : List RootEntry) (f : RootEntry) → list_all (λ (e : RootEntry). not (names_slot s e)) es ≡ true →
+    Contains es f → NamesSlot f s → ⊥
 not_named s es f h among (m, member, slot) =
-    none_passes (λ (m : Move). same_slot m.slot s) (moves_by f.line f.act) m (not-true _ (passes (λ (e : RootEntry). not (names_slot s e)) es f h among)) member (same_slot_yes m.slot s slot)
+    none_passes (λ (m : Move). same_slot m.slot s) (moves_by f.line f.act) m
+    (not-true _ (passes (λ (e : RootEntry). not (names_slot s e)) es f h among)) member (same_slot_yes m.slot s slot)
 
-pub away_from_journal : (es : List RootEntry) → all_stay_away es ≡ true → (i j asked : ℕ) (slot : Numbered) (e f : RootEntry) → slice_get es i ≡ Some e → e.act ≡ Unmap asked slot →
+pub away_from_journal : (es : List RootEntry) → all_stay_away es ≡ true → (i j asked : ℕ) (slot : Numbered) (e f : RootEntry) →
+    slice_get es i ≡ Some e → e.act ≡ Unmap asked slot →
     slice_get es j ≡ Some f → i < j → NamesSlot f slot.slot → ⊥
 away_from_journal [] h i j asked slot e f at is at' less named = not_some e at
 away_from_journal (x ∷ es) h i zero asked slot e f at is at' less named = absurd (omega arith)
 away_from_journal (x ∷ es) h zero (suc j) asked slot e f at is at' less named =
     let same : x.act ≡ Unmap asked slot = ap (λ (z : RootEntry). z.act) (of_some x e at) ∙ is in
-    let away : stays_away (gone_by (Unmap asked slot)) es ≡ true = subst (λ a. stays_away (gone_by a) es ≡ true) same (and_parts (stays_away (gone_by x.act) es) (all_stay_away es) h).0 in
+    let away : stays_away (gone_by (Unmap asked slot)) es ≡ true =
+    subst (λ a. stays_away (gone_by a) es ≡ true) same (and_parts (stays_away (gone_by x.act) es) (all_stay_away es) h).0 in
     not_named slot.slot es f away (at_in es j f at') named
 away_from_journal (x ∷ es) h (suc i) (suc j) asked slot e f at is at' less named =
     away_from_journal es (and_parts (stays_away (gone_by x.act) es) (all_stay_away es) h).1 i j asked slot e f at is at' (omega arith) named
@@ -103,10 +109,12 @@ all_lower ps None = true
 all_lower ps (Some slot) = list_all (λ (x : Played). is_lower slot (mark_of x)) ps
 
 pub away_from_records : (ps : List Played) (es : List RootEntry) → list_all (λ (e : RootEntry). all_lower ps (gone_by e.act)) es ≡ true →
-    (i asked n : ℕ) (slot : Numbered) (e : RootEntry) (x : Played) → slice_get es i ≡ Some e → e.act ≡ Unmap asked slot → Contains ps x → IsOfSlot x slot.slot n → n < slot.number
+    (i asked n : ℕ) (slot : Numbered) (e : RootEntry) (x : Played) → slice_get es i ≡ Some e → e.act ≡ Unmap asked slot → Contains ps x →
+    IsOfSlot x slot.slot n → n < slot.number
 away_from_records ps es h i asked n slot e x at is among (m, mark, same, number) =
     let lower : list_all (λ (x : Played). is_lower slot (mark_of x)) ps ≡ true =
     subst (λ a. all_lower ps (gone_by a) ≡ true) is (passes (λ (e : RootEntry). all_lower ps (gone_by e.act)) es e h (at_in es i e at)) in
-    let here : is_lower slot (Some m) ≡ true = subst (λ o. is_lower slot o ≡ true) mark (passes (λ (x : Played). is_lower slot (mark_of x)) ps x lower among) in
+    let here : is_lower slot (Some m) ≡ true =
+    subst (λ o. is_lower slot o ≡ true) mark (passes (λ (x : Played). is_lower slot (mark_of x)) ps x lower among) in
     let less = ltb-true _ _ (implied _ _ here (same_slot_yes m.slot slot.slot same)) in
     subst (λ k. k < slot.number) number less

@@ -43,11 +43,16 @@ all_used ps fit x among = in_use x (passes (λ (y : Played). uses (mark_of y)) p
 pub known_of : (t : Trace) (r : Run) (ps : List Played) → AreLines (rules_of t) t.lines ps → map entry_of ps ≡ r.entries.items
     → IsLegal t r → ((x : Played) → Contains ps x → FindsInUse x) → IsKnown t (told_by r) (records_of t (told_by r))
 known_of t r ps lines told legal used =
-    let same : records_of t (told_by r) ≡ ps = ap (played (rules_of t) t.lines) (sym told) ∙ records_are_lines.same (rules_of t) t.lines ps lines in
+    let same : records_of t (told_by r) ≡ ps = ap (played (rules_of t) t.lines) (sym told) ∙
+    records_are_lines.same (rules_of t) t.lines ps lines in
     legal_is_known t (told_by r) legal (λ x among. used x (subst (λ zs. Contains zs x) same among))
 
 pub direct_map_is_known : DirectMapIsKnown
-direct_map_is_known r is = known_of direct_map_trace r direct_map_records maps.lines (sym is.entries) (direct_map_is_filed r is).0 (all_used direct_map_records refl)
+direct_map_is_known r is =
+    known_of direct_map_trace r direct_map_records maps.lines (sym is.entries) (direct_map_is_filed r is).0
+    (all_used direct_map_records refl)
 
 pub two_threads_are_known : TwoThreadsAreKnown
-two_threads_are_known r is = known_of two_threads_trace r two_threads_records threads.lines (sym is.entries) (two_threads_are_legal r is) (all_used two_threads_records refl)
+two_threads_are_known r is =
+    known_of two_threads_trace r two_threads_records threads.lines (sym is.entries) (two_threads_are_legal r is)
+    (all_used two_threads_records refl)

@@ -22,7 +22,8 @@ each P xs h x among = All-contains P xs x (All-from_recursion P xs h) among
 abbrev pub all_both : {A : Type 0} → (A → A → Bool) → List A → Bool
 all_both test xs = list_all (λ x. list_all (test x) xs) xs
 
-pub both_pass : {A : Type 0} (test : A → A → Bool) (xs : List A) (x y : A) → all_both test xs ≡ true → Contains xs x → Contains xs y → test x y ≡ true
+pub both_pass : {A : Type 0} (test : A → A → Bool) (xs : List A) (x y : A) → all_both test xs ≡ true → Contains xs x → Contains xs y →
+    test x y ≡ true
 both_pass test xs x y h among among' = passes (test x) xs y (passes (λ z. list_all (test z) xs) xs x h among) among'
 
 -- a test of each member and each later one
@@ -30,7 +31,8 @@ abbrev pub all_pairs : {A : Type 0} → (A → A → Bool) → List A → Bool
 all_pairs test [] = true
 all_pairs test (x ∷ xs) = list_all (test x) xs && all_pairs test xs
 
-pub pairs_pass : {A : Type 0} (R : A → A → Type 0) (test : A → A → Bool) → ((x y : A) → test x y ≡ true → R x y) → (xs : List A) → all_pairs test xs ≡ true → AllPairs R xs
+pub pairs_pass : {A : Type 0} (R : A → A → Type 0) (test : A → A → Bool) → ((x y : A) → test x y ≡ true → R x y) → (xs : List A) →
+    all_pairs test xs ≡ true → AllPairs R xs
 pairs_pass R test says [] h = pairs_none R
 pairs_pass R test says (x ∷ xs) h =
     let (p, q) = and_parts (list_all (test x) xs) (all_pairs test xs) h in
@@ -43,7 +45,8 @@ rises f xs h i j d low below = elim (cases_eq i j) [
 ]
 
 -- if the numbers rise, entries with one number are in one place
-pub one_place : {A : Type 0} (f : A → ℕ) (xs : List A) → all_pairs (λ x y. ltb (f x) (f y)) xs ≡ true → (i j : ℕ) (d e : A) → slice_get xs i ≡ Some d → slice_get xs j ≡ Some e → f d ≡ f e → i ≡ j
+pub one_place : {A : Type 0} (f : A → ℕ) (xs : List A) → all_pairs (λ x y. ltb (f x) (f y)) xs ≡ true → (i j : ℕ) (d e : A) →
+    slice_get xs i ≡ Some d → slice_get xs j ≡ Some e → f d ≡ f e → i ≡ j
 one_place f xs h i j d e at at' same =
     let less : AllPairs (λ x y. f x < f y) xs = pairs_pass (λ x y. f x < f y) (λ x y. ltb (f x) (f y)) (λ x y. ltb-true (f x) (f y)) xs h in
     let here : f (slice_index_or xs i d) ≡ f d = ap f (get_or_from_slice_get xs i d d at) in
@@ -77,7 +80,8 @@ none_or_some [] = inl refl
 none_or_some (x ∷ xs) = inr (x, first_in x xs)
 
 -- if there is one journal, each entry is of partition 0 and is in it
-pub only_journal : (journal : List RootEntry) (p j : ℕ) (e : RootEntry) → IsEntry (journal_at (journal ∷ [])) p j e → (p ≡ 0) × (slice_get journal j ≡ Some e)
+pub only_journal : (journal : List RootEntry) (p j : ℕ) (e : RootEntry) → IsEntry (journal_at (journal ∷ [])) p j e → (p ≡ 0) ×
+    (slice_get journal j ≡ Some e)
 only_journal journal zero j e at = (refl, at)
 only_journal journal (suc p) j e at = absurd (not_some e at)
 
@@ -95,7 +99,8 @@ lines_follow ps = all_both (λ (x : Played) (y : Played). implies (stands x y) (
 
 -- entries with lines that don't fall are in the order of the records
 pub in_order : {A : Type 0} (ps : List Played) (line_of : A → ℕ) (xs : List A) → lines_follow ps ≡ true → IsNonDecreasingBy line_of xs →
-    (i j : ℕ) (e f : A) (x y : Played) → slice_get xs i ≡ Some e → slice_get xs j ≡ Some f → IsOfLine ps (line_of e) x → IsOfLine ps (line_of f) y → StandsBefore x y → i < j
+    (i j : ℕ) (e f : A) (x y : Played) → slice_get xs i ≡ Some e → slice_get xs j ≡ Some f → IsOfLine ps (line_of e) x →
+    IsOfLine ps (line_of f) y → StandsBefore x y → i < j
 in_order ps line_of xs h rise i j e f x y at at' (among, of) (among', of') before = elim (cases_lt i j) [
   | inl less ↦ less
   | inr from ↦

@@ -93,7 +93,11 @@ cached_to = (
             (
               no_caches 0,
               inl ((refl, refl), inr (0, 4, 4, second_map, (refl, no_other direct_map_again_journal 8), λ p c. refl)),
-              (no_caches 0, inr (0, 2000000, 5, 2002944, (2, refl, direct), (refl, no_other direct_map_again_journal 9), λ p c. refl), refl),
+              (
+                no_caches 0,
+                inr (0, 2000000, 5, 2002944, (2, refl, direct), (refl, no_other direct_map_again_journal 9), λ p c. refl),
+                refl,
+              ),
             ),
           ),
         ),
@@ -113,10 +117,23 @@ third_size : AllZip (HasSize roots 0) (slots_passing is_live words) (2002944 ∷
 third_size = (inr (_, 5, (5, lit< tt, refl), refl), tt)
 
 live : IsTally IsLive roots direct_map_records 0 (tally 1 2002944)
-live = (_, 2002944 ∷ [], slots_of_kind IsLive is_live live_is is_live_of refl roots direct_map_records 0 words (2002944 ∷ []) alone worded third_size refl, refl, refl)
+live = (
+  _,
+  2002944 ∷ [],
+  slots_of_kind IsLive is_live live_is is_live_of refl roots direct_map_records 0 words (2002944 ∷ []) alone worded third_size refl,
+  refl,
+  refl,
+)
 
 quarantined : IsTally IsQuarantined roots direct_map_records 0 (tally 0 0)
-quarantined = (_, [], slots_of_kind IsQuarantined is_quarantined quarantined_is is_quarantined_of refl roots direct_map_records 0 words [] alone worded tt refl, refl, refl)
+quarantined = (
+  _,
+  [],
+  slots_of_kind IsQuarantined is_quarantined quarantined_is is_quarantined_of refl roots direct_map_records 0 words
+      [] alone worded tt refl,
+  refl,
+  refl,
+)
 
 in_phase_1 : AllByRecursion (InPhases direct_map_records 1) direct_map_again_journal
 in_phase_1 = (
@@ -136,7 +153,8 @@ in_phase_1 = (
   ),
 )
 
-line_right : IsReportLine 1 1 direct_map_records direct_map_again_pool roots (report_line 1 (tally 1 2002944) (tally 0 0) (tally 0 0) direct_map_again_census)
+line_right : IsReportLine 1 1 direct_map_records direct_map_again_pool roots
+    (report_line 1 (tally 1 2002944) (tally 0 0) (tally 0 0) direct_map_again_census)
 unfolding rows row_of slot_of listed_slots listed_bytes
 line_right = record {
   live = live;

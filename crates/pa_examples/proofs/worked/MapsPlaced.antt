@@ -41,7 +41,8 @@ made = (
 )
 
 -- only the third allocation was refused
-third : IsRefused direct_map_again_journal (record of_one { line = 7; thread = 0; phase = 1; op = ops.Alloc 2 0 2000000; answer = answers.Full 3 })
+third : IsRefused direct_map_again_journal
+    (record of_one { line = 7; thread = 0; phase = 1; op = ops.Alloc 2 0 2000000; answer = answers.Full 3 })
 third j reg p size a b =
     let here : 3 ≡ j = cc in
     let there : 0 ≡ p = cc in
@@ -74,7 +75,8 @@ refused = (
 
 pub rooted : AreRoots 1 direct_map_records direct_map_again_pool roots
 rooted =
-    roots_by direct_map_records direct_map_again_pool direct_map_again_journal direct_map_trace lines direct_map_again.is_journal made follow refl
+    roots_by direct_map_records direct_map_again_pool direct_map_again_journal direct_map_trace lines direct_map_again.is_journal made
+    follow refl
     (each (IsRefused direct_map_again_journal) direct_map_records refused)
 
 pub pooled : IsPoolOf 1 direct_map_records direct_map_again_pool roots

@@ -54,7 +54,8 @@ abbrev pub moves_fit : List Played → Holder → List Move → Bool
 moves_fit ps h [] = true
 moves_fit ps h (m ∷ ms) = has_needed h m.way (of_line ps m.line) && moves_fit ps (holder_made m.way (of_line ps m.line)) ms
 
-one_fits : (ps : List Played) (h : Holder) (m : Move) (ms : List Move) (o : Option Played) → of_line ps m.line ≡ o → (has_needed h m.way o && moves_fit ps (holder_made m.way o) ms) ≡ true →
+one_fits : (ps : List Played) (h : Holder) (m : Move) (ms : List Move) (o : Option Played) → of_line ps m.line ≡ o →
+    (has_needed h m.way o && moves_fit ps (holder_made m.way o) ms) ≡ true →
     (x : Played) × IsOfLine ps m.line x × (h ≡ needed_by m.way x) × (moves_fit ps (made_by m.way x) ms ≡ true)
 one_fits ps h m ms None e fit = absurd (false≢true fit)
 one_fits ps h m ms (Some x) e fit =
@@ -117,7 +118,8 @@ abbrev pub is_thread_of : Holder → Option Played → Bool
 is_thread_of h None = false
 is_thread_of h (Some x) = same_holder h (WithThread x.thread)
 
-is_thread_of-true : (ps : List Played) (s : SlotName) (k : ℕ) (h : Holder) (o : Option Played) → returned_by ps s k ≡ o → is_thread_of h o ≡ true → IsFirstHolder ps s k h
+is_thread_of-true : (ps : List Played) (s : SlotName) (k : ℕ) (h : Holder) (o : Option Played) → returned_by ps s k ≡ o →
+    is_thread_of h o ≡ true → IsFirstHolder ps s k h
 is_thread_of-true ps s k h None e is = absurd (false≢true is)
 is_thread_of-true ps s k h (Some x) e is = inr (x, returned_by-is ps s k x e, same_holder-true h (WithThread x.thread) is)
 
@@ -164,22 +166,26 @@ all_hold-true ps ms (m ∷ xs) h =
     (has_holders-true ps m.slot m.number here a, all_hold-true ps ms xs b)
 
 module _ (ps : List Played) (journal : List RootEntry) where
-  held : all_hold ps (moves_of journal) (moves_of journal) ≡ true → (p : ℕ) (s : SlotName) (k : ℕ) → HasHolders ps s k (moves_at (journal_at (journal ∷ []) p) s k)
+  held : all_hold ps (moves_of journal) (moves_of journal) ≡ true → (p : ℕ) (s : SlotName) (k : ℕ) →
+      HasHolders ps s k (moves_at (journal_at (journal ∷ []) p) s k)
   held hold zero s k = all_have_holders ps (moves_of journal) (all_hold-true ps (moves_of journal) (moves_of journal) hold) s k
   held hold (suc p) s k = tt
 
-  away : all_stay_away journal ≡ true → (p i j asked : ℕ) (slot : Numbered) (e f : RootEntry) → IsEntry (journal_at (journal ∷ [])) p i e → e.act ≡ Unmap asked slot →
+  away : all_stay_away journal ≡ true → (p i j asked : ℕ) (slot : Numbered) (e f : RootEntry) → IsEntry (journal_at (journal ∷ [])) p i e →
+      e.act ≡ Unmap asked slot →
       IsEntry (journal_at (journal ∷ [])) p j f → i < j → NamesSlot f slot.slot → ⊥
   away stay zero i j asked slot e f at is at' less = away_from_journal journal stay i j asked slot e f at is at' less
   away stay (suc p) i j asked slot e f at is at' less = absurd (not_some e at)
 
-  away_after : list_all (λ (e : RootEntry). all_lower ps (gone_by e.act)) journal ≡ true → (p i asked n : ℕ) (slot : Numbered) (e : RootEntry) (x : Played) →
+  away_after : list_all (λ (e : RootEntry). all_lower ps (gone_by e.act)) journal ≡ true →
+      (p i asked n : ℕ) (slot : Numbered) (e : RootEntry) (x : Played) →
       IsEntry (journal_at (journal ∷ [])) p i e → e.act ≡ Unmap asked slot → Contains ps x → IsOfSlot x slot.slot n → n < slot.number
   away_after lower zero i asked n slot e x at is = away_from_records ps journal lower i asked n slot e x at is
   away_after lower (suc p) i asked n slot e x at is = absurd (not_some e at)
 
   -- the holders of a run with one journal
-  pub holders_of_one : all_hold ps (moves_of journal) (moves_of journal) ≡ true → all_stay_away journal ≡ true → list_all (λ (e : RootEntry). all_lower ps (gone_by e.act)) journal ≡ true →
+  pub holders_of_one : all_hold ps (moves_of journal) (moves_of journal) ≡ true → all_stay_away journal ≡ true →
+      list_all (λ (e : RootEntry). all_lower ps (gone_by e.act)) journal ≡ true →
       AllByRecursion (IsIssued ps (journal_at (journal ∷ []))) ps → AreHolders ps (journal_at (journal ∷ []))
   holders_of_one hold stay lower all_issued = record {
     moves = held hold;

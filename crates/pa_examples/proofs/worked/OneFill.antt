@@ -33,7 +33,10 @@ unfolding rows row_of slot_of pages_of slots_of fill_of
 journal_fits = refl
 
 pub is_journal : IsJournal two_threads_pool two_threads_journal
-is_journal = record { replays = all_fit-true two_threads_pool two_threads_journal new_root journal_fits; rise = rise-true 0 (all_asked two_threads_journal) refl }
+is_journal = record {
+  replays = all_fit-true two_threads_pool two_threads_journal new_root journal_fits;
+  rise = rise-true 0 (all_asked two_threads_journal) refl;
+}
 
 -- the slots of the fill, and those that the thread keeps
 abbrev pub filled : List Numbered
@@ -45,7 +48,9 @@ rest = slots 0 0 (16400 ∷ 16416 ∷ 16432 ∷ 16448 ∷ 16464 ∷ 16480 ∷ 16
 abbrev pub kept : Cache
 kept = with_list (no_caches 0) 0 0 rest
 
-pub made_row : MadeRow roots (record of_one { line = 2; thread = 0; phase = 1; op = ops.Alloc 0 0 8; answer = answers.Made (seen_at 16384 0 0) 8 }) (seen_at 16384 0 0) (no_caches 0) kept
+pub made_row : MadeRow roots
+    (record of_one { line = 2; thread = 0; phase = 1; op = ops.Alloc 0 0 8; answer = answers.Made (seen_at 16384 0 0) 8 })
+    (seen_at 16384 0 0) (no_caches 0) kept
 made_row = inl (0, 0, filled, rest, (0, 8, refl, class_0), (Some 0, (refl, no_other two_threads_journal 2)), refl, λ p c. refl)
 
 pub of_class : IsOfClass roots the_slot 0 0

@@ -46,7 +46,8 @@ pub no_other : (journal : List RootEntry) (line q : ℕ) → (q ≡ 0 → ⊥) �
 no_other journal line zero ne = absurd (ne refl)
 no_other journal line (suc q) ne = refl
 
-pub none_on : (journal : List RootEntry) (line : ℕ) → acts_of (journal_at (journal ∷ [])) line 0 ≡ [] → NoActs (journal_at (journal ∷ [])) line
+pub none_on : (journal : List RootEntry) (line : ℕ) → acts_of (journal_at (journal ∷ [])) line 0 ≡ [] →
+    NoActs (journal_at (journal ∷ [])) line
 none_on journal line none zero = none
 none_on journal line none (suc q) = refl
 
@@ -65,8 +66,10 @@ module _ (ps : List Played) (pools : List PoolEntry) (journal : List RootEntry) 
   none_past (suc p) past = refl
 
   -- the roots of a trace's records, from what each refusal needs
-  pub roots_by : (t : Trace) → AreLines (rules_of t) t.lines ps → IsJournal pools journal → AllByRecursion (IsMade ps pools) journal → lines_follow ps ≡ true →
-      all_pairs (λ (x : RootEntry) (y : RootEntry). leb (entry_line x) (entry_line y)) journal ≡ true → ((x : Played) → Contains ps x → IsRefused journal x) →
+  pub roots_by : (t : Trace) → AreLines (rules_of t) t.lines ps → IsJournal pools journal → AllByRecursion (IsMade ps pools) journal →
+      lines_follow ps ≡ true →
+      all_pairs (λ (x : RootEntry) (y : RootEntry). leb (entry_line x) (entry_line y)) journal ≡ true →
+      ((x : Played) → Contains ps x → IsRefused journal x) →
       AreRoots 1 ps pools (journal_at (journal ∷ []))
   roots_by t are h made follow rise refused = record {
     one = one_rules (rules_of t) ps (λ x among. record_rules (rules_of t) t.lines ps x are among);
@@ -77,17 +80,23 @@ module _ (ps : List Played) (pools : List PoolEntry) (journal : List RootEntry) 
     refusals = λ x j reg p size among full op. refused x among j reg p size full op;
   }
 
-  not_full : list_all (λ (x : Played). not (is_full x.answer)) ps ≡ true → (x : Played) (j : ℕ) → Contains ps x → x.answer ≡ answers.Full j → ⊥
-  not_full h x j among is = both_ways _ (not-true _ (passes (λ (y : Played). not (is_full y.answer)) ps x h among)) (subst (λ a. is_full a ≡ true) (sym is) refl)
+  not_full : list_all (λ (x : Played). not (is_full x.answer)) ps ≡ true → (x : Played) (j : ℕ) → Contains ps x →
+      x.answer ≡ answers.Full j → ⊥
+  not_full h x j among is =
+      both_ways _ (not-true _ (passes (λ (y : Played). not (is_full y.answer)) ps x h among)) (subst (λ a. is_full a ≡ true) (sym is) refl)
 
   -- if no request was refused
-  pub roots_of_one : (t : Trace) → AreLines (rules_of t) t.lines ps → IsJournal pools journal → AllByRecursion (IsMade ps pools) journal → lines_follow ps ≡ true →
-      all_pairs (λ (x : RootEntry) (y : RootEntry). leb (entry_line x) (entry_line y)) journal ≡ true → list_all (λ (x : Played). not (is_full x.answer)) ps ≡ true →
+  pub roots_of_one : (t : Trace) → AreLines (rules_of t) t.lines ps → IsJournal pools journal → AllByRecursion (IsMade ps pools) journal →
+      lines_follow ps ≡ true →
+      all_pairs (λ (x : RootEntry) (y : RootEntry). leb (entry_line x) (entry_line y)) journal ≡ true →
+      list_all (λ (x : Played). not (is_full x.answer)) ps ≡ true →
       AreRoots 1 ps pools (journal_at (journal ∷ []))
-  roots_of_one t are h made follow rise none_full = roots_by t are h made follow rise (λ x among j reg p size full op. absurd (not_full none_full x j among full))
+  roots_of_one t are h made follow rise none_full =
+      roots_by t are h made follow rise (λ x among j reg p size full op. absurd (not_full none_full x j among full))
 
   -- if all its entries are of the phases up to one, the root has at its end what they replay to
-  pub census_of_one : (phase : ℕ) (c : Census) → AllByRecursion (InPhases ps phase) journal → journal ≡ journal ++ [] → census (root_replayed pools journal new_root) ≡ c →
+  pub census_of_one : (phase : ℕ) (c : Census) → AllByRecursion (InPhases ps phase) journal → journal ≡ journal ++ [] →
+      census (root_replayed pools journal new_root) ≡ c →
       HasCensus ps pools (journal_at (journal ∷ [])) phase 0 c
   census_of_one phase c in_phases parts counted = (
     journal,

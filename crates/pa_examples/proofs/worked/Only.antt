@@ -27,7 +27,8 @@ use Rattle.pa_examples.proofs.worked.Told.{direct_map_is_told}
 use Rattle.pa_examples.proofs.worked.WritesFiled.{writes_are_told, writes_are_filed}
 use Rattle.pa_examples.proofs.worked.PurgeFiled.{purge_is_told, purge_is_filed}
 
-module _ (told : List Entry) (journals : List (List RootEntry)) (pools : List PoolEntry) (exchanged : List (List CellEntry)) (heaps : List ReportLine) where
+module _ (told : List Entry) (journals : List (List RootEntry)) (pools : List PoolEntry) (exchanged : List (List CellEntry))
+    (heaps : List ReportLine) where
   tells : (a r : Run) → IsSameRun a r → IsRunOf a told journals pools exchanged heaps → Tells r told journals pools exchanged heaps
   tells a r same is = record {
     entries = sym same.entries ∙ is.entries;
@@ -37,7 +38,8 @@ module _ (told : List Entry) (journals : List (List RootEntry)) (pools : List Po
     report = sym same.report ∙ is.report;
   }
 
-  only_run : (t : Trace) → t.threads ≡ 1 → IsTold t told journals pools exchanged heaps → ((a : Run) → IsRunOf a told journals pools exchanged heaps → IsFileRun t a) →
+  only_run : (t : Trace) → t.threads ≡ 1 → IsTold t told journals pools exchanged heaps →
+      ((a : Run) → IsRunOf a told journals pools exchanged heaps → IsFileRun t a) →
       IsOnlyRun t told journals pools exchanged heaps
   only_run t one is_told filed r legal =
       let (a, fits, is) = is_told.run r.entries.alloc in
@@ -45,10 +47,13 @@ module _ (told : List Entry) (journals : List (List RootEntry)) (pools : List Po
 
 pub only_direct_maps : OnlyDirectMaps
 only_direct_maps =
-    only_run (map entry_of direct_map_records) (direct_map_again_journal ∷ []) direct_map_again_pool [] direct_map_report direct_map_trace refl direct_map_is_told direct_map_is_filed
+    only_run (map entry_of direct_map_records) (direct_map_again_journal ∷ []) direct_map_again_pool
+    [] direct_map_report direct_map_trace refl direct_map_is_told direct_map_is_filed
 
 pub only_writes : OnlyWrites
-only_writes = only_run (map entry_of writes_records) (writes_journal ∷ []) writes_pool [] writes_report writes_trace refl writes_are_told writes_are_filed
+only_writes = only_run (map entry_of writes_records) (writes_journal ∷ []) writes_pool
+    [] writes_report writes_trace refl writes_are_told writes_are_filed
 
 pub only_purge : OnlyPurge
-only_purge = only_run (map entry_of purge_records) (purge_journal ∷ []) purge_pool [] purge_report purge_trace refl purge_is_told purge_is_filed
+only_purge = only_run (map entry_of purge_records) (purge_journal ∷ []) purge_pool
+    [] purge_report purge_trace refl purge_is_told purge_is_filed

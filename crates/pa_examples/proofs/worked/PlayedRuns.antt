@@ -18,7 +18,8 @@ use Rattle.pa_examples.proofs.worked.PurgeFiled.{purge_is_told, purge_is_filed}
 use Rattle.pa_examples.specs.WorkedPlayed.{IsPlayedRun, WorkedRunsArePlayed}
 use Rattle.pa_core_run.proofs.Whole.{files_are_played}
 
-told_is_played : (t : Trace) (ps : List Played) (journal : List RootEntry) (pools : List PoolEntry) (lines : List ReportLine) → IsTold t (map entry_of ps) (journal ∷ []) pools [] lines →
+told_is_played : (t : Trace) (ps : List Played) (journal : List RootEntry) (pools : List PoolEntry) (lines : List ReportLine) →
+    IsTold t (map entry_of ps) (journal ∷ []) pools [] lines →
     ((r : Run) → IsRunOf r (map entry_of ps) (journal ∷ []) pools [] lines → IsFileRun t r) → IsPlayedRun t ps journal pools lines
 told_is_played t ps journal pools lines told files heap =
     let (r, in_bits, tells) = told.run heap in

@@ -27,7 +27,8 @@ abbrev pub asks_in_order : ℕ → List RootEntry → Bool
 asks_in_order n [] = true
 asks_in_order n (e ∷ es) = is_number n (asked_by e.act) && asks_in_order (suc n) es
 
-asks_at : (n : ℕ) (es : List RootEntry) (i : ℕ) (e : RootEntry) → asks_in_order n es ≡ true → slice_get es i ≡ Some e → asked_by e.act ≡ Some (n + i)
+asks_at : (n : ℕ) (es : List RootEntry) (i : ℕ) (e : RootEntry) → asks_in_order n es ≡ true → slice_get es i ≡ Some e →
+    asked_by e.act ≡ Some (n + i)
 asks_at n [] i e h at = absurd (not_some e at)
 asks_at n (x ∷ es) zero e h at =
     let same : n ≡ n + 0 = omega arith in
@@ -47,26 +48,43 @@ alike_at : (es : List PoolEntry) (fs : List RootEntry) (j : ℕ) (e : PoolEntry)
 alike_at [] fs j e h at = absurd (not_some e at)
 alike_at (x ∷ es) [] j e h at = absurd (false≢true h)
 alike_at (x ∷ es) (f ∷ fs) zero e h at =
-    let (partition, line) = and_parts (eqb x.partition 0) (eqb f.line x.line) (and_parts (eqb x.partition 0 && eqb f.line x.line) (are_alike es fs) h).0 in
-    let same = of_some x e at in
-    (f, refl, ap (λ (z : PoolEntry). z.partition) (sym same) ∙ eqb-true _ _ partition, eqb-true _ _ line ∙ ap (λ (z : PoolEntry). z.line) same)
+    let (partition, line) = and_parts (eqb x.partition 0) (eqb f.line x.line)
+    (and_parts (eqb x.partition 0 && eqb f.line x.line) (are_alike es fs) h).0 in
+    let same = of_some x e at in (
+      f,
+      refl,
+      ap (λ (z : PoolEntry). z.partition) (sym same) ∙ eqb-true _ _ partition,
+      eqb-true _ _ line ∙
+          ap (λ (z : PoolEntry). z.line) same,
+    )
 alike_at (x ∷ es) (f ∷ fs) (suc j) e h at = alike_at es fs j e (and_parts (eqb x.partition 0 && eqb f.line x.line) (are_alike es fs) h).1 at
 
-module _ (ps : List Played) (follow : lines_follow ps ≡ true) (journal : List RootEntry) (rise : all_pairs (λ (x : RootEntry) (y : RootEntry). leb (entry_line x) (entry_line y)) journal ≡ true) where
+module _ (ps : List Played) (follow : lines_follow ps ≡ true) (journal : List RootEntry)
+    (rise : all_pairs (λ (x : RootEntry) (y : RootEntry). leb (entry_line x) (entry_line y)) journal ≡ true) where
   -- the entries of the journal are in the order of the records
-  pub journal_in_order : (p i j : ℕ) (e f : RootEntry) (x y : Played) → IsEntry (journal_at (journal ∷ [])) p i e → IsEntry (journal_at (journal ∷ [])) p j f →
+  pub journal_in_order : (p i j : ℕ) (e f : RootEntry) (x y : Played) → IsEntry (journal_at (journal ∷ [])) p i e →
+      IsEntry (journal_at (journal ∷ [])) p j f →
       IsOfLine ps e.line x → IsOfLine ps f.line y → StandsBefore x y → i < j
   journal_in_order p i j e f x y at at' of of' before =
-      in_order ps entry_line journal follow (rises entry_line journal rise) i j e f x y (only_journal journal p i e at).1 (only_journal journal p j f at').1 of of' before
+      in_order ps entry_line journal follow (rises entry_line journal rise) i j e f x y (only_journal journal p i e at).1
+      (only_journal journal p j f at').1 of of' before
 
-module _ (supers : ℕ) (ps : List Played) (pools : List PoolEntry) (journal : List RootEntry) (is_pool : IsPool supers pools) (follow : lines_follow ps ≡ true)
-    (rise : all_pairs (λ (x : PoolEntry) (y : PoolEntry). leb (pool_line x) (pool_line y)) pools ≡ true) (asks : asks_in_order 0 journal ≡ true) (alike : are_alike pools journal ≡ true) where
+module _ (supers : ℕ) (ps : List Played) (pools : List PoolEntry) (journal : List RootEntry) (is_pool : IsPool supers pools)
+    (follow : lines_follow ps ≡ true)
+    (rise : all_pairs (λ (x : PoolEntry) (y : PoolEntry). leb (pool_line x) (pool_line y)) pools ≡ true)
+    (asks : asks_in_order 0 journal ≡ true) (alike : are_alike pools journal ≡ true) where
   named : (j : ℕ) (e : PoolEntry) → slice_get pools j ≡ Some e →
       (i : ℕ) × (f : RootEntry) × IsEntry (journal_at (journal ∷ [])) e.partition i f × (asked_by f.act ≡ Some j) × (f.line ≡ e.line)
   named j e at =
       let (f, at', partition, line) = alike_at pools journal j e alike at in
-      let same : 0 + j ≡ j = omega arith in
-      (j, f, subst (λ p. IsEntry (journal_at (journal ∷ [])) p j f) (sym partition) at', asks_at 0 journal j f asks at' ∙ ap Some same, line)
+      let same : 0 + j ≡ j = omega arith in (
+        j,
+        f,
+        subst (λ p. IsEntry (journal_at (journal ∷ [])) p j f) (sym partition) at',
+        asks_at 0 journal j f asks at' ∙
+            ap Some same,
+        line,
+      )
 
   names_its_own : (p i j : ℕ) → Names (journal_at (journal ∷ [])) p i j → (p ≡ 0) × (i ≡ j)
   names_its_own p i j (e, at, asked) =

@@ -123,11 +123,15 @@ rooted = roots_of_one purge_records purge_pool purge_journal purge_trace lines p
 first_names : (i j : ℕ) (e : RootEntry) → slice_get purge_journal i ≡ Some e → asked_by e.act ≡ Some j → i ≡ 0
 first_names zero j e at asked = refl
 first_names (suc i) j e at asked =
-    let none : asked_by e.act ≡ None = each (λ (z : RootEntry). asked_by z.act ≡ None) (drop 1 purge_journal) (refl, (refl, (refl, tt))) e (at_in (drop 1 purge_journal) i e at) in
+    let none : asked_by e.act ≡ None =
+    each (λ (z : RootEntry). asked_by z.act ≡ None) (drop 1 purge_journal) (refl, (refl, (refl, tt))) e
+    (at_in (drop 1 purge_journal) i e at) in
     absurd (not_some j (sym none ∙ asked))
 
-named : (j : ℕ) (e : PoolEntry) → slice_get purge_pool j ≡ Some e → (i : ℕ) × (f : RootEntry) × IsEntry roots e.partition i f × (asked_by f.act ≡ Some j) × (f.line ≡ e.line)
-named zero e at = subst (λ (z : PoolEntry). (i : ℕ) × (f : RootEntry) × IsEntry roots z.partition i f × (asked_by f.act ≡ Some 0) × (f.line ≡ z.line)) (of_some _ e at) (0, _, refl, refl, refl)
+named : (j : ℕ) (e : PoolEntry) → slice_get purge_pool j ≡ Some e → (i : ℕ) × (f : RootEntry) × IsEntry roots e.partition i f ×
+    (asked_by f.act ≡ Some j) × (f.line ≡ e.line)
+named zero e at = subst (λ (z : PoolEntry). (i : ℕ) × (f : RootEntry) × IsEntry roots z.partition i f × (asked_by f.act ≡ Some 0) ×
+    (f.line ≡ z.line)) (of_some _ e at) (0, _, refl, refl, refl)
 named (suc j) e at = absurd (not_some e at)
 
 pub pooled : IsPoolOf 1 purge_records purge_pool roots
@@ -194,7 +198,8 @@ of_class = (_, Some 0, filled, (0, lit< tt, refl), refl, (0, lit< tt, refl))
 made_row : MadeRow roots (of_first_thread 2 (ops.Alloc 0 0 8) (answers.Made (first_slot 0) 8)) (first_slot 0) (no_caches 0) listed_made
 made_row = inl (0, 0, filled, rest, (0, 8, refl, class_0), (Some 0, (refl, no_other purge_journal 2)), refl, λ p c. refl)
 
-free_row : DoneRow roots (of_first_thread 3 (ops.Free 0) (answers.Done (first_slot 16777217))) (Some steps.Free) (first_slot 16777217) listed_made listed_free
+free_row : DoneRow roots (of_first_thread 3 (ops.Free 0) (answers.Done (first_slot 16777217))) (Some steps.Free)
+    (first_slot 16777217) listed_made listed_free
 unfolding rows row_of limit_of
 free_row = inl ((refl, refl), inl (0, 0, of_class, (refl, no_other purge_journal 3), λ p c. refl))
 
@@ -202,12 +207,17 @@ purged_acts : (p : ℕ) → p < 1 → acts_of roots 4 p ≡ purge_acts (listed_f
 purged_acts zero below = refl
 purged_acts (suc p) below = absurd (omega arith)
 
-again_row : MadeRow roots (of_first_thread 5 (ops.Alloc 1 0 8) (answers.Made (first_slot 33554432) 8)) (first_slot 33554432) (no_caches 0) listed_again
+again_row : MadeRow roots (of_first_thread 5 (ops.Alloc 1 0 8) (answers.Made (first_slot 33554432) 8)) (first_slot 33554432)
+    (no_caches 0) listed_again
 again_row = inl (0, 0, freed ∷ rest, rest, (1, 8, refl, class_0), (None, (refl, no_other purge_journal 5)), refl, λ p c. refl)
 
 pub cached_to : CachesTo 1 roots no_caches purge_records at_end
 unfolding listed_slots
-cached_to = (listed_made, made_row, (listed_free, free_row, (no_caches 0, (purged_acts, refl, λ p c. refl), (listed_again, again_row, refl))))
+cached_to = (
+  listed_made,
+  made_row,
+  (listed_free, free_row, (no_caches 0, (purged_acts, refl, λ p c. refl), (listed_again, again_row, refl))),
+)
 
 pub cached : AreCaches 1 roots purge_records
 cached = (at_end, cached_to)
@@ -221,10 +231,24 @@ unfolding rows row_of slot_of
 has_size = inl (0, of_class, refl)
 
 live : IsTally IsLive roots purge_records 0 (tally 1 16)
-live = (_, 16 ∷ [], slots_of_kind IsLive is_live live_is is_live_of refl roots purge_records 0 words (16 ∷ []) alone worded (has_size, tt) refl, refl, refl)
+live = (
+  _,
+  16 ∷ [],
+  slots_of_kind IsLive is_live live_is is_live_of refl roots purge_records 0 words (16 ∷ []) alone worded
+      (has_size, tt) refl,
+  refl,
+  refl,
+)
 
 quarantined : IsTally IsQuarantined roots purge_records 0 (tally 0 0)
-quarantined = (_, [], slots_of_kind IsQuarantined is_quarantined quarantined_is is_quarantined_of refl roots purge_records 0 words [] alone worded tt refl, refl, refl)
+quarantined = (
+  _,
+  [],
+  slots_of_kind IsQuarantined is_quarantined quarantined_is is_quarantined_of refl roots purge_records 0 words
+      [] alone worded tt refl,
+  refl,
+  refl,
+)
 
 in_phase_1 : AllByRecursion (InPhases purge_records 1) purge_journal
 in_phase_1 = (

@@ -39,4 +39,5 @@ purge_written = record {
 }
 
 pub purge_is_filed : PurgeIsFiled
-purge_is_filed r is = written_is_filed purge_trace r purge_records (purge_journal ∷ []) purge_pool [] purge_report limits refl is purge_written
+purge_is_filed r is = written_is_filed purge_trace r purge_records (purge_journal ∷ []) purge_pool
+    [] purge_report limits refl is purge_written

@@ -13,7 +13,8 @@ use Rattle.pa_examples.proofs.worked.ThreadsRead as read
 use Rattle.pa_examples.proofs.worked.ThreadsHeld as used
 use Rattle.pa_examples.proofs.worked.ThreadsReport as report
 
-direct_map_written : IsWritten direct_map_trace direct_map_records (direct_map_again_journal ∷ []) direct_map_again_pool [] direct_map_report
+direct_map_written : IsWritten direct_map_trace direct_map_records (direct_map_again_journal ∷ []) direct_map_again_pool
+    [] direct_map_report
 direct_map_written = record {
   lines = maps.lines;
   cells = maps.cells;
@@ -31,9 +32,11 @@ direct_map_written = record {
 
 pub direct_map_is_filed : DirectMapIsFiled
 direct_map_is_filed r is =
-    written_is_filed direct_map_trace r direct_map_records (direct_map_again_journal ∷ []) direct_map_again_pool [] direct_map_report direct_map_limits refl is direct_map_written
+    written_is_filed direct_map_trace r direct_map_records (direct_map_again_journal ∷ []) direct_map_again_pool
+    [] direct_map_report direct_map_limits refl is direct_map_written
 
-two_threads_written : IsWritten two_threads_trace two_threads_records (two_threads_journal ∷ []) two_threads_pool (two_threads_history ∷ []) two_threads_report
+two_threads_written : IsWritten two_threads_trace two_threads_records (two_threads_journal ∷ []) two_threads_pool
+    (two_threads_history ∷ []) two_threads_report
 two_threads_written = record {
   lines = threads.lines;
   cells = threads.exchanged;
@@ -51,4 +54,5 @@ two_threads_written = record {
 
 pub two_threads_are_legal : TwoThreadsAreLegal
 two_threads_are_legal r is =
-    written_is_legal two_threads_trace r two_threads_records (two_threads_journal ∷ []) two_threads_pool (two_threads_history ∷ []) two_threads_report is two_threads_written
+    written_is_legal two_threads_trace r two_threads_records (two_threads_journal ∷ []) two_threads_pool
+    (two_threads_history ∷ []) two_threads_report is two_threads_written

@@ -19,7 +19,8 @@ not_older None n = true
 not_older (Some m) None = true
 not_older (Some m) (Some n) = implies (same_slot m.slot n.slot) (leb (left_number m) (number_of n.found))
 
-not_older-true : (o p : Option Mark) (m n : Mark) → not_older o p ≡ true → o ≡ Some m → p ≡ Some n → m.slot ≡ n.slot → left_number m ≤ number_of n.found
+not_older-true : (o p : Option Mark) (m n : Mark) → not_older o p ≡ true → o ≡ Some m → p ≡ Some n → m.slot ≡ n.slot →
+    left_number m ≤ number_of n.found
 not_older-true o p m n h is is' same =
     let here : not_older (Some m) (Some n) ≡ true = subst (λ z. not_older (Some m) z ≡ true) is' (subst (λ z. not_older z p ≡ true) is h) in
     leb-true _ _ (implied _ _ here (same_slot_yes m.slot n.slot same))
@@ -37,7 +38,8 @@ module _ (cells : ℕ → List CellEntry) (ps : List Played) (before : Played �
     (hands : (x y : Played) → Contains ps x → Contains ps y → HandsTo cells x y → before x y ≡ true) where
   before_from : (x y : Played) → Contains ps x → Contains ps y → IsBefore cells ps x y → before x y ≡ true
   before_from x y among among' (Standing h) =
-      implied _ _ (both_pass (λ (a : Played) (b : Played). implies (stands a b) (before a b)) ps x y (and_parts _ _ seen).0 among among') (stands-from x y h)
+      implied _ _ (both_pass (λ (a : Played) (b : Played). implies (stands a b) (before a b)) ps x y (and_parts _ _ seen).0 among among')
+      (stands-from x y h)
   before_from x y among among' (Handing h) = hands x y among among' h
   before_from x z among among' (Between y middle h k) =
       let through : (a b : Played) → Bool = λ a b. list_all (λ (c : Played). implies (before a b) (implies (before b c) (before a c))) ps in
@@ -50,7 +52,9 @@ module _ (cells : ℕ → List CellEntry) (ps : List Played) (before : Played �
       let (back, older) = and_parts _ _ (and_parts _ _ (and_parts _ _ seen).1).1 in
       let rising : (a b : Played) → Bool = λ a b. implies (before a b) (not_older (mark_of a) (mark_of b)) in
       record {
-        ahead = λ x among h. both_ways _ (not-true _ (passes (λ (a : Played). not (before a a)) ps x back among)) (before_from x x among among h);
+        ahead = λ x among h. both_ways _ (not-true _ (passes (λ (a : Played). not (before a a)) ps x back among))
+            (before_from x x among among h);
         rising = λ x y m n among among' h is is' same.
-            not_older-true (mark_of x) (mark_of y) m n (implied _ _ (both_pass rising ps x y older among among') (before_from x y among among' h)) is is' same;
+            not_older-true (mark_of x) (mark_of y) m n
+            (implied _ _ (both_pass rising ps x y older among among') (before_from x y among among' h)) is is' same;
       }

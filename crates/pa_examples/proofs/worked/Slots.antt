@@ -60,7 +60,8 @@ steps_at s u m = same_slot m.slot s && (eqb m.found u && is_some m.step)
 abbrev pub is_least : List Mark → SlotName → ℕ → ℕ → Bool
 is_least ms s u line = list_all (λ (n : Mark). implies (steps_at s u n) (leb line n.line)) ms
 
-first_at : (ms : List Mark) (s : SlotName) (u : ℕ) (m : Mark) (p : Step) → Contains ms m → m.slot ≡ s → m.found ≡ u → m.step ≡ Some p → is_least ms s u m.line ≡ true → IsFirstAt ms s u m p
+first_at : (ms : List Mark) (s : SlotName) (u : ℕ) (m : Mark) (p : Step) → Contains ms m → m.slot ≡ s → m.found ≡ u → m.step ≡ Some p →
+    is_least ms s u m.line ≡ true → IsFirstAt ms s u m p
 first_at ms s u m p among slot found step least = record {
   among = among;
   slot = slot;
@@ -126,11 +127,13 @@ is_one_run ms s ws = list_all (λ (m : Mark). implies (same_slot m.slot s) (has 
 one_run : (ms : List Mark) (s : SlotName) (ws : List ℕ) → is_one_run ms s ws ≡ true → IsOneRun ms s ws
 one_run ms s ws h =
     let of : (m : Mark) → Contains ms m → m.slot ≡ s → (has m.found ws && is_used ms s m m.step) ≡ true =
-    λ m among slot. implied _ _ (passes (λ (n : Mark). implies (same_slot n.slot s) (has n.found ws && is_used ms s n n.step)) ms m h among) (same_slot_yes m.slot s slot) in
+    λ m among slot. implied _ _ (passes (λ (n : Mark). implies (same_slot n.slot s) (has n.found ws && is_used ms s n n.step)) ms m h among)
+    (same_slot_yes m.slot s slot) in
     record {
       found = λ m among slot. has_some m.found ws (and_parts _ _ (of m among slot)).0;
       used = λ m p among slot step.
-          let all : is_used ms s m (Some p) ≡ true = subst (λ o. is_used ms s m o ≡ true) step (and_parts (has m.found ws) (is_used ms s m m.step) (of m among slot)).1 in
+          let all : is_used ms s m (Some p) ≡ true =
+          subst (λ o. is_used ms s m o ≡ true) step (and_parts (has m.found ws) (is_used ms s m m.step) (of m among slot)).1 in
           let (least, can) = and_parts (is_least ms s m.found m.line) (can_step p m.found) all in
           (first_at ms s m.found m p among slot refl step least, can_step-true p m.found can);
     }
@@ -150,26 +153,35 @@ words_of (Some n) = n.words
 -- each mark is of one of these slots, and the slots have these words
 abbrev pub are_worded : List Mark → List Worded → Bool
 are_worded ms named =
-    list_all (λ (m : Mark). is_some (find (is_named m.slot) named)) ms && list_all (λ (n : Worded). is_run ms n.slot 0 n.words && is_one_run ms n.slot (0 ∷ n.words)) named
+    list_all (λ (m : Mark). is_some (find (is_named m.slot) named)) ms &&
+    list_all (λ (n : Worded). is_run ms n.slot 0 n.words && is_one_run ms n.slot (0 ∷ n.words)) named
 
-pub worded_run : (ms : List Mark) (named : List Worded) (n : Worded) → are_worded ms named ≡ true → Contains named n → IsRunFrom ms n.slot 0 n.words × IsOneRun ms n.slot (0 ∷ n.words)
+pub worded_run : (ms : List Mark) (named : List Worded) (n : Worded) → are_worded ms named ≡ true → Contains named n →
+    IsRunFrom ms n.slot 0 n.words × IsOneRun ms n.slot (0 ∷ n.words)
 worded_run ms named n h among =
     let test : Worded → Bool = λ (n : Worded). is_run ms n.slot 0 n.words && is_one_run ms n.slot (0 ∷ n.words) in
-    let (a, b) = and_parts (is_run ms n.slot 0 n.words) (is_one_run ms n.slot (0 ∷ n.words)) (passes test named n (and_parts _ _ h).1 among) in
+    let (a, b) = and_parts (is_run ms n.slot 0 n.words) (is_one_run ms n.slot (0 ∷ n.words))
+    (passes test named n (and_parts _ _ h).1 among) in
     (run_from ms n.slot 0 n.words a, one_run ms n.slot (0 ∷ n.words) b)
 
 -- a slot that isn't named has no mark
-unnamed : (ms : List Mark) (named : List Worded) (s : SlotName) (m : Mark) → are_worded ms named ≡ true → find (is_named s) named ≡ None → Contains ms m → m.slot ≡ s → ⊥
+unnamed : (ms : List Mark) (named : List Worded) (s : SlotName) (m : Mark) → are_worded ms named ≡ true → find (is_named s) named ≡ None →
+    Contains ms m → m.slot ≡ s → ⊥
 unnamed ms named s m h none among slot =
-    let some : is_some (find (is_named m.slot) named) ≡ true = passes (λ (m : Mark). is_some (find (is_named m.slot) named)) ms m (and_parts _ _ h).0 among in
+    let some : is_some (find (is_named m.slot) named) ≡ true =
+    passes (λ (m : Mark). is_some (find (is_named m.slot) named)) ms m (and_parts _ _ h).0 among in
     let some' : is_some (find (is_named s) named) ≡ true = subst (λ t. is_some (find (is_named t) named) ≡ true) slot some in
     false≢true (subst (λ o. is_some o ≡ true) none some')
 
-pub run_at : (ms : List Mark) (named : List Worded) (s : SlotName) (o : Option Worded) → are_worded ms named ≡ true → find (is_named s) named ≡ o →
+pub run_at : (ms : List Mark) (named : List Worded) (s : SlotName) (o : Option Worded) → are_worded ms named ≡ true →
+    find (is_named s) named ≡ o →
     IsRunFrom ms s 0 (words_of o) × IsOneRun ms s (0 ∷ words_of o)
 run_at ms named s None h e = (
   λ m p first can. unnamed ms named s m h e first.among first.slot,
-  record { found = λ m among slot. absurd (unnamed ms named s m h e among slot); used = λ m p among slot step. absurd (unnamed ms named s m h e among slot) },
+  record {
+    found = λ m among slot. absurd (unnamed ms named s m h e among slot);
+    used = λ m p among slot step. absurd (unnamed ms named s m h e among slot);
+  },
 )
 run_at ms named s (Some n) h e =
     let (among, same) = find_is (is_named s) named n e in

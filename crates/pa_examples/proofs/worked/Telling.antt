@@ -15,12 +15,22 @@ use Rattle.pa_examples.specs.Worked.{IsTold}
 
 -- the lists are short enough for vectors
 abbrev pub AreFew : List Entry → List (List RootEntry) → List PoolEntry → List (List CellEntry) → List ReportLine → Type 0
-AreFew told journals pools exchanged heaps = (length told < 2 ^ 63) × (length journals < 2 ^ 63) × (length pools < 2 ^ 63) × (length exchanged < 2 ^ 63) × (length heaps < 2 ^ 63)
+AreFew told journals pools exchanged heaps = (length told < 2 ^ 63) × (length journals < 2 ^ 63) × (length pools < 2 ^ 63) ×
+    (length exchanged < 2 ^ 63) × (length heaps < 2 ^ 63)
 
 abbrev vec_of : {X : Type 0} → Global → (xs : List X) → length xs < 2 ^ 63 → Vec X Global
-vec_of heap xs few = record { ptr = null_ptr; len = length xs; cap = length xs; alloc = heap; items = xs; ok = (refl, le_refl (length xs)); small = few }
+vec_of heap xs few = record {
+  ptr = null_ptr;
+  len = length xs;
+  cap = length xs;
+  alloc = heap;
+  items = xs;
+  ok = (refl, le_refl (length xs));
+  small = few;
+}
 
-module _ (told : List Entry) (journals : List (List RootEntry)) (pools : List PoolEntry) (exchanged : List (List CellEntry)) (heaps : List ReportLine)
+module _ (told : List Entry) (journals : List (List RootEntry)) (pools : List PoolEntry) (exchanged : List (List CellEntry))
+    (heaps : List ReportLine)
     (few : AreFew told journals pools exchanged heaps) where
   abbrev pub run_of : Global → Run
   run_of heap =

@@ -68,11 +68,13 @@ all_answered = (
   (
     λ k reg e. absurd cc,
     (
-      answered (record of_one { line = 4; thread = 0; phase = 1; op = ops.Swap 0 1; answer = answers.Swapped 0 }) 1 (0, _, refl, refl, refl) refl,
+      answered (record of_one { line = 4; thread = 0; phase = 1; op = ops.Swap 0 1; answer = answers.Swapped 0 }) 1
+          (0, _, refl, refl, refl) refl,
       (
         λ k reg e. absurd cc,
         (
-          answered (record of_one { line = 7; thread = 1; phase = 2; op = ops.Swap 0 0; answer = answers.Swapped 1 }) 0 (1, _, refl, refl, refl) refl,
+          answered (record of_one { line = 7; thread = 1; phase = 2; op = ops.Swap 0 0; answer = answers.Swapped 1 }) 0
+              (1, _, refl, refl, refl) refl,
           (
             λ k reg e. absurd cc,
             (
@@ -115,14 +117,19 @@ abbrev before : Played → Played → Bool
 before x y = ltb x.line y.line && (not (eqb x.line 6) || ltb 2 y.phase)
 
 before_by : (x y : Played) (m n : ℕ) → m ≡ x.line → n ≡ y.line → (ltb m n && (not (eqb m 6) || ltb 2 y.phase)) ≡ true → before x y ≡ true
-before_by x y m n e f h = subst (λ a. (ltb a y.line && (not (eqb a 6) || ltb 2 y.phase)) ≡ true) e (subst (λ b. (ltb m b && (not (eqb m 6) || ltb 2 y.phase)) ≡ true) f h)
+before_by x y m n e f h =
+    subst (λ a. (ltb a y.line && (not (eqb a 6) || ltb 2 y.phase)) ≡ true) e
+    (subst (λ b. (ltb m b && (not (eqb m 6) || ltb 2 y.phase)) ≡ true) f h)
 
 -- the raw_ptr went through the cell from line 4 to line 7
-handed : (x y : Played) (j : ℕ) (e f : CellEntry) → slice_get two_threads_history j ≡ Some e → slice_get two_threads_history (j + 1) ≡ Some f → e.line ≡ x.line → f.line ≡ y.line →
+handed : (x y : Played) (j : ℕ) (e f : CellEntry) → slice_get two_threads_history j ≡ Some e →
+    slice_get two_threads_history (j + 1) ≡ Some f → e.line ≡ x.line → f.line ≡ y.line →
     before x y ≡ true
-handed x y zero e f at at' line line' = before_by x y 4 7 (ap cell_line (of_some _ e at) ∙ line) (ap cell_line (of_some _ f at') ∙ line') refl
+handed x y zero e f at at' line line' =
+    before_by x y 4 7 (ap cell_line (of_some _ e at) ∙ line) (ap cell_line (of_some _ f at') ∙ line') refl
 handed x y (suc j) e f at at' line line' = absurd (not_some f (rw add-one at at'))
 
 pub seen : IsSeenInOrder cells two_threads_records
 seen = seen_in_order cells two_threads_records before refl
-    (λ x y among among' (k, j, e, f, at, at', line, line', gave). handed x y j e f (only_cell k j e at).1 (only_cell k (j + 1) f at').1 line line')
+    (λ x y among among' (k, j, e, f, at, at', line, line', gave). handed x y j e f (only_cell k j e at).1
+    (only_cell k (j + 1) f at').1 line line')

@@ -76,17 +76,25 @@ after_2 = with_cache (with_cache (with_cache after_1 0 kept) 1 (no_caches 1)) 1 
 abbrev pub after_3 : Caches
 after_3 = with_cache (with_cache after_2 1 (no_caches 1)) 1 second_cache
 
-free_row : DoneRow roots (record of_one { line = 6; thread = 0; phase = 2; op = ops.Free 0; answer = answers.Done (seen_at 16384 0 0x2000003) }) (Some steps.Free) (seen_at 16384 0 0x2000003)
+free_row : DoneRow roots
+    (record of_one { line = 6; thread = 0; phase = 2; op = ops.Free 0; answer = answers.Done (seen_at 16384 0 0x2000003) })
+    (Some steps.Free) (seen_at 16384 0 0x2000003)
     kept kept
 free_row = inr (λ h. absurd (omega (arith, h.1)), none_on two_threads_journal 6 refl, λ p c. refl)
 
-reset_row : DoneRow roots (record of_one { line = 11; thread = 1; phase = 3; op = ops.Reset 0; answer = answers.Done (seen_at 16384 0 0x3000002) }) (Some steps.Reset) (seen_at 16384 0 0x3000002)
+reset_row : DoneRow roots
+    (record of_one { line = 11; thread = 1; phase = 3; op = ops.Reset 0; answer = answers.Done (seen_at 16384 0 0x3000002) })
+    (Some steps.Reset) (seen_at 16384 0 0x3000002)
     (no_caches 1) second_cache
 unfolding rows row_of limit_of
 reset_row = inl ((refl, refl), inl (0, 0, of_class, (refl, no_other two_threads_journal 11), λ p c. refl))
 
 pub cached_1 : CachesTo 1 roots no_caches (until 1 two_threads_records) after_1
-cached_1 = (kept, made_row, (kept, inr (λ h. h, none_on two_threads_journal 3 refl, λ p c. refl), (kept, (none_on two_threads_journal 4 refl, λ p c. refl), refl)))
+cached_1 = (
+  kept,
+  made_row,
+  (kept, inr (λ h. h, none_on two_threads_journal 3 refl, λ p c. refl), (kept, (none_on two_threads_journal 4 refl, λ p c. refl), refl)),
+)
 
 pub cached_2 : CachesTo 1 roots no_caches (until 2 two_threads_records) after_2
 cached_2 = (

@@ -46,10 +46,24 @@ alone_3 : AllPairs OtherLine (marks_of (records 3))
 alone_3 = other_lines (marks_of (records 3)) refl
 
 live_1 : IsTally IsLive roots (records 1) 0 (tally 1 16)
-live_1 = (_, 16 ∷ [], slots_of_kind IsLive is_live live_is is_live_of refl roots (records 1) 0 words_1 (16 ∷ []) alone_1 worded_1 (has_size, tt) refl, refl, refl)
+live_1 = (
+  _,
+  16 ∷ [],
+  slots_of_kind IsLive is_live live_is is_live_of refl roots (records 1) 0 words_1 (16 ∷ []) alone_1 worded_1
+      (has_size, tt) refl,
+  refl,
+  refl,
+)
 
 quarantined_1 : IsTally IsQuarantined roots (records 1) 0 (tally 0 0)
-quarantined_1 = (_, [], slots_of_kind IsQuarantined is_quarantined quarantined_is is_quarantined_of refl roots (records 1) 0 words_1 [] alone_1 worded_1 tt refl, refl, refl)
+quarantined_1 = (
+  _,
+  [],
+  slots_of_kind IsQuarantined is_quarantined quarantined_is is_quarantined_of refl roots (records 1) 0 words_1
+      [] alone_1 worded_1 tt refl,
+  refl,
+  refl,
+)
 
 live_2 : IsTally IsLive roots (records 2) 0 (tally 0 0)
 live_2 = (_, [], slots_of_kind IsLive is_live live_is is_live_of refl roots (records 2) 0 words_2 [] alone_2 worded_2 tt refl, refl, refl)
@@ -58,7 +72,8 @@ quarantined_2 : IsTally IsQuarantined roots (records 2) 0 (tally 1 16)
 quarantined_2 = (
   _,
   16 ∷ [],
-  slots_of_kind IsQuarantined is_quarantined quarantined_is is_quarantined_of refl roots (records 2) 0 words_2 (16 ∷ []) alone_2 worded_2 (has_size, tt) refl,
+  slots_of_kind IsQuarantined is_quarantined quarantined_is is_quarantined_of refl roots (records 2) 0 words_2 (16 ∷ []) alone_2 worded_2
+      (has_size, tt) refl,
   refl,
   refl,
 )
@@ -67,11 +82,19 @@ live_3 : IsTally IsLive roots (records 3) 0 (tally 0 0)
 live_3 = (_, [], slots_of_kind IsLive is_live live_is is_live_of refl roots (records 3) 0 words [] alone_3 worded tt refl, refl, refl)
 
 quarantined_3 : IsTally IsQuarantined roots (records 3) 0 (tally 0 0)
-quarantined_3 = (_, [], slots_of_kind IsQuarantined is_quarantined quarantined_is is_quarantined_of refl roots (records 3) 0 words [] alone_3 worded tt refl, refl, refl)
+quarantined_3 = (
+  _,
+  [],
+  slots_of_kind IsQuarantined is_quarantined quarantined_is is_quarantined_of refl roots (records 3) 0 words
+      [] alone_3 worded tt refl,
+  refl,
+  refl,
+)
 
 -- the fill is of phase 1, and there is no other entry
 has_census : (phase : ℕ) → 1 ≤ phase → HasCensus two_threads_records two_threads_pool roots phase 0 two_threads_census
-has_census phase from = census_of_one two_threads_records two_threads_pool two_threads_journal phase _ ((_, ((0, lit< tt, refl), refl), from), tt) refl counted
+has_census phase from = census_of_one two_threads_records two_threads_pool two_threads_journal phase _
+    ((_, ((0, lit< tt, refl), refl), from), tt) refl counted
 
 abbrev IsRight : ReportLine → Type 0
 IsRight l = IsReportLine 1 2 two_threads_records two_threads_pool roots l

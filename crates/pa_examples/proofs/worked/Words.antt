@@ -43,7 +43,8 @@ mid_past (x ∷ mid) back (suc i) low = mid_past mid back i (omega arith)
 pub between-in : (n : ℕ) (mid : List ℕ) (back i : ℕ) → i < length mid → slice_index (between n mid back) (n + i) ≡ slice_index mid i
 unfolding between
 between-in zero mid back i low = let e : 0 + i ≡ i = omega arith in ap (λ k. slice_index (mid ++ zeros back) k) e ∙ mid_in mid back i low
-between-in (suc n) mid back i low = let e : suc n + i ≡ suc (n + i) = omega arith in ap (λ k. slice_index (0 ∷ between n mid back) k) e ∙ between-in n mid back i low
+between-in (suc n) mid back i low = let e : suc n + i ≡ suc (n + i) = omega arith in ap (λ k. slice_index (0 ∷ between n mid back) k) e ∙
+    between-in n mid back i low
 
 pub between-before : (n : ℕ) (mid : List ℕ) (back i : ℕ) → i < n → slice_index (between n mid back) i ≡ 0
 unfolding between

@@ -38,4 +38,5 @@ writes_written = record {
 }
 
 pub writes_are_filed : WritesAreFiled
-writes_are_filed r is = written_is_filed writes_trace r writes_records (writes_journal ∷ []) writes_pool [] writes_report limits refl is writes_written
+writes_are_filed r is = written_is_filed writes_trace r writes_records (writes_journal ∷ []) writes_pool
+    [] writes_report limits refl is writes_written

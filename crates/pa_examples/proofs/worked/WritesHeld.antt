@@ -125,10 +125,24 @@ alone : AllPairs OtherLine (marks_of writes_records)
 alone = other_lines (marks_of writes_records) refl
 
 live : IsTally IsLive roots writes_records 0 (tally 1 16)
-live = (_, 16 ∷ [], slots_of_kind IsLive is_live live_is is_live_of refl roots writes_records 0 words (16 ∷ []) alone worded (has_size, tt) refl, refl, refl)
+live = (
+  _,
+  16 ∷ [],
+  slots_of_kind IsLive is_live live_is is_live_of refl roots writes_records 0 words (16 ∷ []) alone worded
+      (has_size, tt) refl,
+  refl,
+  refl,
+)
 
 quarantined : IsTally IsQuarantined roots writes_records 0 (tally 0 0)
-quarantined = (_, [], slots_of_kind IsQuarantined is_quarantined quarantined_is is_quarantined_of refl roots writes_records 0 words [] alone worded tt refl, refl, refl)
+quarantined = (
+  _,
+  [],
+  slots_of_kind IsQuarantined is_quarantined quarantined_is is_quarantined_of refl roots writes_records 0 words
+      [] alone worded tt refl,
+  refl,
+  refl,
+)
 
 all_right : AllByRecursion (IsReportLine 1 1 writes_records writes_pool roots) writes_report
 unfolding rows row_of slot_of listed_slots listed_bytes

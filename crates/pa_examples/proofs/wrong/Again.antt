@@ -22,13 +22,25 @@ use Rattle.pa_examples.specs.Worked.{seen_at, of_one}
 -- ---- the direct map that is said to come again
 
 abbrev map_record : Played
-map_record = record of_one { line = 2; thread = 0; phase = 1; op = ops.Alloc 0 0 2000000; answer = answers.Made (seen_at 16384 0 0) 2002936 }
+map_record = record of_one {
+  line = 2;
+  thread = 0;
+  phase = 1;
+  op = ops.Alloc 0 0 2000000;
+  answer = answers.Made (seen_at 16384 0 0) 2002936;
+}
 
 abbrev free_record : Played
 free_record = record of_one { line = 3; thread = 0; phase = 1; op = ops.Free 0; answer = answers.Done (seen_at 16384 0 0x1000001) }
 
 abbrev again_record : Played
-again_record = record of_one { line = 4; thread = 0; phase = 1; op = ops.Alloc 0 0 2000000; answer = answers.Made (seen_at 16384 0 0x2000000) 2002936 }
+again_record = record of_one {
+  line = 4;
+  thread = 0;
+  phase = 1;
+  op = ops.Alloc 0 0 2000000;
+  answer = answers.Made (seen_at 16384 0 0x2000000) 2002936;
+}
 
 direct : AsksForMap map_record 0 2000000
 direct = (0, refl, (lit< tt, lit≤ tt))
@@ -66,10 +78,12 @@ again_unmet h =
 
 maps_met : (r : Run) (other : Place) → line_at r other < 4 → Demand clauses.Caches maps_trace maps_told other
 maps_met r (places.Record zero) less = λ x at.
-    shown (λ (z : Played). (all : Caches) × (next : Cache) × CachesTo 1 maps_told.roots no_caches [] all × CacheRow 1 maps_told.roots z z.answer (all z.thread) next)
+    shown (λ (z : Played). (all : Caches) × (next : Cache) × CachesTo 1 maps_told.roots no_caches [] all ×
+    CacheRow 1 maps_told.roots z z.answer (all z.thread) next)
     map_record x (no_caches, no_caches 0, refl, map_row) at
 maps_met r (places.Record (suc zero)) less = λ x at.
-    shown (λ (z : Played). (all : Caches) × (next : Cache) × CachesTo 1 maps_told.roots no_caches (map_record ∷ []) all × CacheRow 1 maps_told.roots z z.answer (all z.thread) next)
+    shown (λ (z : Played). (all : Caches) × (next : Cache) × CachesTo 1 maps_told.roots no_caches (map_record ∷ []) all ×
+    CacheRow 1 maps_told.roots z z.answer (all z.thread) next)
     free_record x (with_cache no_caches 0 (no_caches 0), no_caches 0, (no_caches 0, map_row, refl), free_row) at
 maps_met r (places.Record (suc (suc i))) less = absurd (omega arith)
 maps_met r (places.Root p j) less = tt

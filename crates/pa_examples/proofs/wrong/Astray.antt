@@ -46,10 +46,24 @@ abbrev roots : Journals
 roots = astray_told.roots
 
 abbrev first_record : Played
-first_record = record { line = 2; thread = 0; phase = 1; rules = first_rules 2; op = ops.Alloc 0 0 8; answer = answers.Made (seen_at 16384 0 0) 8 }
+first_record = record {
+  line = 2;
+  thread = 0;
+  phase = 1;
+  rules = first_rules 2;
+  op = ops.Alloc 0 0 8;
+  answer = answers.Made (seen_at 16384 0 0) 8;
+}
 
 abbrev second_record : Played
-second_record = record { line = 3; thread = 0; phase = 1; rules = first_rules 2; op = ops.Alloc 1 1 8; answer = answers.Made (seen_at 16400 0 0) 8 }
+second_record = record {
+  line = 3;
+  thread = 0;
+  phase = 1;
+  rules = first_rules 2;
+  op = ops.Alloc 1 1 8;
+  answer = answers.Made (seen_at 16400 0 0) 8;
+}
 
 -- ---- caches
 
@@ -104,7 +118,8 @@ first_row = inl (0, 0, slots 0 0 first_slots, behind, (0, 8, refl, class_0), (So
 
 caches_met : (r : Run) (other : Place) → line_at r other < 3 → Demand clauses.Caches astray_trace astray_told other
 caches_met r (places.Record zero) less = λ x at.
-    shown (λ (z : Played). (all : Caches) × (next : Cache) × CachesTo 2 roots no_caches [] all × CacheRow 2 roots z z.answer (all z.thread) next)
+    shown (λ (z : Played). (all : Caches) × (next : Cache) × CachesTo 2 roots no_caches [] all ×
+    CacheRow 2 roots z z.answer (all z.thread) next)
     first_record x (no_caches, with_list (no_caches 0) 0 0 behind, refl, first_row) at
 caches_met r (places.Record (suc i)) less = absurd (omega arith)
 caches_met r (places.Root p j) less = tt
@@ -161,9 +176,12 @@ second_held = (0, InRoot, second_alone, inl (refl, refl), (first_record, ((0, li
 all_issued : AllByRecursion (IsIssued ps roots) ps
 all_issued = (issued ps roots 0 (seen_at 16384 0 0) 8 first_held, (issued ps roots 0 (seen_at 16400 0 0) 8 second_held, tt))
 
-filled_act : (p i : ℕ) (e : RootEntry) → IsEntry roots p i e → (class : ℕ) × (asked : Option ℕ) × (xs : List Numbered) × (e.act ≡ Fill class asked xs)
-filled_act zero zero e at = (0, Some 0, slots 0 0 first_slots, ap (λ (z : RootEntry). z.act) (sym (of_some (fill 2 0 (Some 0) (slots 0 0 first_slots)) e at)))
-filled_act (suc zero) zero e at = (0, Some 1, slots 1 0 second_slots, ap (λ (z : RootEntry). z.act) (sym (of_some (fill 3 0 (Some 1) (slots 1 0 second_slots)) e at)))
+filled_act : (p i : ℕ) (e : RootEntry) → IsEntry roots p i e → (class : ℕ) × (asked : Option ℕ) × (xs : List Numbered) ×
+    (e.act ≡ Fill class asked xs)
+filled_act zero zero e at =
+    (0, Some 0, slots 0 0 first_slots, ap (λ (z : RootEntry). z.act) (sym (of_some (fill 2 0 (Some 0) (slots 0 0 first_slots)) e at)))
+filled_act (suc zero) zero e at =
+    (0, Some 1, slots 1 0 second_slots, ap (λ (z : RootEntry). z.act) (sym (of_some (fill 3 0 (Some 1) (slots 1 0 second_slots)) e at)))
 filled_act zero (suc i) e at = absurd (not_some e at)
 filled_act (suc zero) (suc i) e at = absurd (not_some e at)
 filled_act (suc (suc p)) i e at = absurd (not_some e at)
@@ -184,7 +202,8 @@ held = record {
 
 pub astray_fails : AstrayFails
 astray_fails r tells = (
-  λ place. subst (λ u. Demand clauses.Holders astray_trace u place) (sym tells) ((holders_are_places astray_trace astray_told due one_run_each).0 held place),
+  λ place. subst (λ u. Demand clauses.Holders astray_trace u place) (sym tells)
+      ((holders_are_places astray_trace astray_told due one_run_each).0 held place),
   record {
     place = places.Record 1;
     line = refl;

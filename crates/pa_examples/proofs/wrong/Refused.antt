@@ -65,7 +65,8 @@ taken_fits = record {
 }
 
 pool_met : IsMet clauses.Pool refused_trace refused_told
-pool_met (places.Pool zero) = λ e at. shown (PoolEntryFits 1 ps refused_told.pools refused_told.roots 0) (pool_take 2 0 1 (Some 0)) e taken_fits at
+pool_met (places.Pool zero) =
+    λ e at. shown (PoolEntryFits 1 ps refused_told.pools refused_told.roots 0) (pool_take 2 0 1 (Some 0)) e taken_fits at
 pool_met (places.Pool (suc j)) = λ e at. absurd (not_some e at)
 pool_met (places.Record i) = tt
 pool_met (places.Root p j) = tt
@@ -98,13 +99,19 @@ abbrev NotFull : Played → Type 0
 NotFull x = (j : ℕ) → x.answer ≡ answers.Full j → ⊥
 
 not_full : (i : ℕ) (x : Played) → slice_get ps i ≡ Some x → NotFull x
-not_full zero x at = shown NotFull (record of_one { line = 2; thread = 0; phase = 1; op = ops.Alloc 0 0 1; answer = answers.Made (seen_at 16384 0 0) 8 }) x (λ j e. absurd cc) at
-not_full (suc zero) x at = shown NotFull (record of_one { line = 3; thread = 0; phase = 1; op = ops.Free 0; answer = answers.Done (seen_at 16384 0 0x1000001) }) x (λ j e. absurd cc) at
+not_full zero x at = shown NotFull
+    (record of_one { line = 2; thread = 0; phase = 1; op = ops.Alloc 0 0 1; answer = answers.Made (seen_at 16384 0 0) 8 }) x
+    (λ j e. absurd cc) at
+not_full (suc zero) x at =
+    shown NotFull (record of_one { line = 3; thread = 0; phase = 1; op = ops.Free 0; answer = answers.Done (seen_at 16384 0 0x1000001) }) x
+    (λ j e. absurd cc) at
 not_full (suc (suc i)) x at = absurd (not_some x at)
 
-roots_met : (r : Run) (other : Place) → told_by r ≡ refused_told → line_at r other < 5 → Demand clauses.Roots refused_trace refused_told other
+roots_met : (r : Run) (other : Place) → told_by r ≡ refused_told → line_at r other < 5 →
+    Demand clauses.Roots refused_trace refused_told other
 roots_met r (places.Record i) tells less = λ x j reg p size at is op. absurd (not_full i x at j is)
-roots_met r (places.Root zero zero) tells less = λ e at. shown (EntryFits 1 ps refused_told.pools refused_told.roots 0 0) filled e filled_fits at
+roots_met r (places.Root zero zero) tells less =
+    λ e at. shown (EntryFits 1 ps refused_told.pools refused_told.roots 0 0) filled e filled_fits at
 roots_met r (places.Root zero (suc j)) tells less =
     let two : length r.entries.items ≡ 2 = ap (λ (u : Told). length u.entries) tells in
     absurd (omega arith)

@@ -111,8 +111,8 @@ told_with read = record {
 abbrev pub SaysWith : Worked → Type 0
 SaysWith read = LayersSay two_threads_trace (told_with read) (seat_last read) (reading_so read)
 
--- all layers meet their obligations with each of the three reads: poison while the free is under way, the content, and that the slot was
--- freed
+-- all layers meet their obligations with each of the three reads: poison while the free is under way,
+-- the content, and that the slot was freed
 pub record ThreadsSay : Type 0 where
   pub poison : SaysWith the_read
   pub content : SaysWith content_read

@@ -1,5 +1,5 @@
--- The worked runs of one thread, with a purge and with direct maps, meet the obligations of all layers at once, and the seats that close
--- them are as required.
+-- The worked runs of one thread, with a purge and with direct maps, meet the obligations of all layers at once,
+-- and the seats that close them are as required.
 use Rattle.std.specs.Prelude.{ℕ, List, [], ◌∷◌, map, false}
 use Rattle.pa_slot.specs.declared.title.Title.{Title}
 use Rattle.pa_slot.specs.declared.title.OwnState.TheVariants.{Clean}
@@ -24,7 +24,7 @@ use Rattle.pa_lists.specs.Numbers.{numbers}
 
 -- an owner of the title, with the content that its history says
 abbrev pub owner_of : Title → OwnTitle
-owner_of t = record { title = t; state = Clean; idle = false }
+owner_of t = record { title = t; state = Clean; idle = false; sealed = false }
 
 -- ---- the run with a purge
 

@@ -1,5 +1,5 @@
--- The worked run with a purge, with its log, its lists and its seat: a slot is freed, goes back with the purge, and
--- is taken again.
+-- The worked run with a purge, with its log, its lists and its seat: a slot is freed,
+-- goes back with the purge, and is taken again.
 use Rattle.std.specs.Prelude.{List, [], ◌∷◌, ◌++◌, map, take, drop}
 use Rattle.pa_slot.specs.declared.word.Step.TheVariants.{Issue, Free}
 use Rattle.pa_region.specs.declared.view.Entry.TheVariants.{Counted}

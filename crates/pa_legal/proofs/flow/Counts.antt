@@ -67,7 +67,8 @@ at_kept s k class xs = elim (cases_Bool (nat_lt (limit_of class) (length xs))) [
 
 -- ---- entries
 
-pub moved_append : (w : Way → Bool) (s : SlotName) (k : ℕ) (a b : List RootAct) → moved_in w s k (a ++ b) ≡ moved_in w s k a + moved_in w s k b
+pub moved_append : (w : Way → Bool) (s : SlotName) (k : ℕ) (a b : List RootAct) →
+    moved_in w s k (a ++ b) ≡ moved_in w s k a + moved_in w s k b
 moved_append w s k [] b = omega arith
 moved_append w s k (x ∷ a) b = let ih = moved_append w s k a b in omega arith
 
@@ -93,7 +94,8 @@ back_gives s k xs = back_batches s k (length xs) xs (omega arith)
 pub out_gives : (s : SlotName) (k : ℕ) (xs : List Numbered) → moved_in is_out s k (gives xs) ≡ 0
 out_gives s k xs = out_batches s k (length xs) xs
 
-pub back_purge : (s : SlotName) (k : ℕ) (lists : ℕ → List Numbered) (class n : ℕ) → moved_in is_back s k (purge_acts lists class n) ≡ listed s k lists class n
+pub back_purge : (s : SlotName) (k : ℕ) (lists : ℕ → List Numbered) (class n : ℕ) →
+    moved_in is_back s k (purge_acts lists class n) ≡ listed s k lists class n
 unfolding listed
 back_purge s k lists class zero = refl
 back_purge s k lists class (suc n) =
@@ -113,7 +115,8 @@ out_purge s k lists class (suc n) =
 -- ---- lists
 
 -- lists that agree from a class on
-pub listed_agree : (s : SlotName) (k : ℕ) (f g : ℕ → List Numbered) (from n : ℕ) → ((c : ℕ) → from ≤ c → f c ≡ g c) → listed s k f from n ≡ listed s k g from n
+pub listed_agree : (s : SlotName) (k : ℕ) (f g : ℕ → List Numbered) (from n : ℕ) → ((c : ℕ) → from ≤ c → f c ≡ g c) →
+    listed s k f from n ≡ listed s k g from n
 unfolding listed
 listed_agree s k f g from zero same = refl
 listed_agree s k f g from (suc n) same =
@@ -122,7 +125,8 @@ listed_agree s k f g from (suc n) same =
     omega arith
 
 -- lists that agree but at one class
-listed_but_one : (s : SlotName) (k : ℕ) (f g : ℕ → List Numbered) (class from n : ℕ) → from ≤ class → class < from + n → ((c : ℕ) → (c ≡ class → ⊥) → f c ≡ g c) →
+listed_but_one : (s : SlotName) (k : ℕ) (f g : ℕ → List Numbered) (class from n : ℕ) → from ≤ class → class < from + n →
+    ((c : ℕ) → (c ≡ class → ⊥) → f c ≡ g c) →
     listed s k f from n + at_in s k (g class) ≡ listed s k g from n + at_in s k (f class)
 unfolding listed
 listed_but_one s k f g class from zero low high same = absurd (omega arith)
@@ -147,9 +151,11 @@ listed_none s k f from (suc n) none =
     omega arith
 
 -- one list of a thread was changed
-pub listed_changed : (s : SlotName) (k : ℕ) (cache after : Cache) (p class : ℕ) (xs : List Numbered) → class < 170 → ((c : ℕ) → after p c ≡ with_list cache p class xs p c) →
+pub listed_changed : (s : SlotName) (k : ℕ) (cache after : Cache) (p class : ℕ) (xs : List Numbered) → class < 170 →
+    ((c : ℕ) → after p c ≡ with_list cache p class xs p c) →
     listed s k (after p) 0 170 + at_in s k (cache p class) ≡ listed s k (cache p) 0 170 + at_in s k xs
 listed_changed s k cache after p class xs real becomes =
-    let one = listed_but_one s k (after p) (cache p) class 0 170 (omega arith) (omega arith) (λ c ne. becomes c ∙ list_of_another_class cache p class xs c ne) in
+    let one = listed_but_one s k (after p) (cache p) class 0 170 (omega arith) (omega arith)
+    (λ c ne. becomes c ∙ list_of_another_class cache p class xs c ne) in
     let here : at_in s k (after p class) ≡ at_in s k xs = ap (at_in s k) (becomes class ∙ list_changed cache p class xs) in
     omega arith

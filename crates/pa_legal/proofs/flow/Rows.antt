@@ -45,7 +45,8 @@ marked test None = 0
 marked test (Some m) = cond (test m) 1 0
 
 -- the only entry of a line
-pub line_entry : (roots : Journals) (line q : ℕ) (act : RootAct) → acts_of roots line q ≡ act ∷ [] → (e : RootEntry) × Contains (roots q) e × (e.line ≡ line) × (e.act ≡ act)
+pub line_entry : (roots : Journals) (line q : ℕ) (act : RootAct) → acts_of roots line q ≡ act ∷ [] → (e : RootEntry) ×
+    Contains (roots q) e × (e.line ≡ line) × (e.act ≡ act)
 line_entry roots line q act only =
     let among : Contains (acts_of roots line q) act = subst (λ acts. Contains acts act) (sym only) (first_in act []) in
     let (e, member, same) = map_cases (λ (e : RootEntry). e.act) (filter (λ (e : RootEntry). e.line == line) (roots q)) act among in
@@ -60,11 +61,13 @@ module _ (s : SlotName) (k p : ℕ) (roots : Journals) where
   -- what a row does with the slot of partition p, with these entries and this mark
   abbrev pub Flows : List RootAct → Option Mark → Cache → Cache → Type 0
   Flows acts mark cache after =
-      listed s k (after p) 0 170 + marked (is_issue_at s k) mark + moved_in is_back s k acts ≡ listed s k (cache p) 0 170 + moved_in is_out s k acts + marked (is_return_at s k) mark
+      listed s k (after p) 0 170 + marked (is_issue_at s k) mark + moved_in is_back s k acts ≡ listed s k
+      (cache p) 0 170 + moved_in is_out s k acts + marked (is_return_at s k) mark
 
   -- a row without entries, steps that issue or return, and changes
   quiet : (acts : List RootAct) (mark : Option Mark) (cache after : Cache) → SameLists after cache →
-      moved_in is_out s k acts + marked (is_return_at s k) mark ≡ moved_in is_back s k acts + marked (is_issue_at s k) mark → Flows acts mark cache after
+      moved_in is_out s k acts + marked (is_return_at s k) mark ≡ moved_in is_back s k acts + marked (is_issue_at s k) mark →
+      Flows acts mark cache after
   quiet acts mark cache after becomes even = let same = listed_agree s k (after p) (cache p) 0 170 (λ c low. becomes p c) in omega arith
 
   none_moved : (acts : List RootAct) → acts ≡ [] → (moved_in is_out s k acts ≡ 0) × (moved_in is_back s k acts ≡ 0)
@@ -72,16 +75,22 @@ module _ (s : SlotName) (k p : ℕ) (roots : Journals) where
 
   module _ (own : IsOnlyOf roots p s) where
     -- a slot of another partition isn't s
-    not_of : (n : Numbered) (q : ℕ) → (q ≡ p → ⊥) → ((e : RootEntry) × Contains (roots q) e × Contains (leaves_by e.act) n.slot) → hit_once s k n ≡ 0
-    not_of n q ne (e, among, leaves) = hit_none s k n (λ same. ne (own q e among (subst (λ z. Contains (leaves_by e.act) z) (sym same) leaves)))
+    not_of : (n : Numbered) (q : ℕ) → (q ≡ p → ⊥) → ((e : RootEntry) × Contains (roots q) e × Contains (leaves_by e.act) n.slot) →
+        hit_once s k n ≡ 0
+    not_of n q ne (e, among, leaves) =
+        hit_none s k n (λ same. ne (own q e among (subst (λ z. Contains (leaves_by e.act) z) (sym same) leaves)))
 
     -- the marks of an issue, and of a return
-    issue_marked : (line : ℕ) (seen : Seen) → marked (is_issue_at s k) (Some (mark_at line seen (Some Issue))) ≡ hit_once s k (record { slot = seen.slot; number = number_of seen.found.0 })
+    issue_marked : (line : ℕ) (seen : Seen) →
+        marked (is_issue_at s k) (Some (mark_at line seen (Some Issue))) ≡ hit_once s k
+        (record { slot = seen.slot; number = number_of seen.found.0 })
     issue_marked line seen = elim (cases_Bool (same_slot s seen.slot)) [ inl hit ↦ rw hit refl | inr miss ↦ rw miss refl ]
 
     return_marked : (line : ℕ) (seen : Seen) (step : Step) → returns_at step seen.found.0 ≡ true →
-        marked (is_return_at s k) (Some (mark_at line seen (Some step))) ≡ hit_once s k (record { slot = seen.slot; number = number_of seen.found.0 + 1 })
-    return_marked line seen step passes = elim (cases_Bool (same_slot s seen.slot)) [ inl hit ↦ rw (hit, passes) refl | inr miss ↦ rw miss refl ]
+        marked (is_return_at s k) (Some (mark_at line seen (Some step))) ≡ hit_once s k
+        (record { slot = seen.slot; number = number_of seen.found.0 + 1 })
+    return_marked line seen step passes =
+        elim (cases_Bool (same_slot s seen.slot)) [ inl hit ↦ rw (hit, passes) refl | inr miss ↦ rw miss refl ]
 
     -- the list from which a slot is taken, after a fill if it was empty
     first_moved : (line class : ℕ) (old xs : List Numbered) → FilledFirst roots line p class old xs
@@ -95,7 +104,8 @@ module _ (s : SlotName) (k p : ℕ) (roots : Journals) where
         let e : at_in s k xs ≡ at_in s k (y ∷ ys) = ap (at_in s k) same in
         (omega arith, back)
 
-    made_flows : (x : Played) (seen : Seen) (cache after : Cache) → IsKnown roots cache → ((q : ℕ) → IsDirect roots seen.slot q → number_of seen.found.0 ≡ 0) → MadeRow roots x seen cache after →
+    made_flows : (x : Played) (seen : Seen) (cache after : Cache) → IsKnown roots cache →
+        ((q : ℕ) → IsDirect roots seen.slot q → number_of seen.found.0 ≡ 0) → MadeRow roots x seen cache after →
         Flows (acts_of roots x.line p) (Some (mark_at x.line seen (Some Issue))) cache after
     made_flows x seen cache after known new (inl (q, class, xs, rest, asks, filled, front, becomes)) =
         let head : Numbered = record { slot = seen.slot; number = number_of seen.found.0 } in
@@ -106,7 +116,8 @@ module _ (s : SlotName) (k p : ℕ) (roots : Journals) where
         let o = off (same_slot s seen.slot) false (number_of seen.found.0 + 1 == k) refl in
         elim (cases_eq q p) [
           | inl same ↦
-              let (out, back) = first_moved x.line class (cache p class) xs (subst (λ z. FilledFirst roots x.line z class (cache z class) xs) same filled) in
+              let (out, back) = first_moved x.line class (cache p class) xs
+              (subst (λ z. FilledFirst roots x.line z class (cache z class) xs) same filled) in
               let change = listed_changed s k cache after p class rest (real_in x.rules.version class (asks.3.from, asks.3.real))
               (λ c. becomes p c ∙ ap (λ z. with_list cache z class rest p c) same) in
               omega arith
@@ -114,7 +125,8 @@ module _ (s : SlotName) (k p : ℕ) (roots : Journals) where
               let (out, back) = none_moved (acts_of roots x.line p) (keeps.others p (λ e. other (sym e))) in
               let of = keeps.known head (subst (λ zs. Contains zs head) (sym front) (first_in head rest)) in
               let away = not_of head q other (class_leaves roots seen.slot q class of) in
-              let same = listed_agree s k (after p) (cache p) 0 170 (λ c low. becomes p c ∙ list_of_another cache q class rest p c (λ e. other (sym e))) in
+              let same = listed_agree s k (after p) (cache p) 0 170
+              (λ c low. becomes p c ∙ list_of_another cache q class rest p c (λ e. other (sym e))) in
               omega arith
         ]
     made_flows x seen cache after known new (inr (q, size, asked, len, asks, only, becomes)) =
@@ -130,7 +142,8 @@ module _ (s : SlotName) (k p : ℕ) (roots : Journals) where
         (elim (cases_eq q p) [
           | inl same ↦
               let here : acts_of roots x.line p ≡ act ∷ [] = subst (λ z. acts_of roots x.line z ≡ act ∷ []) same only.0 in
-              let out : moved_in is_out s k (acts_of roots x.line p) ≡ at_in s k (record { slot = seen.slot; number = 0 } ∷ []) + 0 = ap (moved_in is_out s k) here in
+              let out : moved_in is_out s k (acts_of roots x.line p) ≡ at_in s k (record { slot = seen.slot; number = 0 } ∷ []) + 0 =
+              ap (moved_in is_out s k) here in
               let back : moved_in is_back s k (acts_of roots x.line p) ≡ 0 = ap (moved_in is_back s k) here in
               omega arith
           | inr other ↦
@@ -140,26 +153,34 @@ module _ (s : SlotName) (k p : ℕ) (roots : Journals) where
         ])
 
     -- a slot that a step returned, if its mark is one return and no issue
-    return_flows : (pools : List PoolEntry) (x : Played) (slot : Numbered) (mark : Option Mark) (cache after : Cache) → ((q : ℕ) → IsJournal pools (roots q)) →
-        ((q asked : ℕ) (n : Numbered) (e : RootEntry) → Contains (roots q) e → e.line ≡ x.line → e.act ≡ Unmap asked n → n.number ≡ slot.number) →
-        marked (is_issue_at s k) mark ≡ 0 → marked (is_return_at s k) mark ≡ hit_once s k slot → ReturnRow roots x slot cache after → Flows (acts_of roots x.line p) mark cache after
+    return_flows : (pools : List PoolEntry) (x : Played) (slot : Numbered) (mark : Option Mark) (cache after : Cache) →
+        ((q : ℕ) → IsJournal pools (roots q)) →
+        ((q asked : ℕ) (n : Numbered) (e : RootEntry) → Contains (roots q) e → e.line ≡ x.line → e.act ≡ Unmap asked n →
+        n.number ≡ slot.number) →
+        marked (is_issue_at s k) mark ≡ 0 → marked (is_return_at s k) mark ≡ hit_once s k slot → ReturnRow roots x slot cache after →
+        Flows (acts_of roots x.line p) mark cache after
     return_flows pools x slot mark cache after journals unmaps i o (inl (q, class, of, only, becomes)) =
         let list = slot ∷ cache q class in
         let one = at_cons s k slot (cache q class) in
         let parts = at_kept s k class list in
         elim (cases_eq q p) [
           | inl same ↦
-              let acts : acts_of roots x.line p ≡ gives (spilled class list) = subst (λ z. acts_of roots x.line z ≡ gives (spilled class list)) same only.0 in
-              let out : moved_in is_out s k (acts_of roots x.line p) ≡ 0 = ap (moved_in is_out s k) acts ∙ out_gives s k (spilled class list) in
-              let back : moved_in is_back s k (acts_of roots x.line p) ≡ at_in s k (spilled class list) = ap (moved_in is_back s k) acts ∙ back_gives s k (spilled class list) in
-              let change = listed_changed s k cache after p class (kept class list) (class_real pools roots slot.slot q class (journals q) of)
+              let acts : acts_of roots x.line p ≡ gives (spilled class list) =
+              subst (λ z. acts_of roots x.line z ≡ gives (spilled class list)) same only.0 in
+              let out : moved_in is_out s k (acts_of roots x.line p) ≡ 0 = ap (moved_in is_out s k) acts ∙
+              out_gives s k (spilled class list) in
+              let back : moved_in is_back s k (acts_of roots x.line p) ≡ at_in s k (spilled class list) = ap (moved_in is_back s k) acts ∙
+              back_gives s k (spilled class list) in
+              let change = listed_changed s k cache after p class (kept class list)
+              (class_real pools roots slot.slot q class (journals q) of)
               (λ c. becomes p c ∙ ap (λ z. with_list cache z class (kept class list) p c) same) in
               let old : at_in s k (cache q class) ≡ at_in s k (cache p class) = ap (λ z. at_in s k (cache z class)) same in
               omega arith
           | inr other ↦
               let (out, back) = none_moved (acts_of roots x.line p) (only.1 p (λ e. other (sym e))) in
               let away = not_of slot q other (class_leaves roots slot.slot q class of) in
-              let same = listed_agree s k (after p) (cache p) 0 170 (λ c low. becomes p c ∙ list_of_another cache q class (kept class list) p c (λ e. other (sym e))) in
+              let same = listed_agree s k (after p) (cache p) 0 170
+              (λ c low. becomes p c ∙ list_of_another cache q class (kept class list) p c (λ e. other (sym e))) in
               omega arith
         ]
     return_flows pools x slot mark cache after journals unmaps i o (inr (q, asked, number, direct, only, becomes)) =
@@ -182,8 +203,10 @@ module _ (s : SlotName) (k p : ℕ) (roots : Journals) where
               omega arith
         ])
 
-    done_flows : (pools : List PoolEntry) (x : Played) (o : Option Step) (seen : Seen) (cache after : Cache) → ((q : ℕ) → IsJournal pools (roots q)) →
-        ((q asked : ℕ) (n : Numbered) (e : RootEntry) → Contains (roots q) e → e.line ≡ x.line → e.act ≡ Unmap asked n → n.number ≡ number_of seen.found.0 + 1) →
+    done_flows : (pools : List PoolEntry) (x : Played) (o : Option Step) (seen : Seen) (cache after : Cache) →
+        ((q : ℕ) → IsJournal pools (roots q)) →
+        ((q asked : ℕ) (n : Numbered) (e : RootEntry) → Contains (roots q) e → e.line ≡ x.line → e.act ≡ Unmap asked n →
+        n.number ≡ number_of seen.found.0 + 1) →
         is_issue o ≡ false → DoneRow roots x o seen cache after → Flows (acts_of roots x.line p) (Some (mark_at x.line seen o)) cache after
     done_flows pools x None seen cache after journals unmaps none (acts, becomes) =
         let (out, back) = none_moved (acts_of roots x.line p) (acts p) in
@@ -197,14 +220,16 @@ module _ (s : SlotName) (k p : ℕ) (roots : Journals) where
     done_flows pools x (Some step) seen cache after journals unmaps none (inr (other, acts, becomes)) =
         let (out, back) = none_moved (acts_of roots x.line p) (acts p) in
         let i = off (same_slot s seen.slot) (is_issue (Some step)) (number_of seen.found.0 == k) none in
-        let o = off (same_slot s seen.slot) (returns_at step seen.found.0) (number_of seen.found.0 + 1 == k) (returns_no step seen.found.0 other) in
+        let o = off (same_slot s seen.slot) (returns_at step seen.found.0) (number_of seen.found.0 + 1 == k)
+        (returns_no step seen.found.0 other) in
         quiet (acts_of roots x.line p) (Some (mark_at x.line seen (Some step))) cache after becomes (omega arith)
 
   one_full : (line q : ℕ) (class : Option ℕ) (asked : ℕ) → OnlyActs roots line q (Full class asked ∷ [])
       → (moved_in is_out s k (acts_of roots line p) ≡ 0) × (moved_in is_back s k (acts_of roots line p) ≡ 0)
   one_full line q class asked only = elim (cases_eq p q) [
     | inl same ↦
-        let here : acts_of roots line p ≡ Full class asked ∷ [] = subst (λ z. acts_of roots line z ≡ Full class asked ∷ []) (sym same) only.0 in
+        let here : acts_of roots line p ≡ Full class asked ∷ [] =
+        subst (λ z. acts_of roots line z ≡ Full class asked ∷ []) (sym same) only.0 in
         (ap (moved_in is_out s k) here, ap (moved_in is_back s k) here)
     | inr other ↦ none_moved (acts_of roots line p) (only.1 p other)
   ]
@@ -217,15 +242,19 @@ module _ (s : SlotName) (k p : ℕ) (roots : Journals) where
       let (out, back) = one_full x.line q None asked only in
       quiet (acts_of roots x.line p) None cache after becomes (omega arith)
 
-  purged_flows : (partitions : ℕ) (x : Played) (slots : ℕ) (cache after : Cache) → p < partitions → PurgedRow partitions roots x slots cache after → Flows (acts_of roots x.line p) None cache after
+  purged_flows : (partitions : ℕ) (x : Played) (slots : ℕ) (cache after : Cache) → p < partitions →
+      PurgedRow partitions roots x slots cache after → Flows (acts_of roots x.line p) None cache after
   purged_flows partitions x slots cache after below (acts, counted, empty) =
-      let out : moved_in is_out s k (acts_of roots x.line p) ≡ 0 = ap (moved_in is_out s k) (acts p below) ∙ out_purge s k (cache p) 0 170 in
-      let back : moved_in is_back s k (acts_of roots x.line p) ≡ listed s k (cache p) 0 170 = ap (moved_in is_back s k) (acts p below) ∙ back_purge s k (cache p) 0 170 in
+      let out : moved_in is_out s k (acts_of roots x.line p) ≡ 0 = ap (moved_in is_out s k) (acts p below) ∙
+      out_purge s k (cache p) 0 170 in
+      let back : moved_in is_back s k (acts_of roots x.line p) ≡ listed s k (cache p) 0 170 = ap (moved_in is_back s k) (acts p below) ∙
+      back_purge s k (cache p) 0 170 in
       let none = listed_none s k (after p) 0 170 (empty p) in
       omega arith
 
   -- a row without entries, with a look or no mark
-  look_flows : (x : Played) (o : Option Seen) (cache after : Cache) → NoActs roots x.line × SameLists after cache → Flows (acts_of roots x.line p) (look_at x.line o) cache after
+  look_flows : (x : Played) (o : Option Seen) (cache after : Cache) → NoActs roots x.line × SameLists after cache →
+      Flows (acts_of roots x.line p) (look_at x.line o) cache after
   look_flows x None cache after (acts, becomes) =
       let (out, back) = none_moved (acts_of roots x.line p) (acts p) in
       quiet (acts_of roots x.line p) None cache after becomes (omega arith)
@@ -238,9 +267,12 @@ module _ (s : SlotName) (k p : ℕ) (roots : Journals) where
   module _ (partitions : ℕ) (pools : List PoolEntry) (x : Played) (cache after : Cache) (journals : (q : ℕ) → IsJournal pools (roots q))
       (own : IsOnlyOf roots p s) (below : p < partitions) (known : IsKnown roots cache) (new : IsNewMap roots x)
       (unmaps : UnmapsNext roots x) where
-    by_answer : (a : Answer) → x.answer ≡ a → CacheRow partitions roots x a cache after → Flows (acts_of roots x.line p) (mark_of_answer x.line x.op a) cache after
+    by_answer : (a : Answer) → x.answer ≡ a → CacheRow partitions roots x a cache after →
+        Flows (acts_of roots x.line p) (mark_of_answer x.line x.op a) cache after
     by_answer (answers.Made seen usable) is row = made_flows own x seen cache after known (λ q. new seen usable q is) row
-    by_answer (answers.Done seen) is row = done_flows own pools x (step_of x.op) seen cache after journals (λ q asked n e among line act. unmaps seen q asked n e is among line act) (no_issue x.op) row
+    by_answer (answers.Done seen) is row =
+        done_flows own pools x (step_of x.op) seen cache after journals
+        (λ q asked n e among line act. unmaps seen q asked n e is among line act) (no_issue x.op) row
     by_answer (answers.Value seen value) is row = look_flows x (Some seen) cache after row
     by_answer (answers.Dangling seen value) is row = look_flows x (Some seen) cache after row
     by_answer (answers.SecondFree seen) is row = look_flows x seen cache after row
@@ -256,6 +288,7 @@ module _ (s : SlotName) (k p : ℕ) (roots : Journals) where
     by_answer (answers.Full entry) is row = full_flows x cache after row
     by_answer (answers.Swapped entry) is row = look_flows x None cache after row
     by_answer (answers.Purged slots) is row = purged_flows partitions x slots cache after below row
+    by_answer answers.Uncounted is row = look_flows x None cache after row
 
     -- what a record does with the slot at the number
     pub row_flows : CacheRow partitions roots x x.answer cache after → Flows (acts_of roots x.line p) (mark_of x) cache after

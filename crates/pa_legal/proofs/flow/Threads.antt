@@ -59,9 +59,12 @@ module _ (partitions : ℕ) (pools : List PoolEntry) (roots : Journals) (s : Slo
             let is = eq-eqb x.thread t e in
             let i : cond {A = ℕ} (x.thread == t) (issues_at s k x) 0 ≡ issues_at s k x = rw is refl in
             let o : cond {A = ℕ} (x.thread == t) (returns_at s k x) 0 ≡ returns_at s k x = rw is refl in
-            let b : cond {A = ℕ} (x.thread == t) (moved_in is_back s k (acts_of roots x.line p)) 0 ≡ moved_in is_back s k (acts_of roots x.line p) = rw is refl in
-            let u : cond {A = ℕ} (x.thread == t) (moved_in is_out s k (acts_of roots x.line p)) 0 ≡ moved_in is_out s k (acts_of roots x.line p) = rw is refl in
-            let here : listed s k (with_cache all x.thread next t p) 0 170 ≡ listed s k (next p) 0 170 = ap (λ (c : Cache). listed s k (c p) 0 170) (with_here all x.thread next t (sym e)) in
+            let b : cond {A = ℕ} (x.thread == t) (moved_in is_back s k (acts_of roots x.line p)) 0 ≡ moved_in is_back s k
+            (acts_of roots x.line p) = rw is refl in
+            let u : cond {A = ℕ} (x.thread == t) (moved_in is_out s k (acts_of roots x.line p)) 0 ≡ moved_in is_out s k
+            (acts_of roots x.line p) = rw is refl in
+            let here : listed s k (with_cache all x.thread next t p) 0 170 ≡ listed s k (next p) 0 170 =
+            ap (λ (c : Cache). listed s k (c p) 0 170) (with_here all x.thread next t (sym e)) in
             let old : listed s k (all x.thread p) 0 170 ≡ listed s k (all t p) 0 170 = ap (λ z. listed s k (all z p) 0 170) e in
             omega arith
         | inr other ↦
@@ -124,13 +127,15 @@ slots_line w line here way s k (n ∷ ns) =
           ∙ ih ∙ ap (λ z. cond {A = ℕ} (here == line) (cond (w way) z 0) 0) (sym same)
     ]
   where
-    with_one : (a b : Bool) (n total next : ℕ) → total ≡ cond {A = ℕ} b (cond a n 0) 0 → next ≡ suc n → cond {A = ℕ} (a && b) 1 0 + total ≡ cond {A = ℕ} b (cond a next 0) 0
+    with_one : (a b : Bool) (n total next : ℕ) → total ≡ cond {A = ℕ} b (cond a n 0) 0 → next ≡ suc n →
+        cond {A = ℕ} (a && b) 1 0 + total ≡ cond {A = ℕ} b (cond a next 0) 0
     with_one true true n total next e f = omega arith
     with_one true false n total next e f = omega arith
     with_one false true n total next e f = omega arith
     with_one false false n total next e f = omega arith
 
-act_line : (w : Way → Bool) (line here : ℕ) (s : SlotName) (k : ℕ) (act : RootAct) → on_line w line (filter (is_move_of s k) (moves_by here act)) ≡ cond {A = ℕ} (here == line) (moved w s k act) 0
+act_line : (w : Way → Bool) (line here : ℕ) (s : SlotName) (k : ℕ) (act : RootAct) →
+    on_line w line (filter (is_move_of s k) (moves_by here act)) ≡ cond {A = ℕ} (here == line) (moved w s k act) 0
 act_line w line here s k (Fill class asked slots) = slots_line w line here Out s k slots
 act_line w line here s k (Map asked slot len) = slots_line w line here Out s k (record { slot = slot; number = 0 } ∷ [])
 act_line w line here s k (Full class asked) = elim (cases_Bool (here == line)) [ inl hit ↦ rw hit refl | inr miss ↦ rw miss refl ]
@@ -141,19 +146,22 @@ act_line w line here s k Purge = elim (cases_Bool (here == line)) [ inl hit ↦ 
 abbrev acts_at : List RootEntry → ℕ → List RootAct
 acts_at es line = map (λ (e : RootEntry). e.act) (filter (λ (e : RootEntry). e.line == line) es)
 
-pub journal_line : (w : Way → Bool) (line : ℕ) (s : SlotName) (k : ℕ) (es : List RootEntry) → on_line w line (moves_at es s k) ≡ moved_in w s k (acts_at es line)
+pub journal_line : (w : Way → Bool) (line : ℕ) (s : SlotName) (k : ℕ) (es : List RootEntry) →
+    on_line w line (moves_at es s k) ≡ moved_in w s k (acts_at es line)
 journal_line w line s k [] = refl
 journal_line w line s k (e ∷ es) =
     let here = moves_by e.line e.act in
     let rest = flat_map (λ (f : RootEntry). moves_by f.line f.act) es in
-    let a : on_line w line (moves_at (e ∷ es) s k) ≡ on_line w line (filter (is_move_of s k) here ++ filter (is_move_of s k) rest) = ap (on_line w line) (filter-append (is_move_of s k) here rest) in
+    let a : on_line w line (moves_at (e ∷ es) s k) ≡ on_line w line (filter (is_move_of s k) here ++ filter (is_move_of s k) rest) =
+    ap (on_line w line) (filter-append (is_move_of s k) here rest) in
     let b = sum_by-append (one_on w line) (filter (is_move_of s k) here) (filter (is_move_of s k) rest) in
     let c = act_line w line e.line s k e.act in
     let ih = journal_line w line s k es in
     let d = one_more e es in
     omega arith
   where
-    one_more : (e : RootEntry) (es : List RootEntry) → moved_in w s k (acts_at (e ∷ es) line) ≡ cond {A = ℕ} (e.line == line) (moved w s k e.act) 0 + moved_in w s k (acts_at es line)
+    one_more : (e : RootEntry) (es : List RootEntry) →
+        moved_in w s k (acts_at (e ∷ es) line) ≡ cond {A = ℕ} (e.line == line) (moved w s k e.act) 0 + moved_in w s k (acts_at es line)
     one_more e es = elim (cases_Bool (e.line == line)) [ inl hit ↦ rw hit refl | inr miss ↦ rw miss (omega arith) ]
 
 -- ---- moves weighed by the records of a thread
@@ -169,13 +177,16 @@ weigh w t xs ms = sum_by (λ (m : Move). cond (w m.way) (mine t xs m.line) 0) ms
 abbrev weight : (Way → Bool) → ℕ → List Played → Move → ℕ
 weight w t xs m = cond (w m.way) (mine t xs m.line) 0
 
-mine_cons : (t : ℕ) (x : Played) (xs : List Played) (line : ℕ) → mine t (x ∷ xs) line ≡ cond {A = ℕ} ((x.thread == t) && (line == x.line)) 1 0 + mine t xs line
+mine_cons : (t : ℕ) (x : Played) (xs : List Played) (line : ℕ) →
+    mine t (x ∷ xs) line ≡ cond {A = ℕ} ((x.thread == t) && (line == x.line)) 1 0 + mine t xs line
 mine_cons t x xs line = sum_by-cons (λ (y : Played). cond {A = ℕ} ((y.thread == t) && (line == y.line)) 1 0) x xs
 
-pub weigh_cons : (w : Way → Bool) (t : ℕ) (xs : List Played) (m : Move) (ms : List Move) → weigh w t xs (m ∷ ms) ≡ cond {A = ℕ} (w m.way) (mine t xs m.line) 0 + weigh w t xs ms
+pub weigh_cons : (w : Way → Bool) (t : ℕ) (xs : List Played) (m : Move) (ms : List Move) →
+    weigh w t xs (m ∷ ms) ≡ cond {A = ℕ} (w m.way) (mine t xs m.line) 0 + weigh w t xs ms
 weigh_cons w t xs m ms = sum_by-cons (weight w t xs) m ms
 
-pub weigh_append : (w : Way → Bool) (t : ℕ) (xs : List Played) (ms ns : List Move) → weigh w t xs (ms ++ ns) ≡ weigh w t xs ms + weigh w t xs ns
+pub weigh_append : (w : Way → Bool) (t : ℕ) (xs : List Played) (ms ns : List Move) →
+    weigh w t xs (ms ++ ns) ≡ weigh w t xs ms + weigh w t xs ns
 weigh_append w t xs ms ns = sum_by-append (weight w t xs) ms ns
 
 weigh_none : (w : Way → Bool) (t : ℕ) (ms : List Move) → weigh w t [] ms ≡ 0
@@ -187,7 +198,8 @@ weigh_none w t (m ∷ ms) =
     omega arith
 
 -- one record more
-weigh_more : (w : Way → Bool) (t : ℕ) (x : Played) (xs : List Played) (ms : List Move) → weigh w t (x ∷ xs) ms ≡ cond {A = ℕ} (x.thread == t) (on_line w x.line ms) 0 + weigh w t xs ms
+weigh_more : (w : Way → Bool) (t : ℕ) (x : Played) (xs : List Played) (ms : List Move) →
+    weigh w t (x ∷ xs) ms ≡ cond {A = ℕ} (x.thread == t) (on_line w x.line ms) 0 + weigh w t xs ms
 weigh_more w t x xs [] = elim (cases_Bool (x.thread == t)) [ inl hit ↦ rw hit refl | inr miss ↦ rw miss refl ]
 weigh_more w t x xs (m ∷ ms) =
     let a = weigh_cons w t (x ∷ xs) m ms in
@@ -195,7 +207,8 @@ weigh_more w t x xs (m ∷ ms) =
     let c = mine_cons t x xs m.line in
     let d = sum_by-cons (one_on w x.line) m ms in
     let ih = weigh_more w t x xs ms in
-    let here = at_move (w m.way) (x.thread == t) (m.line == x.line) (mine t (x ∷ xs) m.line) (mine t xs m.line) (on_line w x.line (m ∷ ms)) (on_line w x.line ms) c d in
+    let here = at_move (w m.way) (x.thread == t) (m.line == x.line) (mine t (x ∷ xs) m.line) (mine t xs m.line) (on_line w x.line (m ∷ ms))
+    (on_line w x.line ms) c d in
     omega arith
   where
     at_move : (a b c : Bool) (all some line rest : ℕ) → all ≡ cond {A = ℕ} (b && c) 1 0 + some → line ≡ cond {A = ℕ} (a && c) 1 0 + rest →
@@ -215,13 +228,15 @@ pub over_lines : (w : Way → Bool) (t : ℕ) (roots : Journals) (s : SlotName) 
 over_lines w t roots s k p [] = sym (weigh_none w t (moves_at (roots p) s k))
 over_lines w t roots s k p (x ∷ xs) =
     let a = weigh_more w t x xs (moves_at (roots p) s k) in
-    let b : cond {A = ℕ} (x.thread == t) (on_line w x.line (moves_at (roots p) s k)) 0 ≡ cond {A = ℕ} (x.thread == t) (moved_in w s k (acts_of roots x.line p)) 0 =
+    let b : cond {A = ℕ} (x.thread == t) (on_line w x.line (moves_at (roots p) s k)) 0 ≡ cond {A = ℕ} (x.thread == t)
+    (moved_in w s k (acts_of roots x.line p)) 0 =
     ap (λ z. cond {A = ℕ} (x.thread == t) z 0) (journal_line w x.line s k (roots p)) in
     let ih = over_lines w t roots s k p xs in
     omega arith
 
 -- the records in two parts
-pub weigh_parts : (w : Way → Bool) (t : ℕ) (xs ys : List Played) (ms : List Move) → weigh w t (xs ++ ys) ms ≡ weigh w t xs ms + weigh w t ys ms
+pub weigh_parts : (w : Way → Bool) (t : ℕ) (xs ys : List Played) (ms : List Move) →
+    weigh w t (xs ++ ys) ms ≡ weigh w t xs ms + weigh w t ys ms
 weigh_parts w t [] ys ms = let a = weigh_none w t ms in omega arith
 weigh_parts w t (x ∷ xs) ys ms =
     let a = weigh_more w t x (xs ++ ys) ms in
@@ -241,7 +256,8 @@ mine_none t (x ∷ xs) line none =
     ] in
     omega arith
 
-pub weigh_zero : (w : Way → Bool) (t : ℕ) (xs : List Played) (ms : List Move) → ((m : Move) (x : Played) → Contains ms m → Contains xs x → w m.way ≡ true → x.thread ≡ t → x.line ≡ m.line → ⊥) →
+pub weigh_zero : (w : Way → Bool) (t : ℕ) (xs : List Played) (ms : List Move) →
+    ((m : Move) (x : Played) → Contains ms m → Contains xs x → w m.way ≡ true → x.thread ≡ t → x.line ≡ m.line → ⊥) →
     weigh w t xs ms ≡ 0
 weigh_zero w t xs [] none = refl
 weigh_zero w t xs (m ∷ ms) none =
@@ -254,7 +270,8 @@ weigh_zero w t xs (m ∷ ms) none =
     omega arith
 
 -- a record's line is one record's
-pub mine_one : (t : ℕ) (xs : List Played) (x : Played) → AllPairs OtherRecord xs → Contains xs x → mine t xs x.line ≡ cond {A = ℕ} (x.thread == t) 1 0
+pub mine_one : (t : ℕ) (xs : List Played) (x : Played) → AllPairs OtherRecord xs → Contains xs x →
+    mine t xs x.line ≡ cond {A = ℕ} (x.thread == t) 1 0
 mine_one t [] x h among = absurd (not_in_none x among)
 mine_one t (y ∷ ys) x h among =
     let a = mine_cons t y ys x.line in
@@ -264,11 +281,13 @@ mine_one t (y ∷ ys) x h among =
           let rest = mine_none t ys x.line (λ z member same is. pairs_head OtherRecord y z ys h member (sym line ∙ sym is)) in
           let here : cond {A = ℕ} ((y.thread == t) && (x.line == y.line)) 1 0 ≡ cond {A = ℕ} (y.thread == t) 1 0 =
           rw (eq-eqb x.line y.line line) (elim (cases_Bool (y.thread == t)) [ inl hit ↦ rw hit refl | inr miss ↦ rw miss refl ]) in
-          let same : cond {A = ℕ} (y.thread == t) 1 0 ≡ cond {A = ℕ} (x.thread == t) 1 0 = ap (λ (z : Played). cond {A = ℕ} (z.thread == t) 1 0) e in
+          let same : cond {A = ℕ} (y.thread == t) 1 0 ≡ cond {A = ℕ} (x.thread == t) 1 0 =
+          ap (λ (z : Played). cond {A = ℕ} (z.thread == t) 1 0) e in
           omega arith
       | inr later ↦
           let ih = mine_one t ys x (pairs_tail OtherRecord y ys h) later in
           let none : cond {A = ℕ} ((y.thread == t) && (x.line == y.line)) 1 0 ≡ 0 =
-          rw (ne_eqb x.line y.line (λ e. pairs_head OtherRecord y x ys h later (sym e))) (elim (cases_Bool (y.thread == t)) [ inl hit ↦ rw hit refl | inr miss ↦ rw miss refl ]) in
+          rw (ne_eqb x.line y.line (λ e. pairs_head OtherRecord y x ys h later (sym e)))
+          (elim (cases_Bool (y.thread == t)) [ inl hit ↦ rw hit refl | inr miss ↦ rw miss refl ]) in
           omega arith
     ]

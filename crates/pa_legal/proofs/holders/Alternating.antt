@@ -50,8 +50,10 @@ alternate thread s k (m ∷ ms) at h = elim (cases_Bool (same_slot m.slot s)) [
       let ih = alternate thread s k ms (at_after m.way m.number) rest in
       elim (cases_eq m.number k) [
         | inl e ↦
-            rw (hit, eq-eqb m.number k e)
-            (hit_before at m.way m.number k e has, subst (λ b. Alternate b (map (turn_of thread) (filter (is_move_of s k) ms))) (hit_after m.way m.number k e) ih)
+            rw (hit, eq-eqb m.number k e) (
+              hit_before at m.way m.number k e has,
+              subst (λ b. Alternate b (map (turn_of thread) (filter (is_move_of s k) ms))) (hit_after m.way m.number k e) ih,
+            )
         | inr ne ↦
             rw (hit, ne_eqb m.number k ne)
             (subst (λ b. Alternate b (map (turn_of thread) (filter (is_move_of s k) ms))) (sym (miss_same at m.way m.number k ne has)) ih)
@@ -86,7 +88,8 @@ out_leaves line (Unmap asked slot) m among out = elim (in_cases (move_of line Ba
 ]
 out_leaves line Purge m among out = absurd (not_in_none m among)
 
-pub moved_left : (roots : Journals) (p : ℕ) (s : SlotName) (k : ℕ) (m : Move) → AreNumbered roots → Contains (moves_at (roots p) s k) m → HasLeft roots p s
+pub moved_left : (roots : Journals) (p : ℕ) (s : SlotName) (k : ℕ) (m : Move) → AreNumbered roots → Contains (moves_at (roots p) s k) m →
+    HasLeft roots p s
 moved_left roots p s k m numbers among =
     let (there, hit) = filter_cases (is_move_of s k) (all_moves (roots p)) m among in
     let (slot, number) = and_parts _ _ hit in

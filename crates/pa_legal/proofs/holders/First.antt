@@ -38,25 +38,34 @@ by_step : (ps : List Played) (s : SlotName) (k : ℕ) (x : Played) (m : Mark) (o
     → m.step ≡ o → s ≡ m.slot → is_return m.found o ≡ true → number_of m.found + 1 ≡ k →
     (p : Step) × Returns ps s k x m p
 by_step ps s k x m None among mark step slot passes number = absurd (false≢true passes)
-by_step ps s k x m (Some p) among mark step slot passes number =
-    (p, record { steps = record { among = among; mark = mark; slot = sym slot; step = step }; returning = returning_by p m.found passes; number = number })
+by_step ps s k x m (Some p) among mark step slot passes number = (
+  p,
+  record {
+    steps = record { among = among; mark = mark; slot = sym slot; step = step };
+    returning = returning_by p m.found passes;
+    number = number;
+  },
+)
 
 marked_cases : (test : Mark → Bool) (o : Option Mark) → (marked test o ≡ 0) ⊎ ((m : Mark) × (o ≡ Some m) × (test m ≡ true))
 marked_cases test None = inl refl
 marked_cases test (Some m) = elim (cases_Bool (test m)) [ inl hit ↦ inr (m, refl, hit) | inr miss ↦ inl (rw miss refl) ]
 
 -- a record returned the slot at the number, or it didn't
-returned_cases : (ps : List Played) (s : SlotName) (k : ℕ) (x : Played) → Contains ps x → (returned_at s k x ≡ 0) ⊎ ((m : Mark) × (p : Step) × Returns ps s k x m p)
+returned_cases : (ps : List Played) (s : SlotName) (k : ℕ) (x : Played) → Contains ps x → (returned_at s k x ≡ 0) ⊎
+    ((m : Mark) × (p : Step) × Returns ps s k x m p)
 returned_cases ps s k x among = elim (marked_cases (is_return_at s k) (mark_of x)) [
   | inl none ↦ inl none
   | inr (m, mark, hit) ↦
       let (first, number) = and_parts _ _ hit in
       let (slot, step) = and_parts _ _ first in
-      let (p, is) = by_step ps s k x m m.step among mark refl (same_slot_eq s m.slot slot) step (eqb-true (number_of m.found + 1) k number) in
+      let (p, is) = by_step ps s k x m m.step among mark refl (same_slot_eq s m.slot slot) step
+      (eqb-true (number_of m.found + 1) k number) in
       inr (m, p, is)
 ]
 
-pub is_returned : (ps : List Played) (s : SlotName) (k : ℕ) (x : Played) (m : Mark) (p : Step) → Returns ps s k x m p → IsReturnedBy ps s k x
+pub is_returned : (ps : List Played) (s : SlotName) (k : ℕ) (x : Played) (m : Mark) (p : Step) → Returns ps s k x m p →
+    IsReturnedBy ps s k x
 is_returned ps s k x m p r = (r.steps.among, m, p, r.steps.mark, r.steps.slot, r.steps.step, r.returning, r.number)
 
 -- sums in which no record or one counts
@@ -65,10 +74,12 @@ over_none t g [] none = refl
 over_none t g (x ∷ xs) none =
     let a = none x (first_in x xs) in
     let ih = over_none t g xs (λ y among. none y (later_in x y xs among)) in
-    let here : cond {A = ℕ} (x.thread == t) (g x) 0 ≡ 0 = elim (cases_Bool (x.thread == t)) [ inl hit ↦ rw hit a | inr miss ↦ rw miss refl ] in
+    let here : cond {A = ℕ} (x.thread == t) (g x) 0 ≡ 0 =
+    elim (cases_Bool (x.thread == t)) [ inl hit ↦ rw hit a | inr miss ↦ rw miss refl ] in
     omega arith
 
-over_one : (t : ℕ) (g : Played → ℕ) (xs : List Played) (x : Played) → AllPairs OtherRecord xs → Contains xs x → g x ≡ 1 → ((y : Played) → Contains xs y → (g y ≡ 0) ⊎ (y ≡ x)) →
+over_one : (t : ℕ) (g : Played → ℕ) (xs : List Played) (x : Played) → AllPairs OtherRecord xs → Contains xs x → g x ≡ 1 →
+    ((y : Played) → Contains xs y → (g y ≡ 0) ⊎ (y ≡ x)) →
     over t g xs ≡ cond {A = ℕ} (x.thread == t) 1 0
 over_one t g [] x h among one each = absurd (not_in_none x among)
 over_one t g (y ∷ ys) x h among one each = elim (in_cases y x ys among) [
@@ -77,7 +88,8 @@ over_one t g (y ∷ ys) x h among one each = elim (in_cases y x ys among) [
         | inl none ↦ none
         | inr same ↦ absurd (pairs_head OtherRecord y z ys h member (ap (λ (w : Played). w.line) (e ∙ sym same)))
       ]) in
-      let here : cond {A = ℕ} (y.thread == t) (g y) 0 ≡ cond {A = ℕ} (x.thread == t) (g x) 0 = ap (λ (z : Played). cond {A = ℕ} (z.thread == t) (g z) 0) e in
+      let here : cond {A = ℕ} (y.thread == t) (g y) 0 ≡ cond {A = ℕ} (x.thread == t) (g x) 0 =
+      ap (λ (z : Played). cond {A = ℕ} (z.thread == t) (g z) 0) e in
       let now : cond {A = ℕ} (x.thread == t) (g x) 0 ≡ cond {A = ℕ} (x.thread == t) 1 0 = ap (λ n. cond {A = ℕ} (x.thread == t) n 0) one in
       omega arith
   | inr later ↦
@@ -86,7 +98,8 @@ over_one t g (y ∷ ys) x h among one each = elim (in_cases y x ys among) [
         | inl none ↦ none
         | inr same ↦ absurd (pairs_head OtherRecord y x ys h later (ap (λ (w : Played). w.line) same))
       ] in
-      let here : cond {A = ℕ} (y.thread == t) (g y) 0 ≡ 0 = elim (cases_Bool (y.thread == t)) [ inl hit ↦ rw hit none | inr miss ↦ rw miss refl ] in
+      let here : cond {A = ℕ} (y.thread == t) (g y) 0 ≡ 0 =
+      elim (cases_Bool (y.thread == t)) [ inl hit ↦ rw hit none | inr miss ↦ rw miss refl ] in
       omega arith
 ]
 
@@ -118,17 +131,20 @@ pub record IsNever (ps : List Played) (s : SlotName) (k : ℕ) : Type 0 where
 never_at_0 : (s : SlotName) (x : Played) → returned_at s 0 x ≡ 0
 never_at_0 s x = elim (marked_cases (is_return_at s 0) (mark_of x)) [
   | inl none ↦ none
-  | inr (m, mark, hit) ↦ let low : number_of m.found + 1 ≡ 0 = eqb-true (number_of m.found + 1) 0 (and_parts (is_return_of s m) (number_of m.found + 1 == 0) hit).1 in absurd (omega arith)
+  | inr (m, mark, hit) ↦ let low : number_of m.found + 1 ≡ 0 =
+      eqb-true (number_of m.found + 1) 0 (and_parts (is_return_of s m) (number_of m.found + 1 == 0) hit).1 in absurd (omega arith)
 ]
 
-returned_once : (ps : List Played) (s : SlotName) (k : ℕ) (x : Played) (m : Mark) (p : Step) → AllPairs OtherRecord ps → Slots (marks_of ps) → Returns ps s k x m p → (y : Played) → Contains ps y →
+returned_once : (ps : List Played) (s : SlotName) (k : ℕ) (x : Played) (m : Mark) (p : Step) → AllPairs OtherRecord ps →
+    Slots (marks_of ps) → Returns ps s k x m p → (y : Played) → Contains ps y →
     (returned_at s k y ≡ 0) ⊎ (y ≡ x)
 returned_once ps s k x m p lines slots r y among = elim (returned_cases ps s k y among) [
   | inl none ↦ inl none
   | inr (n, q, r') ↦ let a = r.number in let b = r'.number in inr (one_stepper ps s y x n m q p lines slots r'.steps r.steps (omega arith))
 ]
 
-pub first_holder : (ps : List Played) (s : SlotName) (k : ℕ) → AllPairs OtherRecord ps → Slots (marks_of ps) → ((h : Holder) × IsFirst ps s k h) ⊎ IsNever ps s k
+pub first_holder : (ps : List Played) (s : SlotName) (k : ℕ) → AllPairs OtherRecord ps → Slots (marks_of ps) →
+    ((h : Holder) × IsFirst ps s k h) ⊎ IsNever ps s k
 first_holder ps s k lines slots = elim (cases_eq k 0) [
   | inl zero_first ↦ inl (
     InRoot,
@@ -151,4 +167,10 @@ first_holder ps s k lines slots = elim (cases_eq k 0) [
   where
     counts : (x : Played) (m : Mark) (p : Step) → Returns ps s k x m p → returned_at s k x ≡ 1
     counts x m p r =
-        rw (r.steps.mark, same_slot_yes s m.slot (sym r.steps.slot), r.steps.step, returns_yes p m.found r.returning, eq-eqb (number_of m.found + 1) k r.number) refl
+        rw (
+          r.steps.mark,
+          same_slot_yes s m.slot (sym r.steps.slot),
+          r.steps.step,
+          returns_yes p m.found r.returning,
+          eq-eqb (number_of m.found + 1) k r.number,
+        ) refl

@@ -59,7 +59,8 @@ module _ (ps : List Played) (lines : AllPairs OtherRecord ps) where
         x,
         of,
         need ∙ needed_is m.way (thread_at ps m.line) x same,
-        subst (λ z. MovesFit ps z ms) (made_is m.way (thread_at ps m.line) x same) (moves_fit (makes m.way (thread_at ps m.line)) ms (λ n among. made n (later_in m n ms among)) rest),
+        subst (λ z. MovesFit ps z ms) (made_is m.way (thread_at ps m.line) x same)
+            (moves_fit (makes m.way (thread_at ps m.line)) ms (λ n among. made n (later_in m n ms among)) rest),
       )
 
   moves_end : (h : Holder) (ms : List Move) → AreMade ps ms → HolderAfter ps h ms (holder_after h (map (turn_of (thread_at ps)) ms))
@@ -67,14 +68,20 @@ module _ (ps : List Played) (lines : AllPairs OtherRecord ps) where
   moves_end h (m ∷ ms) made =
       let (x, of) = made m (first_in m ms) in
       let same = made_is m.way (thread_at ps m.line) x (at_line m.line x of) in
-      let last = holder_after (makes m.way (thread_at ps m.line)) (map (turn_of (thread_at ps)) ms) in
-      (x, of, subst (λ z. HolderAfter ps z ms last) same (moves_end (makes m.way (thread_at ps m.line)) ms (λ n among. made n (later_in m n ms among))))
+      let last = holder_after (makes m.way (thread_at ps m.line)) (map (turn_of (thread_at ps)) ms) in (
+        x,
+        of,
+        subst (λ z. HolderAfter ps z ms last) same
+            (moves_end (makes m.way (thread_at ps m.line)) ms (λ n among. made n (later_in m n ms among))),
+      )
 
 pub first_away : (h : Holder) (s : SlotName) (k : ℕ) (ps : List Played) → IsFirstHolder ps s k h → is_with h ≡ away_at (Some 0) k
 first_away h s k ps (inl (none, root)) = rw (root, eq-eqb 0 k (sym none)) refl
-first_away h s k ps (inr (x, (among, m, step, marked, slot, steps, returning, number), thread)) = rw (thread, ne_eqb 0 k (λ e. omega arith)) refl
+first_away h s k ps (inr (x, (among, m, step, marked, slot, steps, returning, number), thread)) =
+    rw (thread, ne_eqb 0 k (λ e. omega arith)) refl
 
-module _ (supers partitions : ℕ) (ps : List Played) (pools : List PoolEntry) (roots : Journals) (a : AreKnown supers partitions ps pools roots) where
+module _ (supers partitions : ℕ) (ps : List Played) (pools : List PoolEntry) (roots : Journals)
+    (a : AreKnown supers partitions ps pools roots) where
   unlike : AllPairs OtherRecord ps
   unlike = lines supers partitions ps pools roots a
 
@@ -87,7 +94,9 @@ module _ (supers partitions : ℕ) (ps : List Played) (pools : List PoolEntry) (
   module _ (s : SlotName) (k p : ℕ) (left : HasLeft roots p s) where
     counted : (w : Way → Bool) (t : ℕ) (ms rest : List Move) → moves_at (roots p) s k ≡ ms ++ rest →
         count_by (λ (u : Turn). w u.way && (u.thread == t)) (map (turn_of (thread_at ps)) ms) ≡ weigh w t ps ms
-    counted w t ms rest parts = weighed w ps t ms unlike (λ m among. made_at p s k m (subst (λ zs. Contains zs m) (sym parts) (Contains-append_left ms rest m among)))
+    counted w t ms rest parts =
+        weighed w ps t ms unlike
+        (λ m among. made_at p s k m (subst (λ zs. Contains zs m) (sym parts) (Contains-append_left ms rest m among)))
 
     none_loses : (h : Holder) → IsFirst ps s k h → NoneLoses h (map (turn_of (thread_at ps)) (moves_at (roots p) s k))
     none_loses h first before after u is back =
@@ -99,16 +108,20 @@ module _ (supers partitions : ℕ) (ps : List Played) (pools : List PoolEntry) (
         let b = counted is_back t front (m ∷ rest) parts in
         let o = counted is_out t front (m ∷ rest) parts in
         let had = first.had t in
-        let now : backs_of t (map (turn_of (thread_at ps)) front) < has t h + takes_of t (map (turn_of (thread_at ps)) front) = omega arith in
+        let now : backs_of t (map (turn_of (thread_at ps)) front) < has t h + takes_of t (map (turn_of (thread_at ps)) front) =
+        omega arith in
         subst (λ us. backs_of u.thread us < has u.thread h + takes_of u.thread us) same
-        (subst (λ z. backs_of z (map (turn_of (thread_at ps)) front) < has z h + takes_of z (map (turn_of (thread_at ps)) front)) thread now)
+        (subst (λ z. backs_of z (map (turn_of (thread_at ps)) front) < has z h + takes_of z (map (turn_of (thread_at ps)) front)) thread
+        now)
 
     balanced : (h : Holder) → IsFirst ps s k h → TurnsFit h (map (turn_of (thread_at ps)) (moves_at (roots p) s k))
-        × ((t : ℕ) → backs_of t (map (turn_of (thread_at ps)) (moves_at (roots p) s k)) < has t h + takes_of t (map (turn_of (thread_at ps)) (moves_at (roots p) s k)) →
+        × ((t : ℕ) → backs_of t (map (turn_of (thread_at ps)) (moves_at (roots p) s k)) < has t h + takes_of t
+        (map (turn_of (thread_at ps)) (moves_at (roots p) s k)) →
         holder_after h (map (turn_of (thread_at ps)) (moves_at (roots p) s k)) ≡ WithThread t)
     balanced h first =
         holders_balance h (map (turn_of (thread_at ps)) (moves_at (roots p) s k))
-        (subst (λ b. Alternate b (map (turn_of (thread_at ps)) (moves_at (roots p) s k))) (sym (first_away h s k ps first.first)) (turns_alternate p s k))
+        (subst (λ b. Alternate b (map (turn_of (thread_at ps)) (moves_at (roots p) s k))) (sym (first_away h s k ps first.first))
+        (turns_alternate p s k))
         (none_loses h first)
 
     -- if nobody returned the slot at the number, no entry names it there
@@ -154,8 +167,12 @@ module _ (supers partitions : ℕ) (ps : List Played) (pools : List PoolEntry) (
       elim (first_holder ps s k unlike a.slots) [
         | inl (h, first) ↦
             let had = first.had t in
-            let (fit, last) = balanced s k p left h first in
-            (h, first.first, subst (λ z. HolderAfter ps h (moves_at (roots p) s k) z) (last t (omega arith)) (moves_end ps unlike h (moves_at (roots p) s k) (made_at p s k)))
+            let (fit, last) = balanced s k p left h first in (
+              h,
+              first.first,
+              subst (λ z. HolderAfter ps h (moves_at (roots p) s k) z) (last t (omega arith))
+                  (moves_end ps unlike h (moves_at (roots p) s k) (made_at p s k)),
+            )
         | inr never ↦
             let none : moves_at (roots p) s k ≡ [] = never_moved s k p left never (moves_at (roots p) s k) refl in
             let out : weigh is_out t ps (moves_at (roots p) s k) ≡ 0 = ap (weigh is_out t ps) none in

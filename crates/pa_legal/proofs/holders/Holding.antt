@@ -42,12 +42,14 @@ thread_is (y ∷ ys) x h among = elim (in_cases y x ys among) [
 ]
 
 -- turns that are counted are moves that are weighed
-pub weighed : (w : Way → Bool) (ps : List Played) (t : ℕ) (ms : List Move) → AllPairs OtherRecord ps → ((m : Move) → Contains ms m → (x : Played) × IsOfLine ps m.line x) →
+pub weighed : (w : Way → Bool) (ps : List Played) (t : ℕ) (ms : List Move) → AllPairs OtherRecord ps →
+    ((m : Move) → Contains ms m → (x : Played) × IsOfLine ps m.line x) →
     count_by (λ (u : Turn). w u.way && (u.thread == t)) (map (turn_of (thread_at ps)) ms) ≡ weigh w t ps ms
 weighed w ps t [] lines each = refl
 weighed w ps t (m ∷ ms) lines each =
     let (x, (among, line)) = each m (first_in m ms) in
-    let a = sum_by-cons (λ (u : Turn). cond {A = ℕ} (w u.way && (u.thread == t)) 1 0) (turn_of (thread_at ps) m) (map (turn_of (thread_at ps)) ms) in
+    let a = sum_by-cons (λ (u : Turn). cond {A = ℕ} (w u.way && (u.thread == t)) 1 0) (turn_of (thread_at ps) m)
+    (map (turn_of (thread_at ps)) ms) in
     let b = weigh_cons w t ps m ms in
     let c = mine_one t ps x lines among in
     let d : mine t ps m.line ≡ mine t ps x.line = ap (mine t ps) (sym line) in
@@ -86,7 +88,8 @@ out_is : (w : Way) → is_out w ≡ true → w ≡ Out
 out_is Out is = refl
 out_is Back is = absurd (false≢true is)
 
-module _ (supers partitions : ℕ) (ps : List Played) (pools : List PoolEntry) (roots : Journals) (a : AreKnown supers partitions ps pools roots) where
+module _ (supers partitions : ℕ) (ps : List Played) (pools : List PoolEntry) (roots : Journals)
+    (a : AreKnown supers partitions ps pools roots) where
   pub lines : AllPairs OtherRecord ps
   lines = rising_differ ps a.rising
 
@@ -112,7 +115,8 @@ module _ (supers partitions : ℕ) (ps : List Played) (pools : List PoolEntry) (
         (returns_at s k) xs
     flow t xs rest parts =
         let (last, to) = a.caches in
-        let (mid, front, back) = caches_cut partitions roots no_caches xs rest last (subst (λ zs. CachesTo partitions roots no_caches zs last) parts to) in
+        let (mid, front, back) =
+        caches_cut partitions roots no_caches xs rest last (subst (λ zs. CachesTo partitions roots no_caches zs last) parts to) in
         let all = all_flow partitions pools roots s k p t a.journals.journals own below xs no_caches mid
         (λ x among. (
           new_map supers partitions ps pools roots a.journals a.pool lines a.slots a.caches x (inside xs rest x parts among),
@@ -148,14 +152,16 @@ module _ (supers partitions : ℕ) (ps : List Played) (pools : List PoolEntry) (
         -- none up to its own took it out after
         none_after : weigh is_out x.thread (front ++ x ∷ []) after ≡ 0
         none_after = weigh_zero is_out x.thread (front ++ x ∷ []) after (λ n y here there hit thread line.
-            let member : Contains (moves_at (roots p) s k) n = subst (λ zs. Contains zs n) (sym parts) (Contains-append_right before (m ∷ after) n (later_in m n after here)) in
+            let member : Contains (moves_at (roots p) s k) n =
+            subst (λ zs. Contains zs n) (sym parts) (Contains-append_right before (m ∷ after) n (later_in m n after here)) in
             elim (Contains-append_cases front (x ∷ []) y there) [
               | inl earlier ↦
                   pairs_head (InOrder ps) m n after (pairs_after (InOrder ps) before (m ∷ after) order) here x y of
                   (subst (λ zs. Contains zs y) (sym cut) (Contains-append_left front (x ∷ rest) y earlier), line)
                   (inl (thread, pairs_across Earlier front (x ∷ rest) y x rises earlier (first_in x rest)))
               | inr last ↦ elim (in_cases x y [] last) [
-                | inl e ↦ one_way partitions ps pools roots a.journals lines p s k m n among member back (out_is n.way hit) (sym of.1 ∙ ap (λ (z : Played). z.line) e ∙ line)
+                | inl e ↦ one_way partitions ps pools roots a.journals lines p s k m n among member back (out_is n.way hit)
+                    (sym of.1 ∙ ap (λ (z : Played). z.line) e ∙ line)
                 | inr none ↦ not_in_none y none
               ]
             ])
@@ -174,11 +180,15 @@ module _ (supers partitions : ℕ) (ps : List Played) (pools : List PoolEntry) (
             (weigh is_out t xs) parts ∙ weigh_append is_out t xs before (m ∷ after) in
             let cb = weigh_cons is_back t xs m after in
             let co = weigh_cons is_out t xs m after in
-            let mb : cond {A = ℕ} (is_back m.way) (mine t xs m.line) 0 ≡ mine t xs m.line = ap (λ w. cond {A = ℕ} (is_back w) (mine t xs m.line) 0) back in
+            let mb : cond {A = ℕ} (is_back m.way) (mine t xs m.line) 0 ≡ mine t xs m.line =
+            ap (λ w. cond {A = ℕ} (is_back w) (mine t xs m.line) 0) back in
             let mo : cond {A = ℕ} (is_out m.way) (mine t xs m.line) 0 ≡ 0 = ap (λ w. cond {A = ℕ} (is_out w) (mine t xs m.line) 0) back in
-            let b1 : weigh is_back t ps before ≡ weigh is_back t xs before + weigh is_back t rest before = ap (λ zs. weigh is_back t zs before) cut' ∙ weigh_parts is_back t xs rest before in
-            let o1 : weigh is_out t ps before ≡ weigh is_out t xs before + weigh is_out t rest before = ap (λ zs. weigh is_out t zs before) cut' ∙ weigh_parts is_out t xs rest before in
-            let r1 : over t (returns_at s k) ps ≡ over t (returns_at s k) xs + over t (returns_at s k) rest = ap (λ zs. over t (returns_at s k) zs) cut' ∙ over_parts t (returns_at s k) xs rest in
+            let b1 : weigh is_back t ps before ≡ weigh is_back t xs before + weigh is_back t rest before =
+            ap (λ zs. weigh is_back t zs before) cut' ∙ weigh_parts is_back t xs rest before in
+            let o1 : weigh is_out t ps before ≡ weigh is_out t xs before + weigh is_out t rest before =
+            ap (λ zs. weigh is_out t zs before) cut' ∙ weigh_parts is_out t xs rest before in
+            let r1 : over t (returns_at s k) ps ≡ over t (returns_at s k) xs + over t (returns_at s k) rest =
+            ap (λ zs. over t (returns_at s k) zs) cut' ∙ over_parts t (returns_at s k) xs rest in
             let b2 = none_behind in
             let o2 = none_after in
             omega arith
@@ -189,9 +199,11 @@ module _ (supers partitions : ℕ) (ps : List Played) (pools : List PoolEntry) (
             front_pairs : (xs ys : List Played) → AllPairs OtherRecord (xs ++ ys) → AllPairs OtherRecord xs
             front_pairs [] ys h = pairs_none OtherRecord
             front_pairs (y ∷ xs) ys h =
-                pairs_cons OtherRecord y xs (λ z there. pairs_head OtherRecord y z (xs ++ ys) h (Contains-append_left xs ys z there)) (front_pairs xs ys (pairs_tail OtherRecord y (xs ++ ys) h))
+                pairs_cons OtherRecord y xs (λ z there. pairs_head OtherRecord y z (xs ++ ys) h (Contains-append_left xs ys z there))
+                (front_pairs xs ys (pairs_tail OtherRecord y (xs ++ ys) h))
 
-      pub less : weigh is_back (thread_at ps m.line) ps before < over (thread_at ps m.line) (returns_at s k) ps + weigh is_out (thread_at ps m.line) ps before
+      pub less : weigh is_back (thread_at ps m.line) ps before < over (thread_at ps m.line) (returns_at s k) ps + weigh is_out
+          (thread_at ps m.line) ps before
       less =
           let (x, of, does) = move_made partitions ps pools roots a.journals lines p s k m among in
           let (front, rest, cut) = parts_at ps x of.0 in

@@ -31,12 +31,14 @@ use Rattle.pa_legal.proofs.flow.Rows.{line_entry}
 use Rattle.pa_legal.proofs.holders.Records.{row_of, issue_makes}
 
 -- a map names an entry of the pool that is there, by which its slot is born
-map_asked : (pools : List PoolEntry) (es : List RootEntry) (r : Root) (e : RootEntry) (asked len : ℕ) (s : SlotName) → RootReplays pools es r → Contains es e → e.act ≡ Map asked s len →
+map_asked : (pools : List PoolEntry) (es : List RootEntry) (r : Root) (e : RootEntry) (asked len : ℕ) (s : SlotName) →
+    RootReplays pools es r → Contains es e → e.act ≡ Map asked s len →
     (s.born ≡ asked) × (f : PoolEntry) × (slice_get pools asked ≡ Some f)
 map_asked pools [] r e asked len s fits among is = absurd (not_in_none e among)
 map_asked pools (f ∷ es) r e asked len s fits among is = elim (in_cases f e es among) [
   | inl same ↦
-      let here : RootActFits pools (Map asked s len) r = subst (λ act. RootActFits pools act r) (ap (λ (z : RootEntry). z.act) same ∙ is) fits.0 in
+      let here : RootActFits pools (Map asked s len) r =
+      subst (λ act. RootActFits pools act r) (ap (λ (z : RootEntry). z.act) same ∙ is) fits.0 in
       let (g, at) = there (slice_get pools asked) _ here.1 in (here.3, g, at)
   | inr rest ↦ map_asked pools es (root_next pools f.act r) e asked len s fits.1 rest is
 ]
@@ -49,7 +51,8 @@ module _ (supers partitions : ℕ) (ps : List Played) (pools : List PoolEntry) (
     (h : IsPoolOf supers ps pools roots) (lines : AllPairs OtherRecord ps) (slots : Slots (marks_of ps))
     (caches : AreCaches partitions roots ps) where
   -- entries that map one slot are of one line
-  one_mapper : (s : SlotName) (p q asked asked' len len' : ℕ) (e f : RootEntry) → Contains (roots p) e → Contains (roots q) f → e.act ≡ Map asked s len → f.act ≡ Map asked' s len' → e.line ≡ f.line
+  one_mapper : (s : SlotName) (p q asked asked' len len' : ℕ) (e f : RootEntry) → Contains (roots p) e → Contains (roots q) f →
+      e.act ≡ Map asked s len → f.act ≡ Map asked' s len' → e.line ≡ f.line
   one_mapper s p q asked asked' len len' e f (i, low, at) (k, low', at') is is' =
       let (born, g, there) = map_asked pools (roots p) new_root e asked len s (r.journals p).replays (i, low, at) is in
       let (born', g', there') = map_asked pools (roots q) new_root f asked' len' s (r.journals q).replays (k, low', at') is' in
@@ -71,7 +74,8 @@ module _ (supers partitions : ℕ) (ps : List Played) (pools : List PoolEntry) (
       by_row cache after known (inl (q, class, xs, rest, asks, filled, front, becomes)) =
           let head : Numbered = record { slot = seen.slot; number = number_of seen.found.0 } in
           let f = first_keeps seen.slot roots x.line q class (cache q class) xs (λ n. known q class n) filled in
-          absurd (class_or_direct supers partitions ps pools roots r h seen.slot q p class (f.known head (subst (λ zs. Contains zs head) (sym front) (first_in head rest))) direct)
+          absurd (class_or_direct supers partitions ps pools roots r h seen.slot q p class
+          (f.known head (subst (λ zs. Contains zs head) (sym front) (first_in head rest))) direct)
       by_row cache after known (inr (q, size, asked, len, asks, only, becomes)) =
           let (e, member, line, act) = line_entry roots x.line q (Map asked seen.slot len) only.0 in
           (q, asked, len, e, member, line, act)
@@ -93,7 +97,8 @@ module _ (supers partitions : ℕ) (ps : List Played) (pools : List PoolEntry) (
             let made = issue_makes y m (first.step ∙ ap Some issue) marked in
             let slot : made.seen.slot ≡ s = sym made.slot ∙ first.slot in
             let (u, asked, len, e, stands, line, act) = maps_it x seen usable p among is direct in
-            let (v, asked', len', f, stands', line', act') = maps_it y made.seen made.usable p member made.answer (subst (λ z. IsDirect roots z p) (sym slot) direct) in
+            let (v, asked', len', f, stands', line', act') =
+            maps_it y made.seen made.usable p member made.answer (subst (λ z. IsDirect roots z p) (sym slot) direct) in
             let same = one_mapper s u v asked asked' len len' e f stands stands' act (act' ∙ ap (λ z. Map asked' z len') slot) in
             let both = same_record ps x y lines among member (sym line ∙ same ∙ line') in
             let again : mark_at x.line seen (Some Issue) ≡ m = of_some _ m (sym mark ∙ ap mark_of both ∙ marked) in
@@ -103,4 +108,5 @@ module _ (supers partitions : ℕ) (ps : List Played) (pools : List PoolEntry) (
       ]
 
 pub new_maps : NewMaps
-new_maps supers partitions ps pools roots x r h lines slots caches among = new_map supers partitions ps pools roots r h lines slots caches x among
+new_maps supers partitions ps pools roots x r h lines slots caches among =
+    new_map supers partitions ps pools roots r h lines slots caches x among

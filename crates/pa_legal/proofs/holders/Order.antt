@@ -31,7 +31,8 @@ record IsMoveOf (line : ℕ) (op : Op) (m : Move) : Type 0 where
   same : m.line ≡ line
   does : DoesWay m.way op
 
-slots_move : (line : ℕ) (op : Op) (way : Way) (ns : List Numbered) (m : Move) → DoesWay way op → Contains (map (move_of line way) ns) m → IsMoveOf line op m
+slots_move : (line : ℕ) (op : Op) (way : Way) (ns : List Numbered) (m : Move) → DoesWay way op → Contains (map (move_of line way) ns) m →
+    IsMoveOf line op m
 slots_move line op way ns m does among =
     let (n, member, is) = map_cases (move_of line way) ns m among in
     record { same = ap (λ (z : Move). z.line) (sym is); does = subst (λ w. DoesWay w op) (ap (λ (z : Move). z.way) is) does }
@@ -43,9 +44,11 @@ freeing_back op (inr (r, is)) reg q size e = let other : ◌≡◌ {A = Op} (ops
 purge_back : (op : Op) → op ≡ ops.Purge → DoesWay Back op
 purge_back op is reg q size e = let other : ◌≡◌ {A = Op} ops.Purge (ops.Alloc reg q size) = sym is ∙ e in absurd cc
 
-entry_move : (pools : List PoolEntry) (p line : ℕ) (act : RootAct) (x : Played) (m : Move) → MakesEntry pools p act x → Contains (moves_by line act) m → IsMoveOf line x.op m
+entry_move : (pools : List PoolEntry) (p line : ℕ) (act : RootAct) (x : Played) (m : Move) → MakesEntry pools p act x →
+    Contains (moves_by line act) m → IsMoveOf line x.op m
 entry_move pools p line (Fill class asked slots) x m (reg, size, is, of) among = slots_move line x.op Out slots m (reg, p, size, is) among
-entry_move pools p line (Map asked slot len) x m (size, (reg, is, direct), same) among = slots_move line x.op Out (record { slot = slot; number = 0 } ∷ []) m (reg, p, size, is) among
+entry_move pools p line (Map asked slot len) x m (size, (reg, is, direct), same) among =
+    slots_move line x.op Out (record { slot = slot; number = 0 } ∷ []) m (reg, p, size, is) among
 entry_move pools p line (Full class asked) x m makes among = absurd (not_in_none m among)
 entry_move pools p line (Give slots) x m (inl freeing) among = slots_move line x.op Back slots m (freeing_back x.op freeing) among
 entry_move pools p line (Give slots) x m (inr purge) among = slots_move line x.op Back slots m (purge_back x.op purge) among
@@ -66,18 +69,21 @@ never_before_itself : (x : Played) → StandsBefore x x → ⊥
 never_before_itself x (inl (thread, less)) = omega arith
 never_before_itself x (inr less) = omega arith
 
-module _ (partitions : ℕ) (ps : List Played) (pools : List PoolEntry) (roots : Journals) (r : AreRoots partitions ps pools roots) (lines : AllPairs OtherRecord ps) where
+module _ (partitions : ℕ) (ps : List Played) (pools : List PoolEntry) (roots : Journals) (r : AreRoots partitions ps pools roots)
+    (lines : AllPairs OtherRecord ps) where
   -- the op of an entry
   entry_made : (p : ℕ) (e : RootEntry) → Contains (roots p) e → (x : Played) × IsOfLine ps e.line x × MakesEntry pools p e.act x
   entry_made p e (j, few, is) = r.lines p j e (slice_get-get_or (roots p) j e few ∙ ap Some is)
 
   -- the entry of a move, and its record
-  pub move_entry : (p : ℕ) (s : SlotName) (k : ℕ) (m : Move) → Contains (moves_at (roots p) s k) m → (e : RootEntry) × Contains (roots p) e × Contains (moves_by e.line e.act) m
+  pub move_entry : (p : ℕ) (s : SlotName) (k : ℕ) (m : Move) → Contains (moves_at (roots p) s k) m → (e : RootEntry) ×
+      Contains (roots p) e × Contains (moves_by e.line e.act) m
   move_entry p s k m among =
       let (there, hit) = filter_cases (is_move_of s k) (flat_map (λ (e : RootEntry). moves_by e.line e.act) (roots p)) m among in
       flat_cases (λ (e : RootEntry). moves_by e.line e.act) (roots p) m there
 
-  pub move_made : (p : ℕ) (s : SlotName) (k : ℕ) (m : Move) → Contains (moves_at (roots p) s k) m → (x : Played) × IsOfLine ps m.line x × DoesWay m.way x.op
+  pub move_made : (p : ℕ) (s : SlotName) (k : ℕ) (m : Move) → Contains (moves_at (roots p) s k) m → (x : Played) × IsOfLine ps m.line x ×
+      DoesWay m.way x.op
   move_made p s k m among =
       let (e, member, there) = move_entry p s k m among in
       let (x, of, makes) = entry_made p e member in
@@ -85,7 +91,8 @@ module _ (partitions : ℕ) (ps : List Played) (pools : List PoolEntry) (roots :
       (x, (of.0, of.1 ∙ sym is.same), is.does)
 
   -- a line takes slots out or gives them back
-  pub one_way : (p : ℕ) (s : SlotName) (k : ℕ) (m n : Move) → Contains (moves_at (roots p) s k) m → Contains (moves_at (roots p) s k) n → m.way ≡ Back → n.way ≡ Out → m.line ≡ n.line → ⊥
+  pub one_way : (p : ℕ) (s : SlotName) (k : ℕ) (m n : Move) → Contains (moves_at (roots p) s k) m → Contains (moves_at (roots p) s k) n →
+      m.way ≡ Back → n.way ≡ Out → m.line ≡ n.line → ⊥
   one_way p s k m n among among' back out same =
       let (x, of, does) = move_made p s k m among in
       let (y, of', does') = move_made p s k n among' in
@@ -95,7 +102,8 @@ module _ (partitions : ℕ) (ps : List Played) (pools : List PoolEntry) (roots :
 
   entries_order : (p : ℕ) → AllPairs (EntriesInOrder ps) (roots p)
   entries_order p i j d less low x y of of' before =
-      let back = r.order p j i (get_or (roots p) j d) (get_or (roots p) i d) y x (slice_get-get_or (roots p) j d low) (slice_get-get_or (roots p) i d (omega arith)) of' of before in
+      let back = r.order p j i (get_or (roots p) j d) (get_or (roots p) i d) y x (slice_get-get_or (roots p) j d low)
+      (slice_get-get_or (roots p) i d (omega arith)) of' of before in
       omega arith
 
   -- the line of a move that an entry makes

@@ -33,12 +33,15 @@ pub row_of : (partitions : ℕ) (roots : Journals) (ps : List Played) (x : Playe
     (cache after : Cache) × IsKnown roots cache × CacheRow partitions roots x x.answer cache after
 row_of partitions roots ps x (last, to) among =
     let (before, rest, parts) = parts_at ps x among in
-    let (mid, front, (next, row, back)) = caches_cut partitions roots no_caches before (x ∷ rest) last (subst (λ zs. CachesTo partitions roots no_caches zs last) parts to) in
+    let (mid, front, (next, row, back)) =
+    caches_cut partitions roots no_caches before (x ∷ rest) last
+    (subst (λ zs. CachesTo partitions roots no_caches zs last) parts to) in
     (mid x.thread, next, all_known partitions roots before no_caches mid (λ t q c n none. absurd (not_in_none n none)) front x.thread, row)
 
 -- ---- what was made left a root
 
-made_left_by : (roots : Journals) (x : Played) (seen : Seen) (cache after : Cache) → IsKnown roots cache → MadeRow roots x seen cache after → (p : ℕ) × HasLeft roots p seen.slot
+made_left_by : (roots : Journals) (x : Played) (seen : Seen) (cache after : Cache) → IsKnown roots cache →
+    MadeRow roots x seen cache after → (p : ℕ) × HasLeft roots p seen.slot
 made_left_by roots x seen cache after known (inl (p, class, xs, rest, asks, filled, front, becomes)) =
     let head : Numbered = record { slot = seen.slot; number = number_of seen.found.0 } in
     let f = first_keeps seen.slot roots x.line p class (cache p class) xs (λ n. known p class n) filled in
@@ -47,7 +50,8 @@ made_left_by roots x seen cache after known (inr (p, size, asked, len, asks, onl
     let (e, among, act) = entry_of_act roots x.line p (Map asked seen.slot len) only.0 in
     (p, map_leaves roots seen.slot p (e, asked, len, among, act))
 
-pub made_left : (partitions : ℕ) (roots : Journals) (ps : List Played) (x : Played) (seen : Seen) (usable : ℕ) → AreCaches partitions roots ps → Contains ps x → x.answer ≡ answers.Made seen usable →
+pub made_left : (partitions : ℕ) (roots : Journals) (ps : List Played) (x : Played) (seen : Seen) (usable : ℕ) →
+    AreCaches partitions roots ps → Contains ps x → x.answer ≡ answers.Made seen usable →
     (p : ℕ) × HasLeft roots p seen.slot
 made_left partitions roots ps x seen usable caches among is =
     let (cache, after, known, row) = row_of partitions roots ps x caches among in
@@ -74,7 +78,8 @@ in_batches (suc n) (x ∷ xs) act among = elim (in_cases (Give (take 16 (x ∷ x
   | inr rest ↦ in_batches n (drop 16 (x ∷ xs)) act rest
 ]
 
-in_purge : (lists : ℕ → List Numbered) (class n : ℕ) (act : RootAct) → Contains (purge_acts lists class n) act → ((ys : List Numbered) × (act ≡ Give ys)) ⊎ (act ≡ Purge)
+in_purge : (lists : ℕ → List Numbered) (class n : ℕ) (act : RootAct) → Contains (purge_acts lists class n) act →
+    ((ys : List Numbered) × (act ≡ Give ys)) ⊎ (act ≡ Purge)
 in_purge lists class zero act among = elim (in_cases Purge act [] among) [ inl e ↦ inr (sym e) | inr none ↦ absurd (not_in_none act none) ]
 in_purge lists class (suc n) act among = elim (Contains-append_cases (gives (lists class)) (purge_acts lists (class + 1) n) act among) [
   | inl here ↦ inl (in_batches (length (lists class)) (lists class) act here)
@@ -84,16 +89,18 @@ in_purge lists class (suc n) act among = elim (Contains-append_cases (gives (lis
 give_no_unmap : (asked : ℕ) (slot : Numbered) (ys : List Numbered) → ◌≡◌ {A = RootAct} (Unmap asked slot) (Give ys) → ⊥
 give_no_unmap asked slot ys e = absurd cc
 
-module _ (partitions : ℕ) (roots : Journals) (x : Played) (p asked : ℕ) (slot : Numbered) (among : Contains (acts_of roots x.line p) (Unmap asked slot)) where
+module _ (partitions : ℕ) (roots : Journals) (x : Played) (p asked : ℕ) (slot : Numbered)
+    (among : Contains (acts_of roots x.line p) (Unmap asked slot)) where
   not_none : acts_of roots x.line p ≡ [] → ⊥
   not_none none = not_in_none (Unmap asked slot) (subst (λ zs. Contains zs (Unmap asked slot)) none among)
 
   not_one : (q : ℕ) (act : RootAct) → OnlyActs roots x.line q (act ∷ []) → act ≡ Unmap asked slot
   not_one q act only = elim (cases_eq p q) [
-    | inl e ↦ elim (in_cases act (Unmap asked slot) [] (subst (λ zs. Contains zs (Unmap asked slot)) (ap (acts_of roots x.line) e ∙ only.0) among)) [
-      | inl same ↦ same
-      | inr none ↦ absurd (not_in_none (Unmap asked slot) none)
-    ]
+    | inl e ↦ elim (in_cases act (Unmap asked slot) []
+        (subst (λ zs. Contains zs (Unmap asked slot)) (ap (acts_of roots x.line) e ∙ only.0) among)) [
+          | inl same ↦ same
+          | inr none ↦ absurd (not_in_none (Unmap asked slot) none)
+        ]
     | inr other ↦ absurd (not_none (only.1 p other))
   ]
 
@@ -103,10 +110,12 @@ module _ (partitions : ℕ) (roots : Journals) (x : Played) (p asked : ℕ) (slo
 
   by_made : (seen : Seen) (cache after : Cache) → MadeRow roots x seen cache after → ⊥
   by_made seen cache after (inl (q, class, xs, rest, asks, filled, front, becomes)) = by_filled q class (cache q class) xs filled
-  by_made seen cache after (inr (q, size, asked', len, asks, only, becomes)) = let no' = not_one q (Map asked' seen.slot len) only in absurd cc
+  by_made seen cache after (inr (q, size, asked', len, asks, only, becomes)) = let no' = not_one q (Map asked' seen.slot len) only in
+      absurd cc
 
   by_full : (cache after : Cache) → FullRow roots x cache after → ⊥
-  by_full cache after (inl (q, class, asked', asks, empty, only, becomes)) = let no' = not_one q (Full (Some class) asked') only in absurd cc
+  by_full cache after (inl (q, class, asked', asks, empty, only, becomes)) = let no' = not_one q (Full (Some class) asked') only in
+      absurd cc
   by_full cache after (inr (q, size, asked', asks, only, becomes)) = let no' = not_one q (Full None asked') only in absurd cc
 
   by_return : (seen : Seen) (step : Step) (n : Numbered) (cache after : Cache) → x.answer ≡ answers.Done seen → step_of x.op ≡ Some step
@@ -114,12 +123,14 @@ module _ (partitions : ℕ) (roots : Journals) (x : Played) (p asked : ℕ) (slo
       ReturnsMap roots x slot.slot
   by_return seen step n cache after is steps returning named (inl (q, class, of, only, becomes)) = elim (cases_eq p q) [
     | inl e ↦
-        let (ys, give) = in_batches _ _ (Unmap asked slot) (subst (λ zs. Contains zs (Unmap asked slot)) (ap (acts_of roots x.line) e ∙ only.0) among) in
+        let (ys, give) = in_batches _ _ (Unmap asked slot)
+        (subst (λ zs. Contains zs (Unmap asked slot)) (ap (acts_of roots x.line) e ∙ only.0) among) in
         absurd (give_no_unmap asked slot ys give)
     | inr other ↦ absurd (not_none (only.1 p other))
   ]
   by_return seen step n cache after is steps returning named (inr (q, asked', number, direct, only, becomes)) =
-      let one : ◌≡◌ {A = RootAct} (Unmap asked' (record { slot = n.slot; number = number })) (Unmap asked slot) = not_one q (Unmap asked' (record { slot = n.slot; number = number })) only in
+      let one : ◌≡◌ {A = RootAct} (Unmap asked' (record { slot = n.slot; number = number })) (Unmap asked slot) =
+      not_one q (Unmap asked' (record { slot = n.slot; number = number })) only in
       let same : ◌≡◌ {A = Numbered} (record { slot = n.slot; number = number }) slot = cc in
       let names : n.slot ≡ slot.slot = ap (λ (z : Numbered). z.slot) same in
       record {
@@ -133,18 +144,21 @@ module _ (partitions : ℕ) (roots : Journals) (x : Played) (p asked : ℕ) (slo
         direct = subst (λ z. IsDirect roots z q) names direct;
       }
 
-  by_done : (seen : Seen) (o : Option Step) (cache after : Cache) → x.answer ≡ answers.Done seen → step_of x.op ≡ o → DoneRow roots x o seen cache after → ReturnsMap roots x slot.slot
+  by_done : (seen : Seen) (o : Option Step) (cache after : Cache) → x.answer ≡ answers.Done seen → step_of x.op ≡ o →
+      DoneRow roots x o seen cache after → ReturnsMap roots x slot.slot
   by_done seen None cache after is steps (acts, becomes) = absurd (not_none (acts p))
   by_done seen (Some step) cache after is steps (inl (returning, row)) = by_return seen step _ cache after is steps returning refl row
   by_done seen (Some step) cache after is steps (inr (other, acts, becomes)) = absurd (not_none (acts p))
 
   by_purged : (slots : ℕ) (cache after : Cache) → p < partitions → PurgedRow partitions roots x slots cache after → ⊥
-  by_purged slots cache after below (acts, counted, empty) = elim (in_purge (cache p) 0 170 (Unmap asked slot) (subst (λ zs. Contains zs (Unmap asked slot)) (acts p below) among)) [
-    | inl (ys, give) ↦ give_no_unmap asked slot ys give
-    | inr purge ↦ absurd cc
-  ]
+  by_purged slots cache after below (acts, counted, empty) =
+      elim (in_purge (cache p) 0 170 (Unmap asked slot) (subst (λ zs. Contains zs (Unmap asked slot)) (acts p below) among)) [
+        | inl (ys, give) ↦ give_no_unmap asked slot ys give
+        | inr purge ↦ absurd cc
+      ]
 
-  returns_map : (answer : Answer) (cache after : Cache) → p < partitions → x.answer ≡ answer → CacheRow partitions roots x answer cache after → ReturnsMap roots x slot.slot
+  returns_map : (answer : Answer) (cache after : Cache) → p < partitions → x.answer ≡ answer →
+      CacheRow partitions roots x answer cache after → ReturnsMap roots x slot.slot
   returns_map (answers.Made seen usable) cache after below is row = absurd (by_made seen cache after row)
   returns_map (answers.Done seen) cache after below is row = by_done seen (step_of x.op) cache after is refl row
   returns_map (answers.Full entry) cache after below is row = absurd (by_full cache after row)
@@ -157,8 +171,10 @@ pub unmap_returns : (partitions : ℕ) (roots : Journals) (ps : List Played) (x 
 unmap_returns partitions roots ps x e p asked slot caches below among member line is =
     let (cache, after, known, row) = row_of partitions roots ps x caches among in
     let here : Contains (acts_of roots x.line p) e.act =
-    map_in (λ (f : RootEntry). f.act) (filter (λ (f : RootEntry). f.line == x.line) (roots p)) e (filter_in (λ (f : RootEntry). f.line == x.line) (roots p) e member (eq-eqb e.line x.line line)) in
-    returns_map partitions roots x p asked slot (subst (λ a. Contains (acts_of roots x.line p) a) is here) x.answer cache after below refl row
+    map_in (λ (f : RootEntry). f.act) (filter (λ (f : RootEntry). f.line == x.line) (roots p)) e
+    (filter_in (λ (f : RootEntry). f.line == x.line) (roots p) e member (eq-eqb e.line x.line line)) in
+    returns_map partitions roots x p asked slot
+    (subst (λ a. Contains (acts_of roots x.line p) a) is here) x.answer cache after below refl row
 
 -- ---- only what was made is an issue
 
@@ -183,7 +199,13 @@ module _ (x : Played) (z : Mark) (issue : z.step ≡ Some Issue) where
   by_answer : (a : Answer) → x.answer ≡ a → mark_of_answer x.line x.op a ≡ Some z → Makes x z
   by_answer (answers.Made seen usable) is mark =
       let same = of_some (mark_at x.line seen (Some Issue)) z mark in
-      record { seen = seen; usable = usable; answer = is; slot = ap (λ (y : Mark). y.slot) (sym same); found = ap (λ (y : Mark). y.found) (sym same) }
+      record {
+        seen = seen;
+        usable = usable;
+        answer = is;
+        slot = ap (λ (y : Mark). y.slot) (sym same);
+        found = ap (λ (y : Mark). y.found) (sym same);
+      }
   by_answer (answers.Done seen) is mark = absurd (done_none seen (step_of x.op) (no_issue x.op) mark)
   by_answer (answers.Value seen value) is mark = absurd (look_none x.line (Some seen) z mark issue)
   by_answer (answers.Dangling seen value) is mark = absurd (look_none x.line (Some seen) z mark issue)
@@ -200,6 +222,7 @@ module _ (x : Played) (z : Mark) (issue : z.step ≡ Some Issue) where
   by_answer (answers.Full entry) is mark = absurd (look_none x.line None z mark issue)
   by_answer (answers.Swapped entry) is mark = absurd (look_none x.line None z mark issue)
   by_answer (answers.Purged slots) is mark = absurd (look_none x.line None z mark issue)
+  by_answer answers.Uncounted is mark = absurd (look_none x.line None z mark issue)
 
   pub issue_makes : mark_of x ≡ Some z → Makes x z
   issue_makes mark = by_answer x.answer refl mark

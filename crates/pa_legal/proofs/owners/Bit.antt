@@ -108,7 +108,8 @@ module _ (version : ℕ) (cells : Cells) (ps : List Played) (h : HaveHandles ver
   issued_below x m among mark slot o =
       let put : IsBefore cells ps o.put x = Standing (inl (o.held.thread, o.held.before)) in
       let before = h.seen.rising o.source.source x o.issue m o.source.among among
-      (then_at (way_before version cells ps h s o.source.turns o.source.source o.put o.source.way) put) o.made.mark mark (o.made.slot ∙ sym slot) in
+      (then_at (way_before version cells ps h s o.source.turns o.source.source o.put o.source.way) put) o.made.mark mark
+      (o.made.slot ∙ sym slot) in
       let left : left_number o.issue ≡ number_of o.issue.found + 1 = rw o.made.step refl in
       omega (arith, before, left)
     where
@@ -182,7 +183,8 @@ module _ (version : ℕ) (cells : Cells) (ps : List Played) (h : HaveHandles ver
           | inr most ↦ elim (cases_lt (number_of o.issue.found) (number_of g.owns.issue.found)) [
             | inl newer ↦
                 let bit = fall.held g.owns.issue.found
-                (one.found g.owns.issue (mark_in ps g.owns.source.source g.owns.issue g.owns.source.among g.owns.made.mark) g.owns.made.slot)
+                (one.found g.owns.issue (mark_in ps g.owns.source.source g.owns.issue g.owns.source.among g.owns.made.mark)
+                g.owns.made.slot)
                 (omega (arith, next, newer)) (omega (arith, below)) in
                 let none' = (issue_of f g.owns).none in
                 omega (arith, bit, none')
@@ -207,4 +209,5 @@ module _ (version : ℕ) (cells : Cells) (ps : List Played) (h : HaveHandles ver
 
 pub owners_find_the_bit : OwnersFindTheBit
 owners_find_the_bit version cells ps x m regs reg h has own mark =
-    owner_finds version cells ps h m.slot x m (record_in version cells ps x regs has) mark refl (owner_of version cells ps h m.slot x regs reg has own)
+    owner_finds version cells ps h m.slot x m (record_in version cells ps x regs has) mark refl
+    (owner_of version cells ps h m.slot x regs reg has own)

@@ -136,10 +136,12 @@ row_of version cells ps x (after, rows) among =
     let (next, row, more) = rest_rows in
     (last x.thread, next, (before, rest, last, parts, to, refl), row)
 
-pub record_in : (version : ℕ) (cells : Cells) (ps : List Played) (x : Played) (regs : Regs) → HasRegs (usable_of version) cells ps x regs → Contains ps x
+pub record_in : (version : ℕ) (cells : Cells) (ps : List Played) (x : Played) (regs : Regs) → HasRegs (usable_of version) cells ps x regs →
+    Contains ps x
 record_in version cells ps x regs (before, rest, all, parts, rows, is) = in_middle before rest ps x parts
 
-pub was_put : (version : ℕ) (cells : Cells) (ps : List Played) (x : Played) (regs : Regs) (reg : ℕ) → RiseByLine ps → HasRegs (usable_of version) cells ps x regs
+pub was_put : (version : ℕ) (cells : Cells) (ps : List Played) (x : Played) (regs : Regs) (reg : ℕ) → RiseByLine ps →
+    HasRegs (usable_of version) cells ps x regs
     → (regs reg ≡ Empty → ⊥)
     → (y : Played) × WasPut cells ps x reg (regs reg) y
 was_put version cells ps x regs reg rising (before, rest, all, parts, rows, is) some =

@@ -65,7 +65,8 @@ put_reg : (reg k : ℕ) (r q : Reg) → ◌≡◌ {A = Option (ℕ × Reg)} (Som
 put_reg reg k r q e = ap (λ (p : ℕ × Reg). p.0) (of_some (reg, r) (k, q) e)
 
 -- an answer that makes a handle has a slot, that of the handle
-pub made_from : (a : Answer) (m : SlotName × ℕ) → made_of a ≡ Some m → (seen : Seen) × (usable : ℕ) × (a ≡ Made seen usable) × (seen.slot ≡ m.0)
+pub made_from : (a : Answer) (m : SlotName × ℕ) → made_of a ≡ Some m → (seen : Seen) × (usable : ℕ) × (a ≡ Made seen usable) ×
+    (seen.slot ≡ m.0)
 made_from (Made seen usable) m e = (seen, usable, refl, ap (λ (n : SlotName × ℕ). n.0) (of_some (seen.slot, usable) m e))
 made_from a m e = absurd (not_some m e)
 

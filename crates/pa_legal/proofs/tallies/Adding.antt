@@ -36,7 +36,8 @@ record IsLevel (P : ℕ → Type 0) (up down : Step → ℕ → Bool) (test : �
   is : (w : ℕ) → test w ≡ true → P w
   of : (w : ℕ) → P w → test w ≡ true
 
-module _ (P : ℕ → Type 0) (up down : Step → ℕ → Bool) (test : ℕ → Bool) (level : IsLevel P up down test) (xs : List Played) (lines : AllPairs OtherRecord xs) (slots : Slots (marks_of xs)) where
+module _ (P : ℕ → Type 0) (up down : Step → ℕ → Bool) (test : ℕ → Bool) (level : IsLevel P up down test) (xs : List Played)
+    (lines : AllPairs OtherRecord xs) (slots : Slots (marks_of xs)) where
   abbrev word : SlotName → ℕ
   word s = last_word 0 (slots s).0
 
@@ -49,21 +50,26 @@ module _ (P : ℕ → Type 0) (up down : Step → ℕ → Bool) (test : ℕ → 
     where
       by_run : (vs : List ℕ) → IsRunFrom (marks_of xs) s 0 vs → test (last_word 0 vs) ≡ true → Contains (map slot_at (marks_of xs)) s
       by_run [] run passes' = absurd (false≢true (sym level.first ∙ passes'))
-      by_run (v ∷ vs) (m, p, at, can, is, rest) passes' = subst (λ z. Contains (map slot_at (marks_of xs)) z) at.slot (map_in slot_at (marks_of xs) m at.among)
+      by_run (v ∷ vs) (m, p, at, can, is, rest) passes' =
+          subst (λ z. Contains (map slot_at (marks_of xs)) z) at.slot (map_in slot_at (marks_of xs) m at.among)
 
   -- what a slot's steps weigh, by its word
-  slot_levels : (s : SlotName) (c : ℕ) → cond {A = ℕ} (test (last_word 0 (slots s).0)) c 0 + slot_weight down s c (marks_of xs) ≡ slot_weight up s c (marks_of xs)
+  slot_levels : (s : SlotName) (c : ℕ) →
+      cond {A = ℕ} (test (last_word 0 (slots s).0)) c 0 + slot_weight down s c (marks_of xs) ≡ slot_weight up s c (marks_of xs)
   slot_levels s c =
       let ms = marks_of xs in
       let (vs, run, one) = slots s in
-      let levels = run_levels up down (λ w. one_if (test w)) level.balances ms s (slots s).0 (marks_differ xs lines) (slots s).1 (slots s).2 in
+      let levels = run_levels up down (λ w. one_if (test w)) level.balances ms s (slots s).0 (marks_differ xs lines) (slots s).1
+      (slots s).2 in
       let start : one_if (test 0) ≡ 0 = ap one_if level.first in
       let even : count_by (steps_so up s) ms ≡ count_by (steps_so down s) ms + one_if (test (last_word 0 (slots s).0)) = omega arith in
       let a = weight_times up s c ms in
       let b = weight_times down s c ms in
-      let d : count_by (steps_so up s) ms * c ≡ (count_by (steps_so down s) ms + one_if (test (last_word 0 (slots s).0))) * c = ap (λ n. n * c) even in
+      let d : count_by (steps_so up s) ms * c ≡ (count_by (steps_so down s) ms + one_if (test (last_word 0 (slots s).0))) * c =
+      ap (λ n. n * c) even in
       let e = add-mul (count_by (steps_so down s) ms) (one_if (test (last_word 0 (slots s).0))) c in
-      let f : one_if (test (last_word 0 (slots s).0)) * c ≡ cond {A = ℕ} (test (last_word 0 (slots s).0)) c 0 = once_times (test (last_word 0 (slots s).0)) in
+      let f : one_if (test (last_word 0 (slots s).0)) * c ≡ cond {A = ℕ} (test (last_word 0 (slots s).0)) c 0 =
+      once_times (test (last_word 0 (slots s).0)) in
       omega arith
     where
       once_times : (b : Bool) → one_if b * c ≡ cond {A = ℕ} b c 0
@@ -83,13 +89,18 @@ module _ (P : ℕ → Type 0) (up down : Step → ℕ → Bool) (test : ℕ → 
     weighs g =
         let ms = marks_of xs in
         let once = distinct_once (map slot_at (marks_of xs)) in
-        let inside : (m : Mark) → Contains ms m → Contains (distinct (map slot_at (marks_of xs))) m.slot = λ m among. distinct_in (map slot_at ms) m.slot (map_in slot_at ms m among) in
+        let inside : (m : Mark) → Contains ms m → Contains (distinct (map slot_at (marks_of xs))) m.slot =
+        λ m among. distinct_in (map slot_at ms) m.slot (map_in slot_at ms m among) in
         let a = total_filter passes g names in
-        let b = total_same (λ s. cond {A = ℕ} (passes s) (g s) 0) (λ s. cond {A = ℕ} (test (last_word 0 (slots s).0)) (cond {A = ℕ} (home s == p) (g s) 0) 0) names
+        let b = total_same (λ s. cond {A = ℕ} (passes s) (g s) 0)
+        (λ s. cond {A = ℕ} (test (last_word 0 (slots s).0)) (cond {A = ℕ} (home s == p) (g s) 0) 0) names
         (λ s among. turned (home s == p) (test (last_word 0 (slots s).0)) (g s)) in
-        let c = total_add (λ s. cond {A = ℕ} (test (last_word 0 (slots s).0)) (cond {A = ℕ} (home s == p) (g s) 0) 0) (λ s. slot_weight down s (cond {A = ℕ} (home s == p) (g s) 0) ms) names in
-        let d = total_same (λ s. cond {A = ℕ} (test (last_word 0 (slots s).0)) (cond {A = ℕ} (home s == p) (g s) 0) 0 + slot_weight down s (cond {A = ℕ} (home s == p) (g s) 0) ms)
-        (λ s. slot_weight up s (cond {A = ℕ} (home s == p) (g s) 0) ms) names (λ s among. slot_levels s (cond {A = ℕ} (home s == p) (g s) 0)) in
+        let c = total_add (λ s. cond {A = ℕ} (test (last_word 0 (slots s).0)) (cond {A = ℕ} (home s == p) (g s) 0) 0)
+        (λ s. slot_weight down s (cond {A = ℕ} (home s == p) (g s) 0) ms) names in
+        let d = total_same (λ s. cond {A = ℕ} (test (last_word 0 (slots s).0)) (cond {A = ℕ} (home s == p) (g s) 0) 0 + slot_weight down s
+        (cond {A = ℕ} (home s == p) (g s) 0) ms)
+        (λ s. slot_weight up s (cond {A = ℕ} (home s == p) (g s) 0) ms) names
+        (λ s among. slot_levels s (cond {A = ℕ} (home s == p) (g s) 0)) in
         let e = over_names up (λ s. cond {A = ℕ} (home s == p) (g s) 0) names ms once inside in
         let f = over_names down (λ s. cond {A = ℕ} (home s == p) (g s) 0) names ms once inside in
         omega arith
@@ -119,10 +130,14 @@ module _ (P : ℕ → Type 0) (up down : Step → ℕ → Bool) (test : ℕ → 
       passing : (s : SlotName) → Contains (filter passes names) s → HasSize roots p s (size s) × (test (last_word 0 (slots s).0) ≡ true)
       passing s among =
           let (there, hit) = filter_cases passes names s among in
-          let (here, so) = and_parts (home s == p) (test (last_word 0 (slots s).0)) hit in
-          (subst (λ q. HasSize roots q s (size s)) (eqb-true (home s) p here) (sized_here s (in_distinct (map slot_at (marks_of xs)) s there)), so)
+          let (here, so) = and_parts (home s == p) (test (last_word 0 (slots s).0)) hit in (
+            subst (λ q. HasSize roots q s (size s)) (eqb-true (home s) p here)
+                (sized_here s (in_distinct (map slot_at (marks_of xs)) s there)),
+            so,
+          )
 
-      all_sized : (ss : List SlotName) → ((s : SlotName) → Contains ss s → HasSize roots p s (size s)) → AllZip (HasSize roots p) ss (map size ss)
+      all_sized : (ss : List SlotName) → ((s : SlotName) → Contains ss s → HasSize roots p s (size s)) →
+          AllZip (HasSize roots p) ss (map size ss)
       all_sized [] each = tt
       all_sized (s ∷ ss) each = (each s (first_in s ss), all_sized ss (λ t among. each t (later_in s t ss among)))
 
@@ -130,13 +145,15 @@ module _ (P : ℕ → Type 0) (up down : Step → ℕ → Bool) (test : ℕ → 
       are_slots = record {
         once = AllPairs-filter (λ (s t : SlotName). s ≢ t) passes names (distinct_once (map slot_at (marks_of xs)));
         all = λ s. (
-          λ among. let (sized, so) = passing s among in (size s, last_word 0 (slots s).0, sized, has_word s, level.is (last_word 0 (slots s).0) so),
+          λ among. let (sized, so) = passing s among in
+              (size s, last_word 0 (slots s).0, sized, has_word s, level.is (last_word 0 (slots s).0) so),
           λ (len, w, sized, has, is).
               let same = one_word xs s w (last_word 0 (slots s).0) lines has (has_word s) in
               let so : test (last_word 0 (slots s).0) ≡ true = level.of (last_word 0 (slots s).0) (subst P same is) in
               let there = marked_slot s so in
               let here = (one_size supers partitions ps pools roots r h s (home s) p (size s) len (sized_here s there) sized).0 in
-              filter_in passes names s (distinct_in (map slot_at (marks_of xs)) s there) (and_from (home s == p) (test (last_word 0 (slots s).0)) (eq-eqb (home s) p here) so),
+              filter_in passes names s (distinct_in (map slot_at (marks_of xs)) s there)
+              (and_from (home s == p) (test (last_word 0 (slots s).0)) (eq-eqb (home s) p here) so),
         );
         sized = all_sized (filter passes names) (λ s among. (passing s among).0);
       }
@@ -160,10 +177,13 @@ quarantined_level = record { balances = quarantined_balances; first = refl; is =
 pub tallies_follow : TalliesFollow
 tallies_follow = record {
   live = λ supers partitions p ps xs pools roots home size tally given homes left.
-      tally_is IsLive issues frees is_live live_level xs given.lines given.slots p home size supers partitions ps pools roots tally given.journals given.pool homes left;
+      tally_is IsLive issues frees is_live live_level xs given.lines given.slots p home size supers partitions ps pools roots tally
+      given.journals given.pool homes left;
   quarantined = λ supers partitions p ps xs pools roots home size tally given homes left.
-      tally_is IsQuarantined enters leaves is_quarantined quarantined_level xs given.lines given.slots p home size supers partitions ps pools roots tally given.journals given.pool homes left;
-  freed = λ supers partitions p ps xs pools roots home size given. went_in IsLive issues frees is_live live_level xs given.lines given.slots p home size;
+      tally_is IsQuarantined enters leaves is_quarantined quarantined_level xs given.lines given.slots p home size supers partitions ps
+      pools roots tally given.journals given.pool homes left;
+  freed = λ supers partitions p ps xs pools roots home size given. went_in IsLive issues frees is_live live_level xs given.lines given.slots
+      p home size;
   left = λ supers partitions p ps xs pools roots home size given.
       went_in IsQuarantined enters leaves is_quarantined quarantined_level xs given.lines given.slots p home size;
 }

@@ -29,14 +29,16 @@ live_balances Issue u can =
     let a = live_none u (omega arith) in
     let b = live_some (stepped Issue u) (omega arith) in
     omega arith
-live_balances Copy u can = let (refs, held, some) = stepped_is Copy u can in let a = live_same (stepped Copy u) u (omega arith) in omega arith
+live_balances Copy u can = let (refs, held, some) = stepped_is Copy u can in let a = live_same (stepped Copy u) u (omega arith) in
+    omega arith
 live_balances Reset u can = let (refs, held) = stepped_is Reset u can in let a = live_same (stepped Reset u) u (omega arith) in omega arith
 live_balances Free u can =
     let (refs, free, held) = stepped_is Free u can in
     let a = live_some u held in
     let b = live_none (stepped Free u) free in
     omega arith
-live_balances Write u can = let (refs, held, some, none) = stepped_is Write u can in let a = live_same (stepped Write u) u held in omega arith
+live_balances Write u can = let (refs, held, some, none) = stepped_is Write u can in let a = live_same (stepped Write u) u held in
+    omega arith
 
 -- a word that passes is live
 pub live_is : (w : ℕ) → is_live w ≡ true → IsLive w

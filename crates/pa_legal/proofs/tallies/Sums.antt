@@ -67,7 +67,8 @@ total_sum f ss = by_sum ss ∙ sym (sum-map f ss)
     by_sum (s ∷ ss) = let a = sum_by-cons f s ss in let ih = by_sum ss in omega arith
 
 -- what those weigh that pass
-pub total_filter : (test : SlotName → Bool) (f : SlotName → ℕ) (ss : List SlotName) → total f (filter test ss) ≡ total (λ s. cond {A = ℕ} (test s) (f s) 0) ss
+pub total_filter : (test : SlotName → Bool) (f : SlotName → ℕ) (ss : List SlotName) →
+    total f (filter test ss) ≡ total (λ s. cond {A = ℕ} (test s) (f s) 0) ss
 total_filter test f [] = refl
 total_filter test f (s ∷ ss) =
     let ih = total_filter test f ss in
@@ -77,7 +78,8 @@ total_filter test f (s ∷ ss) =
     ]
 
 -- one of different names
-once_total : (g : SlotName → ℕ) (n : SlotName) (ss : List SlotName) → AllPairs ◌≢◌ ss → Contains ss n → total (λ s. cond {A = ℕ} (same_slot s n) (g s) 0) ss ≡ g n
+once_total : (g : SlotName → ℕ) (n : SlotName) (ss : List SlotName) → AllPairs ◌≢◌ ss → Contains ss n →
+    total (λ s. cond {A = ℕ} (same_slot s n) (g s) 0) ss ≡ g n
 once_total g n [] h among = absurd (not_in_none n among)
 once_total g n (s ∷ ss) h among = elim (in_cases s n ss among) [
   | inl e ↦
@@ -89,7 +91,8 @@ once_total g n (s ∷ ss) h among = elim (in_cases s n ss among) [
       omega arith
   | inr later ↦
       let ih = once_total g n ss (pairs_tail (λ (a b : SlotName). a ≢ b) s ss h) later in
-      let here : cond {A = ℕ} (same_slot s n) (g s) 0 ≡ 0 = rw (same_slot_no s n (λ f. pairs_head (λ (a b : SlotName). a ≢ b) s n ss h later f)) refl in
+      let here : cond {A = ℕ} (same_slot s n) (g s) 0 ≡ 0 =
+      rw (same_slot_no s n (λ f. pairs_head (λ (a b : SlotName). a ≢ b) s n ss h later f)) refl in
       omega arith
 ]
 
@@ -99,13 +102,15 @@ once_total g n (s ∷ ss) h among = elim (in_cases s n ss among) [
 abbrev pub slot_weight : (Step → ℕ → Bool) → SlotName → ℕ → List Mark → ℕ
 slot_weight test s c ms = sum_by (λ (m : Mark). cond (steps_so test s m) c 0) ms
 
-pub weight_times : (test : Step → ℕ → Bool) (s : SlotName) (c : ℕ) (ms : List Mark) → slot_weight test s c ms ≡ count_by (steps_so test s) ms * c
+pub weight_times : (test : Step → ℕ → Bool) (s : SlotName) (c : ℕ) (ms : List Mark) →
+    slot_weight test s c ms ≡ count_by (steps_so test s) ms * c
 weight_times test s c [] = omega arith
 weight_times test s c (m ∷ ms) =
     let a = sum_by-cons (λ (n : Mark). cond {A = ℕ} (steps_so test s n) c 0) m ms in
     let b = sum_by-cons (λ (n : Mark). cond {A = ℕ} (steps_so test s n) 1 0) m ms in
     let ih = weight_times test s c ms in
-    let d : count_by (steps_so test s) (m ∷ ms) * c ≡ (cond {A = ℕ} (steps_so test s m) 1 0 + count_by (steps_so test s) ms) * c = ap (λ n. n * c) b in
+    let d : count_by (steps_so test s) (m ∷ ms) * c ≡ (cond {A = ℕ} (steps_so test s m) 1 0 + count_by (steps_so test s) ms) * c =
+    ap (λ n. n * c) b in
     let e = add-mul (cond {A = ℕ} (steps_so test s m) 1 0) (count_by (steps_so test s) ms) c in
     let f : cond {A = ℕ} (steps_so test s m) c 0 ≡ cond {A = ℕ} (steps_so test s m) 1 0 * c = once_times (steps_so test s m) in
     omega arith
@@ -115,11 +120,13 @@ weight_times test s c (m ∷ ms) =
     once_times false = omega arith
 
 -- over all names it is what the marks weigh
-pub over_names : (test : Step → ℕ → Bool) (g : SlotName → ℕ) (ss : List SlotName) (ms : List Mark) → AllPairs ◌≢◌ ss → ((m : Mark) → Contains ms m → Contains ss m.slot) →
+pub over_names : (test : Step → ℕ → Bool) (g : SlotName → ℕ) (ss : List SlotName) (ms : List Mark) → AllPairs ◌≢◌ ss →
+    ((m : Mark) → Contains ms m → Contains ss m.slot) →
     total (λ s. slot_weight test s (g s) ms) ss ≡ weight_of test g ms
 over_names test g ss [] h inside = total_none ss
 over_names test g ss (m ∷ ms) h inside =
-    let a = total_same (λ s. slot_weight test s (g s) (m ∷ ms)) (λ s. cond {A = ℕ} (steps_so test s m) (g s) 0 + slot_weight test s (g s) ms) ss
+    let a = total_same (λ s. slot_weight test s (g s) (m ∷ ms))
+    (λ s. cond {A = ℕ} (steps_so test s m) (g s) 0 + slot_weight test s (g s) ms) ss
     (λ s among. sum_by-cons (λ (n : Mark). cond {A = ℕ} (steps_so test s n) (g s) 0) m ms) in
     let b = total_add (λ s. cond {A = ℕ} (steps_so test s m) (g s) 0) (λ s. slot_weight test s (g s) ms) ss in
     let ih = over_names test g ss ms h (λ n among. inside n (later_in m n ms among)) in
@@ -129,13 +136,15 @@ over_names test g ss (m ∷ ms) h inside =
   where
     at_mark : (b : Bool) → total (λ s. cond {A = ℕ} (same_slot s m.slot && b) (g s) 0) ss ≡ cond {A = ℕ} b (g m.slot) 0
     at_mark true =
-        total_same (λ s. cond {A = ℕ} (same_slot s m.slot && true) (g s) 0) (λ s. cond {A = ℕ} (same_slot s m.slot) (g s) 0) ss (λ s among. with_true (same_slot s m.slot) (g s))
+        total_same (λ s. cond {A = ℕ} (same_slot s m.slot && true) (g s) 0) (λ s. cond {A = ℕ} (same_slot s m.slot) (g s) 0) ss
+        (λ s among. with_true (same_slot s m.slot) (g s))
         ∙ once_total g m.slot ss h (inside m (first_in m ms))
       where
         with_true : (p : Bool) (n : ℕ) → cond {A = ℕ} (p && true) n 0 ≡ cond {A = ℕ} p n 0
         with_true true n = refl
         with_true false n = refl
-    at_mark false = total_same (λ s. cond {A = ℕ} (same_slot s m.slot && false) (g s) 0) (λ s. 0) ss (λ s among. with_false (same_slot s m.slot) (g s)) ∙ total_none ss
+    at_mark false = total_same (λ s. cond {A = ℕ} (same_slot s m.slot && false) (g s) 0) (λ s. 0) ss
+        (λ s among. with_false (same_slot s m.slot) (g s)) ∙ total_none ss
       where
         with_false : (p : Bool) (n : ℕ) → cond {A = ℕ} (p && false) n 0 ≡ 0
         with_false true n = refl
@@ -156,6 +165,7 @@ weight_first test weight x xs = go (mark_of x) refl
     plain : (n : ℕ) → n ≡ 0 + n
     plain n = omega arith
 
-    go : (o : Option Mark) → mark_of x ≡ o → weight_of test weight (marks_of (x ∷ xs)) ≡ one_weight test weight o + weight_of test weight (marks_of xs)
+    go : (o : Option Mark) → mark_of x ≡ o →
+        weight_of test weight (marks_of (x ∷ xs)) ≡ one_weight test weight o + weight_of test weight (marks_of xs)
     go None e = rw e (plain (weight_of test weight (marks_of xs)))
     go (Some m) e = rw e (sum_by-cons (λ (n : Mark). if at_step test n.found n.step then weight n.slot else 0) m (marks_of xs))

@@ -62,7 +62,8 @@ module _ (a : Parts) (before rest : List Played) (x : Played) (h : IsFiled a) (p
   }
 
 -- a record of a lesser line comes before
-pub early_in : (a : Parts) (n : ℕ) (before rest : List Played) (q : Played) → IsCut a n before rest → Contains a.ps q → q.line < n → Contains before q
+pub early_in : (a : Parts) (n : ℕ) (before rest : List Played) (q : Played) → IsCut a n before rest → Contains a.ps q → q.line < n →
+    Contains before q
 early_in a n before rest q cut among less = elim (Contains-append_cases before rest q (subst (λ z. Contains z q) cut.parts among)) [
   | inl first ↦ first
   | inr from ↦ let up = cut.late q from in absurd (omega arith)
@@ -75,7 +76,8 @@ same_played a x y h first second e = same_record a.ps x y (rising_differ a.ps h.
 -- ---- each entry and exchange is on the line of a record
 
 -- the record of an entry's line makes it
-pub entry_made : (a : Parts) (p : ℕ) (e : RootEntry) → IsFiled a → Contains (a.roots p) e → (x : Played) × IsOfLine a.ps e.line x × MakesEntry a.pools p e.act x
+pub entry_made : (a : Parts) (p : ℕ) (e : RootEntry) → IsFiled a → Contains (a.roots p) e → (x : Played) × IsOfLine a.ps e.line x ×
+    MakesEntry a.pools p e.act x
 entry_made a p e h among = let (j, at) = in_at (a.roots p) e among in h.journals.lines p j e at
 
 -- some record has the line
@@ -93,7 +95,8 @@ pool_recorded a e h among =
     (x, (of.0, of.1 ∙ line))
 
 -- the record of an exchange's line swaps with its cell
-pub exchange_made : (a : Parts) (k : ℕ) (e : CellEntry) → IsFiled a → Contains (a.cells k) e → (x : Played) × (reg : ℕ) × Contains a.ps x × (x.line ≡ e.line) × (x.op ≡ Swap k reg)
+pub exchange_made : (a : Parts) (k : ℕ) (e : CellEntry) → IsFiled a → Contains (a.cells k) e → (x : Played) × (reg : ℕ) × Contains a.ps x ×
+    (x.line ≡ e.line) × (x.op ≡ Swap k reg)
 exchange_made a k e h among =
     let (j, at) = in_at (a.cells k) e among in
     let (x, reg, of, op) = h.exchanged.lines k j e at in
@@ -115,8 +118,11 @@ recorded_cases a n m before rest cut late line (x, (among, same)) =
 
 -- the caches before a record, and its row
 pub record_row : (a : Parts) (before rest : List Played) (x : Played) → IsFiled a → a.ps ≡ before ++ x ∷ rest →
-    (all : Caches) × (next : Cache) × CachesTo a.partitions a.roots no_caches before all × CacheRow a.partitions a.roots x x.answer (all x.thread) next
+    (all : Caches) × (next : Cache) × CachesTo a.partitions a.roots no_caches before all ×
+    CacheRow a.partitions a.roots x x.answer (all x.thread) next
 record_row a before rest x h parts =
     let (last, to) = h.caches in
-    let (all, front, (next, row, back)) = caches_cut a.partitions a.roots no_caches before (x ∷ rest) last (subst (λ ps. CachesTo a.partitions a.roots no_caches ps last) parts to) in
+    let (all, front, (next, row, back)) =
+    caches_cut a.partitions a.roots no_caches before (x ∷ rest) last
+    (subst (λ ps. CachesTo a.partitions a.roots no_caches ps last) parts to) in
     (all, next, front, row)

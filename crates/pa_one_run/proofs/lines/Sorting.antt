@@ -52,7 +52,8 @@ past_all f n xs h = filter_all (λ y. nat_lt n (f y)) xs (λ x among. lt-ltb _ _
 pub below_on_past : {A : Type 0} (f : A → ℕ) (n : ℕ) (xs : List A) → IsNonDecreasingBy f xs → xs ≡ below f n xs ++ on f n xs ++ past f n xs
 below_on_past f n [] h = refl
 below_on_past f n (x ∷ xs) h = elim (cases_lt (f x) n) [
-  | inl less ↦ rw (lt-ltb _ _ less, ne_eqb (f x) n (λ e. omega arith), le-ltb n (f x) (omega arith)) (ap (λ ys. x ∷ ys) (below_on_past f n xs (rising_tail f x xs h)))
+  | inl less ↦ rw (lt-ltb _ _ less, ne_eqb (f x) n (λ e. omega arith), le-ltb n (f x) (omega arith))
+      (ap (λ ys. x ∷ ys) (below_on_past f n xs (rising_tail f x xs h)))
   | inr from ↦
       let none : below f n xs ≡ [] = below_none f n xs (λ y among. let up = rising_head f x y xs h among in omega arith) in
       elim (cases_eq (f x) n) [
@@ -69,7 +70,8 @@ below_on_past f n (x ∷ xs) h = elim (cases_lt (f x) n) [
 ]
 
 -- what comes before the next line
-pub below_next : {A : Type 0} (f : A → ℕ) (n m : ℕ) (xs : List A) → n < m → ((x : A) → Contains xs x → n < f x → m ≤ f x) → IsNonDecreasingBy f xs → below f m xs ≡ below f n xs ++ on f n xs
+pub below_next : {A : Type 0} (f : A → ℕ) (n m : ℕ) (xs : List A) → n < m → ((x : A) → Contains xs x → n < f x → m ≤ f x) →
+    IsNonDecreasingBy f xs → below f m xs ≡ below f n xs ++ on f n xs
 below_next f n m [] less gap h = refl
 below_next f n m (x ∷ xs) less gap h =
     let ih = below_next f n m xs less (λ y among. gap y (later_in x y xs among)) (rising_tail f x xs h) in
@@ -92,14 +94,17 @@ pub on_alone : {A : Type 0} (f : A → ℕ) (n : ℕ) (xs : List A) (j : ℕ) (e
 on_alone f n [] j e at same alone = absurd (not_some e at)
 on_alone f n (x ∷ xs) zero e at same alone =
     let is : x ≡ e = of_some x e at in
-    let none : on f n xs ≡ [] = on_none f n xs (λ d among here. let (k, there) = in_at xs d among in let late : suc k ≡ 0 = alone (suc k) d there here in absurd cc) in
+    let none : on f n xs ≡ [] =
+    on_none f n xs (λ d among here. let (k, there) = in_at xs d among in let late : suc k ≡ 0 = alone (suc k) d there here in
+    absurd cc) in
     rw (eq-eqb (f x) n (ap f is ∙ same), none) (ap (λ z. z ∷ []) is)
 on_alone f n (x ∷ xs) (suc j) e at same alone =
     let other : f x ≡ n → ⊥ = λ here. let early : 0 ≡ suc j = alone 0 x refl here in absurd cc in
     rw (ne_eqb (f x) n other) (on_alone f n xs j e at same (λ k d there here. let late : suc k ≡ suc j = alone (suc k) d there here in cc))
 
 -- if one entry alone is on a line, this is its place, and an entry there is this one
-pub on_one : {A : Type 0} (f : A → ℕ) (n : ℕ) (xs : List A) (e d : A) (j : ℕ) → IsNonDecreasingBy f xs → on f n xs ≡ e ∷ [] → slice_get xs j ≡ Some d → f d ≡ n →
+pub on_one : {A : Type 0} (f : A → ℕ) (n : ℕ) (xs : List A) (e d : A) (j : ℕ) → IsNonDecreasingBy f xs → on f n xs ≡ e ∷ [] →
+    slice_get xs j ≡ Some d → f d ≡ n →
     (j ≡ length (below f n xs)) × (d ≡ e)
 on_one f n [] e d j h one at same = absurd (not_some d at)
 on_one f n (x ∷ xs) e d zero h one at same =
@@ -123,7 +128,8 @@ on_one f n (x ∷ xs) e d (suc k) h one at same =
     ]
 
 -- an entry that comes before a line has its place in what does
-pub get_below : {A : Type 0} (f : A → ℕ) (n : ℕ) (xs : List A) (j : ℕ) (e : A) → IsNonDecreasingBy f xs → slice_get xs j ≡ Some e → f e < n → slice_get (below f n xs) j ≡ Some e
+pub get_below : {A : Type 0} (f : A → ℕ) (n : ℕ) (xs : List A) (j : ℕ) (e : A) → IsNonDecreasingBy f xs → slice_get xs j ≡ Some e →
+    f e < n → slice_get (below f n xs) j ≡ Some e
 get_below f n [] j e h at less = at
 get_below f n (x ∷ xs) zero e h at less =
     let is : x ≡ e = of_some x e at in
@@ -134,7 +140,8 @@ get_below f n (x ∷ xs) (suc k) e h at less =
     let low : f x < n = omega arith in
     rw (lt-ltb _ _ low) (get_below f n xs k e (rising_tail f x xs h) at less)
 
-below_get_from : {A : Type 0} (f : A → ℕ) (n : ℕ) (x : A) (xs : List A) (j : ℕ) (e : A) → IsNonDecreasingBy f (x ∷ xs) → n ≤ f x → slice_get (below f n (x ∷ xs)) j ≡ Some e → ⊥
+below_get_from : {A : Type 0} (f : A → ℕ) (n : ℕ) (x : A) (xs : List A) (j : ℕ) (e : A) → IsNonDecreasingBy f (x ∷ xs) → n ≤ f x →
+    slice_get (below f n (x ∷ xs)) j ≡ Some e → ⊥
 below_get_from f n x xs j e h from at =
     let none : below f n (x ∷ xs) ≡ [] = below_none f n (x ∷ xs) (λ y among. elim (in_cases x y xs among) [
       | inl same ↦ let same' : f x ≡ f y = ap f same in omega arith
@@ -142,7 +149,8 @@ below_get_from f n x xs j e h from at =
     ]) in
     not_some e (subst (λ ys. slice_get ys j ≡ Some e) none at)
 
-pub below_get : {A : Type 0} (f : A → ℕ) (n : ℕ) (xs : List A) (j : ℕ) (e : A) → IsNonDecreasingBy f xs → slice_get (below f n xs) j ≡ Some e → slice_get xs j ≡ Some e
+pub below_get : {A : Type 0} (f : A → ℕ) (n : ℕ) (xs : List A) (j : ℕ) (e : A) → IsNonDecreasingBy f xs →
+    slice_get (below f n xs) j ≡ Some e → slice_get xs j ≡ Some e
 below_get f n [] j e h at = at
 below_get f n (x ∷ xs) zero e h at = elim (cases_lt (f x) n) [
   | inl less ↦ rw (lt-ltb _ _ less) at at
@@ -198,9 +206,11 @@ below_gap f n m (x ∷ xs) up gap =
 -- ---- lists whose lines don't fall
 
 -- a list whose lines don't fall: each of a lesser line comes before
-pub sorted_by : {A : Type 0} (f : A → ℕ) (xs : List A) → ((i j : ℕ) (e g : A) → slice_get xs i ≡ Some e → slice_get xs j ≡ Some g → f e < f g → i < j) → IsNonDecreasingBy f xs
+pub sorted_by : {A : Type 0} (f : A → ℕ) (xs : List A) →
+    ((i j : ℕ) (e g : A) → slice_get xs i ≡ Some e → slice_get xs j ≡ Some g → f e < f g → i < j) → IsNonDecreasingBy f xs
 sorted_by f xs h i j d up few = elim (cases_lt (f (get_or xs j d)) (f (get_or xs i d))) [
-  | inl less ↦ let back = h j i (get_or xs j d) (get_or xs i d) (slice_get-get_or xs j d few) (slice_get-get_or xs i d (omega arith)) less in absurd (omega arith)
+  | inl less ↦ let back = h j i (get_or xs j d) (get_or xs i d) (slice_get-get_or xs j d few)
+      (slice_get-get_or xs i d (omega arith)) less in absurd (omega arith)
   | inr up' ↦ omega arith
 ]
 
@@ -215,7 +225,8 @@ rises_by f (x ∷ xs) h differ k few =
     let up = h k (k + 1) x (omega arith) (omega arith) in
     elim (cases_eq (f (get_or (x ∷ xs) k x)) (f (get_or (x ∷ xs) (k + 1) x))) [
       | inl same ↦
-          let one = differ k (k + 1) (get_or (x ∷ xs) k x) (get_or (x ∷ xs) (k + 1) x) (slice_get-get_or (x ∷ xs) k x (omega arith)) (slice_get-get_or (x ∷ xs) (k + 1) x (omega arith)) same in
+          let one = differ k (k + 1) (get_or (x ∷ xs) k x) (get_or (x ∷ xs) (k + 1) x) (slice_get-get_or (x ∷ xs) k x (omega arith))
+          (slice_get-get_or (x ∷ xs) (k + 1) x (omega arith)) same in
           absurd (omega arith)
       | inr other ↦ omega arith
     ]

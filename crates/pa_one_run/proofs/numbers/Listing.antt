@@ -30,9 +30,11 @@ nowhere all s p threads m none at =
     omega arith
 
 pub unstood : (s : SlotName) (xs : List Numbered) (m : Numbered) → stands s xs ≡ 0 → Contains xs m → m.slot ≡ s → ⊥
-unstood s xs m none among same = let some = some_times s (names xs) (subst (Contains (names xs)) same (map_in (λ (n : Numbered). n.slot) xs m among)) in omega arith
+unstood s xs m none among same = let some =
+    some_times s (names xs) (subst (Contains (names xs)) same (map_in (λ (n : Numbered). n.slot) xs m among)) in omega arith
 
-pub unlisted : (cache : Cache) (s : SlotName) (p c : ℕ) (m : Numbered) → listed_times s (cache p) 0 170 ≡ 0 → c < 170 → Contains (cache p c) m → m.slot ≡ s → ⊥
+pub unlisted : (cache : Cache) (s : SlotName) (p c : ℕ) (m : Numbered) → listed_times s (cache p) 0 170 ≡ 0 → c < 170 →
+    Contains (cache p c) m → m.slot ≡ s → ⊥
 unlisted cache s p c m none real among same = elim (cases_eq (stands s (cache p c)) 0) [
   | inl empty ↦ unstood s (cache p c) m empty among same
   | inr some ↦ let times = some_listed s (cache p) c 0 170 (omega arith) (omega arith) (omega arith) in omega arith
@@ -40,7 +42,8 @@ unlisted cache s p c m none real among same = elim (cases_eq (stands s (cache p 
 
 -- ---- where it is
 
-with_cases : (all : Caches) (thread : ℕ) (next : Cache) (t p c : ℕ) (m : Numbered) → Contains (with_cache all thread next t p c) m → ((t ≡ thread) × Contains (next p c) m) ⊎ Contains (all t p c) m
+with_cases : (all : Caches) (thread : ℕ) (next : Cache) (t p c : ℕ) (m : Numbered) → Contains (with_cache all thread next t p c) m →
+    ((t ≡ thread) × Contains (next p c) m) ⊎ Contains (all t p c) m
 with_cases all thread next t p c m among = elim (cases_eq t thread) [
   | inl e ↦ inl (e, rw (eq-eqb t thread e) at among)
   | inr other ↦ inr (rw (ne_eqb t thread other) at among)
@@ -72,12 +75,20 @@ stands_same all s p threads thread next m becomes at = record {
   slot = at.slot;
 }
 
-pub stands_changed : (all : Caches) (s : SlotName) (p threads thread q class : ℕ) (xs : List Numbered) (next : Cache) (m : Numbered) → SameLists next (with_list (all thread) q class xs) →
+pub stands_changed : (all : Caches) (s : SlotName) (p threads thread q class : ℕ) (xs : List Numbered) (next : Cache) (m : Numbered) →
+    SameLists next (with_list (all thread) q class xs) →
     Stands (with_cache all thread next) s p threads m → Stands all s p threads m ⊎ ((q ≡ p) × Contains xs m × (m.slot ≡ s))
 stands_changed all s p threads thread q class xs next m becomes at = elim (with_cases all thread next at.thread p at.class m at.among) [
   | inl (e, among) ↦ elim (list_cases (all thread) next q class p at.class xs m becomes among) [
     | inl (same, new) ↦ inr (same, new, at.slot)
-    | inr old ↦ inl (record { thread = thread; class = at.class; few = subst (λ t. t < threads) e at.few; real = at.real; among = old; slot = at.slot })
+    | inr old ↦ inl (record {
+      thread = thread;
+      class = at.class;
+      few = subst (λ t. t < threads) e at.few;
+      real = at.real;
+      among = old;
+      slot = at.slot;
+    })
   ]
   | inr old ↦ inl (record { thread = at.thread; class = at.class; few = at.few; real = at.real; among = old; slot = at.slot })
 ]
@@ -99,9 +110,11 @@ stands_emptied all s p threads thread next m empty at = record {
 -- ---- how often
 
 -- what doesn't stay of a list that got one slot more
-pub kept_times : (s : SlotName) (all : Caches) (thread p threads class : ℕ) (slot : Numbered) (next : Cache) → thread < threads → class < 170 →
+pub kept_times : (s : SlotName) (all : Caches) (thread p threads class : ℕ) (slot : Numbered) (next : Cache) → thread < threads →
+    class < 170 →
     SameLists next (with_list (all thread) p class (kept class (slot ∷ all thread p class))) →
-    cached_times s (with_cache all thread next) p threads + stands s (spilled class (slot ∷ all thread p class)) ≡ cached_times s all p threads + once s slot.slot
+    cached_times s (with_cache all thread next) p threads + stands s
+    (spilled class (slot ∷ all thread p class)) ≡ cached_times s all p threads + once s slot.slot
 kept_times s all thread p threads class slot next few real becomes =
     let list = slot ∷ all thread p class in
     let one = times_cons s slot.slot (names (all thread p class)) in

@@ -34,16 +34,19 @@ pub record StepsOn (x : Played) (s : SlotName) (m : Mark) (step : Step) : Type 0
   pub slot : m.slot ≡ s
   pub steps : m.step ≡ Some step
 
-apart_by : (before : List Played) (x : Played) (s : SlotName) (o : Option Mark) → mark_of x ≡ o → IsApart x s → word_after (before ++ x ∷ []) s ≡ word_after before s
+apart_by : (before : List Played) (x : Played) (s : SlotName) (o : Option Mark) → mark_of x ≡ o → IsApart x s →
+    word_after (before ++ x ∷ []) s ≡ word_after before s
 apart_by before x s None is apart = word_same before x s is
 apart_by before x s (Some m) is apart = elim (same_slot_cases m.slot s) [
   | inl same ↦
-      let here : word_after (before ++ x ∷ []) m.slot ≡ word_after before m.slot = word_here before x m is ∙ ap (λ o. stepped_by o (word_after before m.slot)) (apart m is same) in
+      let here : word_after (before ++ x ∷ []) m.slot ≡ word_after before m.slot = word_here before x m is ∙
+      ap (λ o. stepped_by o (word_after before m.slot)) (apart m is same) in
       subst (λ z. word_after (before ++ x ∷ []) z ≡ word_after before z) same here
   | inr other ↦ word_other before x m s is other
 ]
 
-pub apart_number : (before : List Played) (x : Played) (s : SlotName) → IsApart x s → number_after (before ++ x ∷ []) s ≡ number_after before s
+pub apart_number : (before : List Played) (x : Played) (s : SlotName) → IsApart x s →
+    number_after (before ++ x ∷ []) s ≡ number_after before s
 apart_number before x s apart = ap number_of (apart_by before x s (mark_of x) refl apart)
 
 -- a step other than an issue finds a word that isn't free
@@ -54,7 +57,8 @@ unfree Reset w none can = let some = can.0 in omega arith
 unfree Free w none can = let held = can.0 in omega arith
 unfree Write w none can = let held = can.0.0 in omega arith
 
-module _ (a : Parts) (before rest : List Played) (x : Played) (s : SlotName) (m : Mark) (step : Step) (h : IsFiled a) (parts : a.ps ≡ before ++ x ∷ rest) (on : StepsOn x s m step) where
+module _ (a : Parts) (before rest : List Played) (x : Played) (s : SlotName) (m : Mark) (step : Step) (h : IsFiled a)
+    (parts : a.ps ≡ before ++ x ∷ rest) (on : StepsOn x s m step) where
   pub step_found : m.found ≡ word_after before s
   step_found = found_is a before rest x m h parts on.mark ∙ ap (word_after before) on.slot
 
@@ -64,8 +68,10 @@ module _ (a : Parts) (before rest : List Played) (x : Played) (s : SlotName) (m 
   pub step_word : word_after (before ++ x ∷ []) s ≡ stepped step m.found
   step_word =
       let here : word_after (before ++ x ∷ []) m.slot ≡ stepped_by m.step (word_after before m.slot) = word_here before x m on.mark in
-      let next : stepped_by m.step (word_after before m.slot) ≡ stepped step (word_after before m.slot) = ap (λ o. stepped_by o (word_after before m.slot)) on.steps in
-      let found : stepped step (word_after before m.slot) ≡ stepped step m.found = ap (stepped step) (sym (found_is a before rest x m h parts on.mark)) in
+      let next : stepped_by m.step (word_after before m.slot) ≡ stepped step (word_after before m.slot) =
+      ap (λ o. stepped_by o (word_after before m.slot)) on.steps in
+      let found : stepped step (word_after before m.slot) ≡ stepped step m.found =
+      ap (stepped step) (sym (found_is a before rest x m h parts on.mark)) in
       ap (word_after (before ++ x ∷ [])) (sym on.slot) ∙ here ∙ next ∙ found
 
   pub step_number : number_after (before ++ x ∷ []) s ≡ number_after before s + 1
@@ -78,4 +84,5 @@ module _ (a : Parts) (before rest : List Played) (x : Played) (s : SlotName) (m 
   step_away p none =
       let some = unfree step m.found none step_enabled in
       let away = unfree_away a x.line p m h (mark_in a.ps x m (in_middle before rest a.ps x parts) on.mark) (λ (held, refs). omega arith) in
-      subst (λ k. is_away (acts_before a x.line p) s k ≡ true) (ap number_of step_found) (subst (λ z. is_away (acts_before a x.line p) z (number_of m.found) ≡ true) on.slot away)
+      subst (λ k. is_away (acts_before a x.line p) s k ≡ true) (ap number_of step_found)
+      (subst (λ z. is_away (acts_before a x.line p) z (number_of m.found) ≡ true) on.slot away)

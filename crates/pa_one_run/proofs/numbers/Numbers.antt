@@ -38,7 +38,8 @@ use Rattle.pa_lists.proofs.Elements.{in_one}
 -- ---- before each line
 
 abbrev HasNumbers : Parts → SlotName → ℕ → List Played → List Played → Caches → Type 0
-HasNumbers a s p before rest all = (n : ℕ) → IsCut a n before rest → AreNumbered (acts_before a n p) s (number_after before s) (Stands all s p a.threads)
+HasNumbers a s p before rest all = (n : ℕ) → IsCut a n before rest →
+    AreNumbered (acts_before a n p) s (number_after before s) (Stands all s p a.threads)
 
 numbers_start : (a : Parts) (s : SlotName) (p : ℕ) → IsFiled a → HasNumbers a s p [] a.ps no_caches
 numbers_start a s p h n cut = rw (acts_none a n p h cut) (record {
@@ -47,32 +48,40 @@ numbers_start a s p h n cut = rw (acts_none a n p h cut) (record {
   gone = λ k less. absurd (omega arith);
 })
 
-numbers_next : (a : Parts) (before rest : List Played) (x : Played) (all : Caches) (next : Cache) (s : SlotName) (p class : ℕ) → IsNext a before rest x all next s p class →
+numbers_next : (a : Parts) (before rest : List Played) (x : Played) (all : Caches) (next : Cache) (s : SlotName) (p class : ℕ) →
+    IsNext a before rest x all next s p class →
     HasNumbers a s p before (x ∷ rest) all → HasNumbers a s p (before ++ x ∷ []) rest (with_cache all x.thread next)
 numbers_next a before rest x all next s p class step has n cut =
     let after = next_numbers a before rest x all next s p class step (has x.line (cut_here a before rest x step.filed step.parts)) in
-    subst (λ acts. AreNumbered acts s (number_after (before ++ x ∷ []) s) (Stands (with_cache all x.thread next) s p a.threads)) (sym (acts_next a before rest x n p step.filed step.parts cut)) after
+    subst (λ acts. AreNumbered acts s (number_after (before ++ x ∷ []) s) (Stands (with_cache all x.thread next) s p a.threads))
+    (sym (acts_next a before rest x n p step.filed step.parts cut)) after
 
-numbers_from : (a : Parts) (s : SlotName) (p class : ℕ) (before xs rest : List Played) (all last : Caches) → IsFiled a → IsOfClass a.roots s p class → a.ps ≡ before ++ (xs ++ rest) →
-    CachesTo a.partitions a.roots no_caches before all → HasNumbers a s p before (xs ++ rest) all → CachesTo a.partitions a.roots all xs last → HasNumbers a s p (before ++ xs) rest last
+numbers_from : (a : Parts) (s : SlotName) (p class : ℕ) (before xs rest : List Played) (all last : Caches) → IsFiled a →
+    IsOfClass a.roots s p class → a.ps ≡ before ++ (xs ++ rest) →
+    CachesTo a.partitions a.roots no_caches before all → HasNumbers a s p before (xs ++ rest) all →
+    CachesTo a.partitions a.roots all xs last → HasNumbers a s p (before ++ xs) rest last
 numbers_from a s p class before [] rest all last h of parts to has same =
     subst (λ ys. HasNumbers a s p ys rest last) (sym (append-nil before)) (subst (HasNumbers a s p before rest) (sym same) has)
 numbers_from a s p class before (x ∷ xs) rest all last h of parts to has (next, row, on) =
     let step : IsNext a before (xs ++ rest) x all next s p class = record { filed = h; parts = parts; caches = to; row = row; of = of } in
     subst (λ ys. HasNumbers a s p ys rest last) (append_assoc before (x ∷ []) xs)
-    (numbers_from a s p class (before ++ x ∷ []) xs rest (with_cache all x.thread next) last h of (parts ∙ sym (append_assoc before (x ∷ []) (xs ++ rest)))
+    (numbers_from a s p class (before ++ x ∷ []) xs rest (with_cache all x.thread next) last h of
+    (parts ∙ sym (append_assoc before (x ∷ []) (xs ++ rest)))
     (caches_snoc a.partitions a.roots no_caches all before x next to row)
     (numbers_next a before (xs ++ rest) x all next s p class step has) on)
 
 -- each slot of a class has its numbers before each line
-pub numbers_before : (a : Parts) (s : SlotName) (p class : ℕ) (before rest : List Played) (all : Caches) → IsFiled a → IsOfClass a.roots s p class → a.ps ≡ before ++ rest →
+pub numbers_before : (a : Parts) (s : SlotName) (p class : ℕ) (before rest : List Played) (all : Caches) → IsFiled a →
+    IsOfClass a.roots s p class → a.ps ≡ before ++ rest →
     CachesTo a.partitions a.roots no_caches before all → HasNumbers a s p before rest all
 numbers_before a s p class before rest all h of parts to =
-    numbers_from a s p class [] before rest no_caches all h of parts refl (subst (λ ys. HasNumbers a s p [] ys no_caches) parts (numbers_start a s p h)) to
+    numbers_from a s p class [] before rest no_caches all h of parts refl
+    (subst (λ ys. HasNumbers a s p [] ys no_caches) parts (numbers_start a s p h)) to
 
 -- ---- a fill is its line's only entry
 
-some_left : (class : ℕ) (asked : Option ℕ) (slots : List Numbered) (m : Numbered) (acts : List RootAct) → Contains acts (Fill class asked slots) → Contains slots m → 1 ≤ left_in m.slot acts
+some_left : (class : ℕ) (asked : Option ℕ) (slots : List Numbered) (m : Numbered) (acts : List RootAct) →
+    Contains acts (Fill class asked slots) → Contains slots m → 1 ≤ left_in m.slot acts
 some_left class asked slots m [] among member = absurd (not_in_none (Fill class asked slots) among)
 some_left class asked slots m (act ∷ acts) among member = elim (in_cases act (Fill class asked slots) acts among) [
   | inl e ↦
@@ -110,7 +119,8 @@ module _ (a : Parts) (x : Played) (p : ℕ) (s : SlotName) (real : p < a.partiti
   ]
   return_alone slot cache after (inr (q, asked, number, direct, only, becomes)) = only_alone q (unmap_at asked slot.slot number) only
 
-  done_alone : (o : Option Step) (seen : Seen) (cache after : Cache) → DoneRow a.roots x o seen cache after → IsAlone (acts_of a.roots x.line p)
+  done_alone : (o : Option Step) (seen : Seen) (cache after : Cache) → DoneRow a.roots x o seen cache after →
+      IsAlone (acts_of a.roots x.line p)
   done_alone None seen cache after (acts, becomes) = none_left [] (acts p) refl
   done_alone (Some step) seen cache after (inl (returning, row)) = return_alone _ cache after row
   done_alone (Some step) seen cache after (inr (other, acts, becomes)) = none_left [] (acts p) refl
@@ -119,7 +129,8 @@ module _ (a : Parts) (x : Played) (p : ℕ) (s : SlotName) (real : p < a.partiti
   full_alone cache after (inl (q, c, asked, asks, empty, only, becomes)) = only_alone q (Full (Some c) asked) only
   full_alone cache after (inr (q, size, asked, asks, only, becomes)) = only_alone q (Full None asked) only
 
-  row_alone : (answer : Answer) (cache after : Cache) → CacheRow a.partitions a.roots x answer cache after → IsAlone (acts_of a.roots x.line p)
+  row_alone : (answer : Answer) (cache after : Cache) → CacheRow a.partitions a.roots x answer cache after →
+      IsAlone (acts_of a.roots x.line p)
   row_alone (answers.Made seen usable) cache after row = made_alone seen cache after row
   row_alone (answers.Done seen) cache after row = done_alone (step_of x.op) seen cache after row
   row_alone (answers.Full entry) cache after row = full_alone cache after row
@@ -135,12 +146,15 @@ act_class a line p class asked slots m among member =
     let (e, stands, here, is) = act_entry a.roots line p (Fill class asked slots) among in
     (e, asked, slots, stands, is, map_in (λ (n : Numbered). n.slot) slots m member)
 
-pub filled_numbers : (a : Parts) (before rest : List Played) (x : Played) (p class : ℕ) (asked : Option ℕ) (slots : List Numbered) (m : Numbered) → IsFiled a → a.ps ≡ before ++ x ∷ rest →
+pub filled_numbers : (a : Parts) (before rest : List Played) (x : Played) (p class : ℕ) (asked : Option ℕ) (slots : List Numbered)
+    (m : Numbered) → IsFiled a → a.ps ≡ before ++ x ∷ rest →
     Contains (acts_of a.roots x.line p) (Fill class asked slots) → Contains slots m → m.number ≡ number_of (word_after before m.slot)
 filled_numbers a before rest x p class asked slots m h parts among member =
     let (all, next, to', row) = record_row a before rest x h parts in
     let of = act_class a x.line p class asked slots m among member in
     let are = numbers_before a m.slot p class before (x ∷ rest) all h of parts to' x.line (cut_here a before rest x h parts) in
     let some = some_left class asked slots m (acts_of a.roots x.line p) among member in
-    let only = alone_is (acts_of a.roots x.line p) (Fill class asked slots) (row_alone a x p m.slot (class_partition a m.slot p class h of) some x.answer (all x.thread) next row) among in
-    root_number (acts_before a x.line p) m.slot (number_after before m.slot) m.number (Stands all m.slot p a.threads) are (fill_finds a x.line p class asked slots m h only member)
+    let only = alone_is (acts_of a.roots x.line p) (Fill class asked slots)
+    (row_alone a x p m.slot (class_partition a m.slot p class h of) some x.answer (all x.thread) next row) among in
+    root_number (acts_before a x.line p) m.slot (number_after before m.slot) m.number (Stands all m.slot p a.threads) are
+    (fill_finds a x.line p class asked slots m h only member)

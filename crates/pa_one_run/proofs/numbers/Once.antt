@@ -23,12 +23,14 @@ use Rattle.pa_one_run.proofs.words.Found.{front_slots, front_word}
 use Rattle.pa_one_run.proofs.lines.Cuts.{IsCut, entries_recorded, early_in}
 
 -- the entries before a line are those on the lines of the records before it
-pub front_below : (a : Parts) (n p : ℕ) (before rest : List Played) → IsFiled a → IsCut a n before rest → IsFront before (a.roots p) (below entry_line n (a.roots p))
+pub front_below : (a : Parts) (n p : ℕ) (before rest : List Played) → IsFiled a → IsCut a n before rest →
+    IsFront before (a.roots p) (below entry_line n (a.roots p))
 front_below a n p before rest h cut =
     let journal = a.roots p in
     record {
       rest = on entry_line n journal ++ past entry_line n journal;
-      parts = below_on_past entry_line n journal (h.order.journals p) ∙ append_assoc (below entry_line n journal) (on entry_line n journal) (past entry_line n journal);
+      parts = below_on_past entry_line n journal (h.order.journals p) ∙
+          append_assoc (below entry_line n journal) (on entry_line n journal) (past entry_line n journal);
       each = λ e among.
           let (member, less) = in_below entry_line n journal e among in
           let (x, (among', line)) = entries_recorded a p e h member in
@@ -41,7 +43,8 @@ front_below a n p before rest h cut =
           ];
     }
 
-pub once : (a : Parts) (n p : ℕ) (before rest : List Played) (all : Caches) (s : SlotName) (e : RootEntry) → IsFiled a → IsCut a n before rest → CachesTo a.partitions a.roots no_caches before all →
+pub once : (a : Parts) (n p : ℕ) (before rest : List Played) (all : Caches) (s : SlotName) (e : RootEntry) → IsFiled a →
+    IsCut a n before rest → CachesTo a.partitions a.roots no_caches before all →
     p < a.partitions → Contains (a.roots p) e → Contains (leaves_by e.act) s →
     IsOnce (root_at a n p) s (cached_times s all p a.threads + busy (word_after before s))
 once a n p before rest all s e h cut caches few among leaves =
@@ -50,7 +53,8 @@ once a n p before rest all s e h cut caches few among leaves =
       are_roots = h.journals;
       are_pool = h.pool;
       lines = pairs_front OtherRecord before rest (subst (λ zs. AllPairs OtherRecord zs) cut.parts (rising_differ a.ps h.rising));
-      threads_below = all_front (λ (x : Played). x.thread < a.threads) before rest (subst (λ zs. All (λ (x : Played). x.thread < a.threads) zs) cut.parts h.few);
+      threads_below = all_front (λ (x : Played). x.thread < a.threads) before rest
+          (subst (λ zs. All (λ (x : Played). x.thread < a.threads) zs) cut.parts h.few);
       steps = front_slots a before rest h cut.parts;
       below = few;
       parts = front_below a n p before rest h cut;

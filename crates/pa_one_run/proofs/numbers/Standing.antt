@@ -23,7 +23,8 @@ away_unnamed : (acts : List RootAct) (s : SlotName) (k : ℕ) → (k ≡ 0 → �
 away_unnamed acts s k some none = rw (none, ne_eqb k 0 some) refl
 
 -- a slot that is numbered is in the root at no number but its own
-pub root_number : (acts : List RootAct) (s : SlotName) (n k : ℕ) (Listed : Numbered → Type 0) → AreNumbered acts s n Listed → is_away acts s k ≡ false → k ≡ n
+pub root_number : (acts : List RootAct) (s : SlotName) (n k : ℕ) (Listed : Numbered → Type 0) → AreNumbered acts s n Listed →
+    is_away acts s k ≡ false → k ≡ n
 root_number acts s n k Listed are root = elim (cases_eq k n) [
   | inl e ↦ e
   | inr other ↦ elim (cases_lt k n) [
@@ -32,14 +33,17 @@ root_number acts s n k Listed are root = elim (cases_eq k n) [
   ]
 ]
 
-away_more : (acts more : List RootAct) (s : SlotName) (k : ℕ) → is_away (acts ++ more) s k ≡ away_after (is_away acts s k) (ways_of s k more)
-away_more acts more s k = ap (away_after (not (k == 0))) (ways_append s k acts more) ∙ away_append (not (k == 0)) (ways_of s k acts) (ways_of s k more)
+away_more : (acts more : List RootAct) (s : SlotName) (k : ℕ) →
+    is_away (acts ++ more) s k ≡ away_after (is_away acts s k) (ways_of s k more)
+away_more acts more s k = ap (away_after (not (k == 0))) (ways_append s k acts more) ∙
+    away_append (not (k == 0)) (ways_of s k acts) (ways_of s k more)
 
 -- entries that don't name it at a number
 ways_still : (acts more : List RootAct) (s : SlotName) (k : ℕ) → ways_of s k more ≡ [] → ways_of s k (acts ++ more) ≡ ways_of s k acts
 ways_still acts more s k none = ways_append s k acts more ∙ ap (λ ws. ways_of s k acts ++ ws) none ∙ append-nil (ways_of s k acts)
 
-away_still : (acts more : List RootAct) (s : SlotName) (k : ℕ) → ways_of s k more ≡ [] → is_away acts s k ≡ true → is_away (acts ++ more) s k ≡ true
+away_still : (acts more : List RootAct) (s : SlotName) (k : ℕ) → ways_of s k more ≡ [] → is_away acts s k ≡ true →
+    is_away (acts ++ more) s k ≡ true
 away_still acts more s k none away = ap (away_after (not (k == 0))) (ways_still acts more s k none) ∙ away
 
 module _ (acts more : List RootAct) (s : SlotName) (n : ℕ) (Listed Next : Numbered → Type 0) (are : AreNumbered acts s n Listed) where
@@ -61,7 +65,8 @@ module _ (acts more : List RootAct) (s : SlotName) (n : ℕ) (Listed Next : Numb
       → ((m : Numbered) → back m → m.slot ≡ s → ⊥) ⊎ ((m : Numbered) → Next m → ⊥) → AreNumbered (acts ++ more) s n Next
   gives back named stood old (inl unnamed) = still (λ k. named k (λ m is same number. unnamed m is same)) old
   gives back named stood old (inr nowhere) =
-      let other : (k : ℕ) → (k ≡ n → ⊥) → ways_of s k more ≡ [] = λ k ne. named k (λ m is same number. ne (sym number ∙ (are.listed m (stood m is same)).0)) in
+      let other : (k : ℕ) → (k ≡ n → ⊥) → ways_of s k more ≡ [] =
+      λ k ne. named k (λ m is same number. ne (sym number ∙ (are.listed m (stood m is same)).0)) in
       record {
         listed = λ m stands. absurd (nowhere m stands);
         later = λ k more'. ways_still acts more s k (other k (λ e. omega arith)) ∙ are.later k more';
@@ -83,14 +88,18 @@ out_some : (b : Bool) (ws vs : List Way) → ws ≡ Out ∷ vs → away_after tr
 out_some b ws vs is away = let away' : away_after true vs ≡ true = rw is at away in rw is away'
 
 -- a fill takes slots that are in the root
-pub filled : (acts more : List RootAct) (s : SlotName) (n class : ℕ) (asked : Option ℕ) (slots : List Numbered) (Listed Next : Numbered → Type 0) → AreNumbered acts s n Listed →
+pub filled : (acts more : List RootAct) (s : SlotName) (n class : ℕ) (asked : Option ℕ) (slots : List Numbered)
+    (Listed Next : Numbered → Type 0) → AreNumbered acts s n Listed →
     more ≡ Fill class asked slots ∷ [] → ((m : Numbered) → Contains slots m → m.slot ≡ s → is_away acts s m.number ≡ false) →
     ((m : Numbered) → Next m → Listed m ⊎ (Contains slots m × (m.slot ≡ s))) → AreNumbered (acts ++ more) s n Next
 filled acts more s n class asked slots Listed Next are only root new =
-    let number : (m : Numbered) → Contains slots m → m.slot ≡ s → m.number ≡ n = λ m among same. root_number acts s n m.number Listed are (root m among same) in
+    let number : (m : Numbered) → Contains slots m → m.slot ≡ s →
+    m.number ≡ n = λ m among same. root_number acts s n m.number Listed are (root m among same) in
     let ways : (k : ℕ) → ways_of s k more ≡ ways_in Out s k slots = λ k. ap (ways_of s k) only ∙ append-nil (ways_in Out s k slots) in
-    let other : (k : ℕ) → (k ≡ n → ⊥) → ways_of s k more ≡ [] = λ k ne. ways k ∙ ways_in_none Out s k slots (λ m among same is. ne (sym is ∙ number m among same)) in
-    let after : is_away (acts ++ more) s n ≡ away_after (is_away acts s n) (ways_in Out s n slots) = away_more acts more s n ∙ ap (away_after (is_away acts s n)) (ways n) in
+    let other : (k : ℕ) → (k ≡ n → ⊥) → ways_of s k more ≡ [] = λ k ne. ways k ∙
+    ways_in_none Out s k slots (λ m among same is. ne (sym is ∙ number m among same)) in
+    let after : is_away (acts ++ more) s n ≡ away_after (is_away acts s n) (ways_in Out s n slots) = away_more acts more s n ∙
+    ap (away_after (is_away acts s n)) (ways n) in
     record {
       listed = λ m stands. elim (new m stands) [
         | inl old ↦ let (is, away) = are.listed m old in (is, after ∙ out_away (is_away acts s n) s n slots away)

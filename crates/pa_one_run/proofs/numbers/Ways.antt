@@ -57,7 +57,8 @@ WaysFit b (w ∷ ws) = (b ≡ not (is_out w)) × WaysFit (is_out w) ws
 
 pub ways_append : (s : SlotName) (k : ℕ) (a b : List RootAct) → ways_of s k (a ++ b) ≡ ways_of s k a ++ ways_of s k b
 ways_append s k [] b = refl
-ways_append s k (x ∷ a) b = ap (λ ws. ways_by s k x ++ ws) (ways_append s k a b) ∙ sym (append_assoc (ways_by s k x) (ways_of s k a) (ways_of s k b))
+ways_append s k (x ∷ a) b = ap (λ ws. ways_by s k x ++ ws) (ways_append s k a b) ∙
+    sym (append_assoc (ways_by s k x) (ways_of s k a) (ways_of s k b))
 
 pub away_append : (b : Bool) (ws vs : List Way) → away_after b (ws ++ vs) ≡ away_after (away_after b ws) vs
 away_append b [] vs = refl
@@ -77,12 +78,15 @@ hits_none s k n none = elim (same_slot_cases n.slot s) [
 hits_here : (s : SlotName) (k : ℕ) (n : Numbered) → n.slot ≡ s → n.number ≡ k → hits s k n ≡ true
 hits_here s k n same number = rw (same_slot_yes n.slot s same, eq-eqb n.number k number) refl
 
-pub ways_in_none : (w : Way) (s : SlotName) (k : ℕ) (ns : List Numbered) → ((n : Numbered) → Contains ns n → n.slot ≡ s → n.number ≡ k → ⊥) → ways_in w s k ns ≡ []
+pub ways_in_none : (w : Way) (s : SlotName) (k : ℕ) (ns : List Numbered) →
+    ((n : Numbered) → Contains ns n → n.slot ≡ s → n.number ≡ k → ⊥) → ways_in w s k ns ≡ []
 ways_in_none w s k [] none = refl
-ways_in_none w s k (n ∷ ns) none = rw (hits_none s k n (none n (first_in n ns))) (ways_in_none w s k ns (λ m among. none m (later_in n m ns among)))
+ways_in_none w s k (n ∷ ns) none =
+    rw (hits_none s k n (none n (first_in n ns))) (ways_in_none w s k ns (λ m among. none m (later_in n m ns among)))
 
 -- a list that has the slot at the number has its way first
-pub ways_in_some : (w : Way) (s : SlotName) (k : ℕ) (ns : List Numbered) (n : Numbered) → Contains ns n → n.slot ≡ s → n.number ≡ k → (vs : List Way) × (ways_in w s k ns ≡ w ∷ vs)
+pub ways_in_some : (w : Way) (s : SlotName) (k : ℕ) (ns : List Numbered) (n : Numbered) → Contains ns n → n.slot ≡ s → n.number ≡ k →
+    (vs : List Way) × (ways_in w s k ns ≡ w ∷ vs)
 ways_in_some w s k [] n among same number = absurd (not_in_none n among)
 ways_in_some w s k (m ∷ ns) n among same number = elim (cases_Bool (hits s k m)) [
   | inl hit ↦ (ways_in w s k ns, rw hit refl)
@@ -105,7 +109,8 @@ out_away b s k (n ∷ ns) is = elim (cases_Bool (hits s k n)) [
 both_none : (ws vs : List Way) → ws ≡ [] → vs ≡ [] → ws ++ vs ≡ []
 both_none ws vs e f = rw (e, f) refl
 
-batches_none : (s : SlotName) (k fuel : ℕ) (ns : List Numbered) → ((n : Numbered) → Contains ns n → n.slot ≡ s → n.number ≡ k → ⊥) → ways_of s k (batches fuel ns) ≡ []
+batches_none : (s : SlotName) (k fuel : ℕ) (ns : List Numbered) → ((n : Numbered) → Contains ns n → n.slot ≡ s → n.number ≡ k → ⊥) →
+    ways_of s k (batches fuel ns) ≡ []
 batches_none s k zero ns none = refl
 batches_none s k (suc fuel) [] none = refl
 batches_none s k (suc fuel) (n ∷ ns) none =
@@ -114,11 +119,13 @@ batches_none s k (suc fuel) (n ∷ ns) none =
     (batches_none s k fuel (drop 16 (n ∷ ns)) (λ m among. none m (drop_in 16 (n ∷ ns) m among)))
 
 -- what is given back has no way if the lists don't have the slot at the number
-pub gives_none : (s : SlotName) (k : ℕ) (ns : List Numbered) → ((n : Numbered) → Contains ns n → n.slot ≡ s → n.number ≡ k → ⊥) → ways_of s k (gives ns) ≡ []
+pub gives_none : (s : SlotName) (k : ℕ) (ns : List Numbered) → ((n : Numbered) → Contains ns n → n.slot ≡ s → n.number ≡ k → ⊥) →
+    ways_of s k (gives ns) ≡ []
 gives_none s k ns none = batches_none s k (length ns) ns none
 
 pub purge_none : (s : SlotName) (k : ℕ) (lists : ℕ → List Numbered) (class many : ℕ) →
-    ((c : ℕ) (n : Numbered) → c < class + many → Contains (lists c) n → n.slot ≡ s → n.number ≡ k → ⊥) → ways_of s k (purge_acts lists class many) ≡ []
+    ((c : ℕ) (n : Numbered) → c < class + many → Contains (lists c) n → n.slot ≡ s → n.number ≡ k → ⊥) →
+    ways_of s k (purge_acts lists class many) ≡ []
 purge_none s k lists class zero none = refl
 purge_none s k lists class (suc many) none =
     ways_append s k (gives (lists class)) (purge_acts lists (class + 1) many)
@@ -131,7 +138,8 @@ purge_none s k lists class (suc many) none =
 abbrev pub way_at : Move → Way
 way_at m = m.way
 
-slots_moves : (line : ℕ) (w : Way) (s : SlotName) (k : ℕ) (ns : List Numbered) → map way_at (filter (is_move_of s k) (map (move_of line w) ns)) ≡ ways_in w s k ns
+slots_moves : (line : ℕ) (w : Way) (s : SlotName) (k : ℕ) (ns : List Numbered) →
+    map way_at (filter (is_move_of s k) (map (move_of line w) ns)) ≡ ways_in w s k ns
 slots_moves line w s k [] = refl
 slots_moves line w s k (n ∷ ns) = elim (cases_Bool (hits s k n)) [
   | inl hit ↦ rw hit (ap (λ vs. w ∷ vs) (slots_moves line w s k ns))
@@ -146,7 +154,8 @@ act_moves line s k (Give slots) = slots_moves line Back s k slots
 act_moves line s k (Unmap asked slot) = slots_moves line Back s k (slot ∷ [])
 act_moves line s k Purge = refl
 
-pub moves_ways : (journal : List RootEntry) (s : SlotName) (k : ℕ) → map way_at (moves_at journal s k) ≡ ways_of s k (map (λ (e : RootEntry). e.act) journal)
+pub moves_ways : (journal : List RootEntry) (s : SlotName) (k : ℕ) →
+    map way_at (moves_at journal s k) ≡ ways_of s k (map (λ (e : RootEntry). e.act) journal)
 moves_ways [] s k = refl
 moves_ways (e ∷ es) s k =
     let here = moves_by e.line e.act in
@@ -163,7 +172,8 @@ moves_fit ps h b (m ∷ ms) is (x, line, need, rest) =
 
 first_with : (ps : List Played) (s : SlotName) (k : ℕ) (h : Holder) → IsFirstHolder ps s k h → is_with h ≡ not (k == 0)
 first_with ps s k h (inl (none, root)) = rw (root, eq-eqb k 0 none) refl
-first_with ps s k h (inr (x, (among, m, step, marked, slot, steps, returning, number), thread)) = rw (thread, ne_eqb k 0 (λ e. omega arith)) refl
+first_with ps s k h (inr (x, (among, m, step, marked, slot, steps, returning, number), thread)) =
+    rw (thread, ne_eqb k 0 (λ e. omega arith)) refl
 
 -- the moves of a slot at a number fit, from the root at 0 and from a thread at another
 pub holders_fit : (ps : List Played) (s : SlotName) (k : ℕ) (ms : List Move) → HasHolders ps s k ms → WaysFit (not (k == 0)) (map way_at ms)

@@ -35,12 +35,14 @@ made_place a b before s h (q, seen, usable, among, is, same) =
       ]
       | inr (p, size, asks, direct) ↦ elim (made_class b q seen usable h.filed' (in_front before h.rest' b.ps q h.parts' among) is) [
         | inl (p', c', asks', of') ↦ absurd (class_or_map q p' p c' size asks' asks)
-        | inr (p', size', asks', direct') ↦ inr (p, direct, subst (λ z. IsDirect b.roots seen.slot z) (map_once q p' p size' size asks' asks).0 direct')
+        | inr (p', size', asks', direct') ↦
+            inr (p, direct, subst (λ z. IsDirect b.roots seen.slot z) (map_once q p' p size' size asks' asks).0 direct')
       ]
     ])
 
 -- the partition and the class of a slot that was made before are the same in both runs
-pub class_alike : (a b : Parts) (before : List Played) (s : SlotName) (p q c d : ℕ) → AreAfter a b before → IsMadeIn before s → IsOfClass a.roots s p c → IsOfClass b.roots s q d → (p ≡ q) × (c ≡ d)
+pub class_alike : (a b : Parts) (before : List Played) (s : SlotName) (p q c d : ℕ) → AreAfter a b before → IsMadeIn before s →
+    IsOfClass a.roots s p c → IsOfClass b.roots s q d → (p ≡ q) × (c ≡ d)
 class_alike a b before s p q c d h made of of' = elim (made_place a b before s h made) [
   | inl (r, e, one, two) ↦
       let (f, g) = one_class a s p r c e h.filed of one in
@@ -49,20 +51,23 @@ class_alike a b before s p q c d h made of of' = elim (made_place a b before s h
   | inr (r, one, two) ↦ absurd (class_or_direct a s p r c h.filed of one)
 ]
 
-pub direct_alike : (a b : Parts) (before : List Played) (s : SlotName) (p q : ℕ) → AreAfter a b before → IsMadeIn before s → IsDirect a.roots s p → IsDirect b.roots s q → p ≡ q
+pub direct_alike : (a b : Parts) (before : List Played) (s : SlotName) (p q : ℕ) → AreAfter a b before → IsMadeIn before s →
+    IsDirect a.roots s p → IsDirect b.roots s q → p ≡ q
 direct_alike a b before s p q h made of of' = elim (made_place a b before s h made) [
   | inl (r, e, one, two) ↦ absurd (class_or_direct a s r p e h.filed one of)
   | inr (r, one, two) ↦ one_direct a s p r h.filed of one ∙ one_direct b s r q h.filed' two of'
 ]
 
 -- what is of a class in the one is no direct map in the other
-pub class_not_direct : (a b : Parts) (before : List Played) (s : SlotName) (p q c : ℕ) → AreAfter a b before → IsMadeIn before s → IsOfClass a.roots s p c → IsDirect b.roots s q → ⊥
+pub class_not_direct : (a b : Parts) (before : List Played) (s : SlotName) (p q c : ℕ) → AreAfter a b before → IsMadeIn before s →
+    IsOfClass a.roots s p c → IsDirect b.roots s q → ⊥
 class_not_direct a b before s p q c h made of of' = elim (made_place a b before s h made) [
   | inl (r, e, one, two) ↦ class_or_direct b s r q e h.filed' two of'
   | inr (r, one, two) ↦ class_or_direct a s p r c h.filed of one
 ]
 
-pub direct_not_class : (a b : Parts) (before : List Played) (s : SlotName) (p q c : ℕ) → AreAfter a b before → IsMadeIn before s → IsDirect a.roots s p → IsOfClass b.roots s q c → ⊥
+pub direct_not_class : (a b : Parts) (before : List Played) (s : SlotName) (p q c : ℕ) → AreAfter a b before → IsMadeIn before s →
+    IsDirect a.roots s p → IsOfClass b.roots s q c → ⊥
 direct_not_class a b before s p q c h made of of' = elim (made_place a b before s h made) [
   | inl (r, e, one, two) ↦ class_or_direct a s r p e h.filed one of
   | inr (r, one, two) ↦ class_or_direct b s q r c h.filed' of' two

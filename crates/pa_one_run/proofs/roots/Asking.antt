@@ -34,7 +34,8 @@ pub record IsNamer (a : Parts) (n p k : ℕ) (f : RootEntry) : Type 0 where
   pub on : Contains (on entry_line n (a.roots p)) f
   pub names : asked_by f.act ≡ Some k
 
-pub namer_of : (a : Parts) (n k : ℕ) (d : PoolEntry) → IsFiled a → slice_get a.pools k ≡ Some d → d.line ≡ n → (f : RootEntry) × IsNamer a n d.partition k f
+pub namer_of : (a : Parts) (n k : ℕ) (d : PoolEntry) → IsFiled a → slice_get a.pools k ≡ Some d → d.line ≡ n → (f : RootEntry) ×
+    IsNamer a n d.partition k f
 namer_of a n k d h at here =
     let (i, f, there, names, line) = h.pool.named k d at in
     (f, record { on = on_in entry_line n (a.roots d.partition) f (at_in (a.roots d.partition) i f there) (line ∙ here); names = names })
@@ -55,19 +56,24 @@ pool_line_replays a n h =
     (subst (λ es. PoolReplays a.pools es (new_pool a.supers)) (below_on_past pool_line n a.pools h.order.pool) h.pool.fits))
 
 -- an entry of the pool on a line is the one that the line's only entry of a journal names
-one_named : (a : Parts) (n p j k : ℕ) (act : RootAct) (f : RootEntry) (d : PoolEntry) → IsFiled a → OnlyActs a.roots n p (act ∷ []) → on entry_line n (a.roots p) ≡ f ∷ [] →
+one_named : (a : Parts) (n p j k : ℕ) (act : RootAct) (f : RootEntry) (d : PoolEntry) → IsFiled a → OnlyActs a.roots n p (act ∷ []) →
+    on entry_line n (a.roots p) ≡ f ∷ [] →
     asked_by f.act ≡ Some j → slice_get a.pools k ≡ Some d → d.line ≡ n → k ≡ j
 one_named a n p j k act f d h only one asks at here =
     let (g, namer) = namer_of a n k d h at here in
     elim (cases_eq d.partition p) [
       | inl same ↦
-          let among : Contains (f ∷ []) g = subst (λ es. Contains es g) one (subst (λ q. Contains (on entry_line n (a.roots q)) g) same namer.on) in
+          let among : Contains (f ∷ []) g =
+          subst (λ es. Contains es g) one (subst (λ q. Contains (on entry_line n (a.roots q)) g) same namer.on) in
           of_some k j (sym namer.names ∙ ap (λ (z : RootEntry). asked_by z.act) (sym (in_one f g among)) ∙ asks)
       | inr other ↦
-          absurd (not_in_none g.act (subst (λ acts. Contains acts g.act) (only.1 d.partition other) (map_in (λ (z : RootEntry). z.act) (on entry_line n (a.roots d.partition)) g namer.on)))
+          absurd (not_in_none g.act
+          (subst (λ acts. Contains acts g.act) (only.1 d.partition other)
+          (map_in (λ (z : RootEntry). z.act) (on entry_line n (a.roots d.partition)) g namer.on)))
     ]
 
-pub asks_pool : (a : Parts) (n p j : ℕ) (act : RootAct) → IsFiled a → OnlyActs a.roots n p (act ∷ []) → asked_by act ≡ Some j → (e : PoolEntry) × IsAsked a n p j e
+pub asks_pool : (a : Parts) (n p j : ℕ) (act : RootAct) → IsFiled a → OnlyActs a.roots n p (act ∷ []) → asked_by act ≡ Some j →
+    (e : PoolEntry) × IsAsked a n p j e
 asks_pool a n p j act h only asks =
     let (f, one, is) = on_line a n p act only.0 in
     let asks' : asked_by f.act ≡ Some j = ap asked_by is ∙ asks in
@@ -77,7 +83,8 @@ asks_pool a n p j act h only asks =
     let (member, line) = in_on entry_line n (a.roots p) f (subst (λ es. Contains es f) (sym one) (first_in f [])) in
     let named = named_of a p j f e h member asks' at in
     let here : e.line ≡ n = named.line ∙ line in
-    let alone : on pool_line n a.pools ≡ e ∷ [] = on_alone pool_line n a.pools j e at here (λ k d there same. one_named a n p j k act f d h only one asks' there same) in
+    let alone : on pool_line n a.pools ≡ e ∷ [] =
+    on_alone pool_line n a.pools j e at here (λ k d there same. one_named a n p j k act f d h only one asks' there same) in
     let before = pool_at a n in
     let replays : PoolReplays a.pools (e ∷ []) before = subst (λ es. PoolReplays a.pools es before) alone (pool_line_replays a n h) in (
       e,
@@ -91,7 +98,8 @@ asks_pool a n p j act h only asks =
       },
     )
 
-pub asks_nothing : (a : Parts) (n : ℕ) → IsFiled a → ((p : ℕ) (act : RootAct) → Contains (acts_of a.roots n p) act → asked_by act ≡ None) → on pool_line n a.pools ≡ []
+pub asks_nothing : (a : Parts) (n : ℕ) → IsFiled a → ((p : ℕ) (act : RootAct) → Contains (acts_of a.roots n p) act → asked_by act ≡ None) →
+    on pool_line n a.pools ≡ []
 asks_nothing a n h none =
     on_none pool_line n a.pools
     (λ d among here.
@@ -101,7 +109,8 @@ asks_nothing a n h none =
     not_some k (sym no ∙ namer.names))
 
 -- entries of the pool that are named on one line by the same acts
-pub asked_alike : (a b : Parts) (n p i j : ℕ) (e f : PoolEntry) → Agrees n a b → IsAsked a n p i e → IsAsked b n p j f → e.act ≡ f.act → (i ≡ j) × (on pool_line n a.pools ≡ on pool_line n b.pools)
+pub asked_alike : (a b : Parts) (n p i j : ℕ) (e f : PoolEntry) → Agrees n a b → IsAsked a n p i e → IsAsked b n p j f → e.act ≡ f.act →
+    (i ≡ j) × (on pool_line n a.pools ≡ on pool_line n b.pools)
 asked_alike a b n p i j e f agrees x y same =
     let it : e ≡ f = same_pool e f (x.line ∙ sym y.line) (x.partition ∙ sym y.partition) same in
     (x.place ∙ ap (λ ds. length ds) agrees.pool ∙ sym y.place, x.only ∙ ap (λ d. d ∷ []) it ∙ sym y.only)

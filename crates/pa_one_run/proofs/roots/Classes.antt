@@ -25,7 +25,8 @@ use Rattle.pa_one_run.proofs.lines.Cuts.{record_row}
 abbrev IsMadeOf : Journals → Played → SlotName → Type 0
 IsMadeOf roots x s = ((p c : ℕ) × AsksForClass x p c × IsOfClass roots s p c) ⊎ ((p size : ℕ) × AsksForMap x p size × IsDirect roots s p)
 
-made_of : (roots : Journals) (x : Played) (seen : Seen) (cache after : Cache) → IsKnown roots cache → MadeRow roots x seen cache after → IsMadeOf roots x seen.slot
+made_of : (roots : Journals) (x : Played) (seen : Seen) (cache after : Cache) → IsKnown roots cache → MadeRow roots x seen cache after →
+    IsMadeOf roots x seen.slot
 made_of roots x seen cache after known (inl (p, class, xs, rest, asks, filled, front, becomes)) =
     let head : Numbered = record { slot = seen.slot; number = number_of seen.found.0 } in
     let f = first_keeps seen.slot roots x.line p class (cache p class) xs (λ n. known p class n) filled in

@@ -38,11 +38,13 @@ pub front_journal : (a : Parts) (n p : ℕ) → IsFiled a → IsJournal a.pools 
 front_journal a n p h = journal_front a.pools (below entry_line n (a.roots p)) (on entry_line n (a.roots p)) (line_journal a n p h)
 
 pub line_replays : (a : Parts) (n p : ℕ) → IsFiled a → RootReplays a.pools (on entry_line n (a.roots p)) (root_at a n p)
-line_replays a n p h = replays_rest a.pools (below entry_line n (a.roots p)) (on entry_line n (a.roots p)) new_root (line_journal a n p h).replays
+line_replays a n p h = replays_rest a.pools (below entry_line n (a.roots p)) (on entry_line n (a.roots p)) new_root
+    (line_journal a n p h).replays
 
 -- ---- one journal beside two pools
 
-pub next_same : (pools other : List PoolEntry) (act : RootAct) (r : Root) → ((j : ℕ) → asked_by act ≡ Some j → act_at pools j ≡ act_at other j) → root_next pools act r ≡ root_next other act r
+pub next_same : (pools other : List PoolEntry) (act : RootAct) (r : Root) →
+    ((j : ℕ) → asked_by act ≡ Some j → act_at pools j ≡ act_at other j) → root_next pools act r ≡ root_next other act r
 next_same pools other (Fill class None slots) r h = refl
 next_same pools other (Fill class (Some j) slots) r h = ap (λ o. (takes class (fill_of class) (opened (super_of o) j r)).root) (h j refl)
 next_same pools other (Map asked slot len) r h = refl
@@ -52,7 +54,8 @@ next_same pools other (Unmap asked slot) r h = refl
 next_same pools other Purge r h = refl
 
 -- a journal leaves one root beside two pools that have the entries that it names
-pub replayed_same : (pools other : List PoolEntry) (es : List RootEntry) (r : Root) → ((e : RootEntry) (j : ℕ) → Contains es e → asked_by e.act ≡ Some j → act_at pools j ≡ act_at other j) →
+pub replayed_same : (pools other : List PoolEntry) (es : List RootEntry) (r : Root) →
+    ((e : RootEntry) (j : ℕ) → Contains es e → asked_by e.act ≡ Some j → act_at pools j ≡ act_at other j) →
     root_replayed pools es r ≡ root_replayed other es r
 replayed_same pools other [] r h = refl
 replayed_same pools other (e ∷ es) r h =
@@ -64,17 +67,20 @@ pub record IsNamed (a : Parts) (p : ℕ) (e : RootEntry) (d : PoolEntry) : Type 
   pub line : d.line ≡ e.line
   pub partition : d.partition ≡ p
 
-pub named_of : (a : Parts) (p j : ℕ) (e : RootEntry) (d : PoolEntry) → IsFiled a → Contains (a.roots p) e → asked_by e.act ≡ Some j → slice_get a.pools j ≡ Some d → IsNamed a p e d
+pub named_of : (a : Parts) (p j : ℕ) (e : RootEntry) (d : PoolEntry) → IsFiled a → Contains (a.roots p) e → asked_by e.act ≡ Some j →
+    slice_get a.pools j ≡ Some d → IsNamed a p e d
 named_of a p j e d h among asks at =
     let (i, here) = in_at (a.roots p) e among in
     let (k, f, there, names, line) = h.pool.named j d at in
     let (same, place) = h.pool.once j p d.partition i k d at (e, here, asks) (f, there, names) in
-    let here' : slice_get (a.roots d.partition) k ≡ Some e = subst (λ q. slice_get (a.roots q) k ≡ Some e) same (subst (λ m. slice_get (a.roots p) m ≡ Some e) place here) in
+    let here' : slice_get (a.roots d.partition) k ≡ Some e =
+    subst (λ q. slice_get (a.roots q) k ≡ Some e) same (subst (λ m. slice_get (a.roots p) m ≡ Some e) place here) in
     let it : f ≡ e = of_some f e (sym there ∙ here') in
     record { line = sym line ∙ ap entry_line it; partition = sym same }
 
 -- an entry of the pool that a journal names before the line is the same in both runs
-named_same : (a b : Parts) (n p j : ℕ) (e : RootEntry) (d : PoolEntry) → IsFiled a → IsFiled b → Agrees n a b → Contains (below entry_line n (a.roots p)) e → asked_by e.act ≡ Some j →
+named_same : (a b : Parts) (n p j : ℕ) (e : RootEntry) (d : PoolEntry) → IsFiled a → IsFiled b → Agrees n a b →
+    Contains (below entry_line n (a.roots p)) e → asked_by e.act ≡ Some j →
     slice_get a.pools j ≡ Some d → slice_get b.pools j ≡ Some d
 named_same a b n p j e d h k agrees among asks at =
     let (member, low) = in_below entry_line n (a.roots p) e among in
@@ -95,18 +101,21 @@ roots_agree a b n p h k agrees =
 -- ---- the entries of a line
 
 -- the one entry of a line
-pub on_line : (a : Parts) (n p : ℕ) (act : RootAct) → acts_of a.roots n p ≡ act ∷ [] → (e : RootEntry) × (on entry_line n (a.roots p) ≡ e ∷ []) × (e.act ≡ act)
+pub on_line : (a : Parts) (n p : ℕ) (act : RootAct) → acts_of a.roots n p ≡ act ∷ [] → (e : RootEntry) ×
+    (on entry_line n (a.roots p) ≡ e ∷ []) × (e.act ≡ act)
 on_line a n p act only = map_one (λ (e : RootEntry). e.act) (on entry_line n (a.roots p)) act only
 
 -- the entry that did an act of a line
-pub act_entry : (roots : Journals) (n p : ℕ) (act : RootAct) → Contains (acts_of roots n p) act → (e : RootEntry) × Contains (roots p) e × (e.line ≡ n) × (e.act ≡ act)
+pub act_entry : (roots : Journals) (n p : ℕ) (act : RootAct) → Contains (acts_of roots n p) act → (e : RootEntry) × Contains (roots p) e ×
+    (e.line ≡ n) × (e.act ≡ act)
 act_entry roots n p act among =
     let (e, member, is) = map_cases (λ (e : RootEntry). e.act) (on entry_line n (roots p)) act among in
     let (stands, line) = in_on entry_line n (roots p) e member in
     (e, stands, line, is)
 
 -- the place of a line's only entry
-pub entry_place : (a : Parts) (n p j : ℕ) (act : RootAct) (e : RootEntry) → IsFiled a → acts_of a.roots n p ≡ act ∷ [] → IsEntry a.roots p j e → e.line ≡ n →
+pub entry_place : (a : Parts) (n p j : ℕ) (act : RootAct) (e : RootEntry) → IsFiled a → acts_of a.roots n p ≡ act ∷ [] →
+    IsEntry a.roots p j e → e.line ≡ n →
     (j ≡ length (below entry_line n (a.roots p))) × (e.act ≡ act)
 entry_place a n p j act e h only at same =
     let (f, one, is) = on_line a n p act only in
@@ -114,7 +123,8 @@ entry_place a n p j act e h only at same =
     (place, ap (λ (z : RootEntry). z.act) it ∙ is)
 
 -- entries of one line with the same acts are the same
-pub acts_tell : (a b : Parts) (n p : ℕ) → acts_of a.roots n p ≡ acts_of b.roots n p → on entry_line n (a.roots p) ≡ on entry_line n (b.roots p)
+pub acts_tell : (a b : Parts) (n p : ℕ) → acts_of a.roots n p ≡ acts_of b.roots n p →
+    on entry_line n (a.roots p) ≡ on entry_line n (b.roots p)
 acts_tell a b n p same =
     map_tells (λ (e : RootEntry). e.act) (on entry_line n (a.roots p)) (on entry_line n (b.roots p))
     (λ e f among among'. same_root e f ((in_on entry_line n (a.roots p) e among).1 ∙ sym (in_on entry_line n (b.roots p) f among').1)) same

@@ -37,15 +37,18 @@ pub record HasExchange (a : Parts) (x : Played) (k : ℕ) (e : CellEntry) : Type
   pub place : slice_get (a.cells k) (length (below cell_line x.line (a.cells k))) ≡ Some e
   pub found : e.found ≡ gave_last Nothing (below cell_line x.line (a.cells k))
 
-pub exchange_here : (a : Parts) (x : Played) (k reg : ℕ) → IsFiled a → Contains a.ps x → x.op ≡ Swap k reg → (e : CellEntry) × HasExchange a x k e
+pub exchange_here : (a : Parts) (x : Played) (k reg : ℕ) → IsFiled a → Contains a.ps x → x.op ≡ Swap k reg → (e : CellEntry) ×
+    HasExchange a x k e
 exchange_here a x k reg h among op =
     let (j, e, answer, at, line) = h.exchanged.answers x k reg among op in
-    let only = on_alone cell_line x.line (a.cells k) j e at line (λ i d there same. (h.exchanged.different k k i j d e there at (same ∙ sym line)).1) in
+    let only = on_alone cell_line x.line (a.cells k) j e at line
+    (λ i d there same. (h.exchanged.different k k i j d e there at (same ∙ sym line)).1) in
     let steady = cell_steady a k h in
     let (place, same) = on_one cell_line x.line (a.cells k) e e j steady only at line in
     let front = below cell_line x.line (a.cells k) in
     let back = past cell_line x.line (a.cells k) in
-    let cut : a.cells k ≡ front ++ e ∷ back = below_on_past cell_line x.line (a.cells k) steady ∙ ap (λ es. front ++ es ++ back) only ∙ append_assoc front (e ∷ []) back in (
+    let cut : a.cells k ≡ front ++ e ∷ back = below_on_past cell_line x.line (a.cells k) steady ∙ ap (λ es. front ++ es ++ back) only ∙
+    append_assoc front (e ∷ []) back in (
       e,
       record {
         line = line;
@@ -57,19 +60,22 @@ exchange_here a x k reg h among op =
     )
 
 -- an exchange of the line is that one
-pub one_exchange : (a : Parts) (x : Played) (k : ℕ) (e d : CellEntry) → HasExchange a x k e → Contains (a.cells k) d → d.line ≡ x.line → e ≡ d
+pub one_exchange : (a : Parts) (x : Played) (k : ℕ) (e d : CellEntry) → HasExchange a x k e → Contains (a.cells k) d → d.line ≡ x.line →
+    e ≡ d
 one_exchange a x k e d has among line =
     in_one e d (subst (λ es. Contains es d) has.only (on_in cell_line x.line (a.cells k) d among line))
 
 -- the record of an exchange swaps with its cell
-pub exchange_op : (a : Parts) (x : Played) (k : ℕ) (e : CellEntry) → IsFiled a → Contains a.ps x → Contains (a.cells k) e → e.line ≡ x.line → (reg : ℕ) × (x.op ≡ Swap k reg)
+pub exchange_op : (a : Parts) (x : Played) (k : ℕ) (e : CellEntry) → IsFiled a → Contains a.ps x → Contains (a.cells k) e →
+    e.line ≡ x.line → (reg : ℕ) × (x.op ≡ Swap k reg)
 exchange_op a x k e h among member line =
     let (q, reg, there, same, op) = exchange_made a k e h member in
     let one = same_played a q x h there among (same ∙ line) in
     (reg, ap (λ (z : Played). z.op) (sym one) ∙ op)
 
 -- a cell has no exchange on the line of a record that doesn't swap with it
-pub exchange_none : (a : Parts) (x : Played) (k : ℕ) → IsFiled a → Contains a.ps x → ((reg : ℕ) → x.op ≡ Swap k reg → ⊥) → on cell_line x.line (a.cells k) ≡ []
+pub exchange_none : (a : Parts) (x : Played) (k : ℕ) → IsFiled a → Contains a.ps x → ((reg : ℕ) → x.op ≡ Swap k reg → ⊥) →
+    on cell_line x.line (a.cells k) ≡ []
 exchange_none a x k h among other = on_none cell_line x.line (a.cells k) (λ e member line.
     let (reg, op) = exchange_op a x k e h among member line in
     other reg op)
@@ -77,7 +83,8 @@ exchange_none a x k h among other = on_none cell_line x.line (a.cells k) (λ e m
 -- ---- two runs
 
 -- an exchange before the line is in the other run if it is in this one
-pub exchange_kept : (a b : Parts) (n k j : ℕ) (e : CellEntry) → IsFiled a → IsFiled b → Agrees n a b → slice_get (a.cells k) j ≡ Some e → e.line < n → slice_get (b.cells k) j ≡ Some e
+pub exchange_kept : (a b : Parts) (n k j : ℕ) (e : CellEntry) → IsFiled a → IsFiled b → Agrees n a b → slice_get (a.cells k) j ≡ Some e →
+    e.line < n → slice_get (b.cells k) j ≡ Some e
 exchange_kept a b n k j e h g agrees at less =
     let front = get_below cell_line n (a.cells k) j e (cell_steady a k h) at less in
     below_get cell_line n (b.cells k) j e (cell_steady b k g) (subst (λ es. slice_get es j ≡ Some e) (agrees.cells k) front)

@@ -97,7 +97,8 @@ changed_cases : (regs : Regs) (o : Option (ℕ × Reg)) (r : ℕ) (s : SlotName)
 changed_cases regs None r s e = inl e
 changed_cases regs (Some c) r s e = either (r == c.0) e
   where
-    either : (b : Bool) → slot_in (if b then c.1 else regs r) ≡ Some s → (slot_in (regs r) ≡ Some s) ⊎ ((d : ℕ × Reg) × (Some c ≡ Some d) × (slot_in d.1 ≡ Some s))
+    either : (b : Bool) → slot_in (if b then c.1 else regs r) ≡ Some s → (slot_in (regs r) ≡ Some s) ⊎
+        ((d : ℕ × Reg) × (Some c ≡ Some d) × (slot_in d.1 ≡ Some s))
     either true e = inr (c, refl, e)
     either false e = inl e
 
@@ -107,7 +108,8 @@ made_more before more s (q, seen, usable, among, is, slot) = (q, seen, usable, C
 -- what the registers hold, and what the exchanges of the records so far gave, was made
 pub record HoldsMade (a : Parts) (before : List Played) (all : AllRegs) : Type 0 where
   pub registers : (t r : ℕ) (s : SlotName) → slot_in (all t r) ≡ Some s → IsMadeIn before s
-  pub cells : (k : ℕ) (e : CellEntry) (q : Played) (s : SlotName) → Contains (a.cells k) e → Contains before q → e.line ≡ q.line → slot_held e.gave ≡ Some s → IsMadeIn before s
+  pub cells : (k : ℕ) (e : CellEntry) (q : Played) (s : SlotName) → Contains (a.cells k) e → Contains before q → e.line ≡ q.line →
+      slot_held e.gave ≡ Some s → IsMadeIn before s
 
 gave_named : (first : Held) (es : List CellEntry) (s : SlotName) → slot_held (gave_last first es) ≡ Some s → (slot_held first ≡ Some s)
     ⊎ ((e : CellEntry) × Contains es e × (slot_held e.gave ≡ Some s))
@@ -118,7 +120,8 @@ gave_named first (e ∷ es) s h = elim (gave_named e.gave es s h) [
 ]
 
 -- what a record's exchange found was made
-found_made : (a : Parts) (before rest : List Played) (x : Played) (all : AllRegs) (k : ℕ) (e : CellEntry) (s : SlotName) → IsFiled a → a.ps ≡ before ++ x ∷ rest → HoldsMade a before all →
+found_made : (a : Parts) (before rest : List Played) (x : Played) (all : AllRegs) (k : ℕ) (e : CellEntry) (s : SlotName) → IsFiled a →
+    a.ps ≡ before ++ x ∷ rest → HoldsMade a before all →
     HasExchange a x k e → slot_held e.found ≡ Some s → IsMadeIn before s
 found_made a before rest x all k e s h parts holds has names =
     elim (gave_named held.Nothing (below cell_line x.line (a.cells k)) s (ap slot_held (sym has.found) ∙ names)) [
@@ -140,7 +143,8 @@ swap_gave a x k reg e regs next has op row =
     ap (λ (z : CellEntry). z.gave) (sym it) ∙ gave
 
 -- what a record leaves in its thread's registers
-next_made : (a : Parts) (before rest : List Played) (x : Played) (all : AllRegs) (next : Regs) (r : ℕ) (s : SlotName) → IsFiled a → a.ps ≡ before ++ x ∷ rest → HoldsMade a before all →
+next_made : (a : Parts) (before rest : List Played) (x : Played) (all : AllRegs) (next : Regs) (r : ℕ) (s : SlotName) → IsFiled a →
+    a.ps ≡ before ++ x ∷ rest → HoldsMade a before all →
     Row (facts_of a) x.op (all x.thread) x.answer next → slot_in (next r) ≡ Some s → IsMadeIn (before ++ x ∷ []) s
 next_made a before rest x all next r s h parts holds row names =
     let l = row_leads (facts_of a) x.op (all x.thread) x.answer next row in
@@ -149,36 +153,45 @@ next_made a before rest x all next r s h parts holds row names =
       | inr (c, is, new) ↦
           change_names a.cells x.op x.answer c s (IsMadeIn (before ++ x ∷ []) s)
           (λ seen usable tells slot. (x, seen, usable, Contains-push before x, tells, slot))
-          (λ seen tells slot. made_more before (x ∷ []) s (holds.registers x.thread (used_by x.op) s (l.done seen tells ∙ ap {B = Option SlotName} Some slot)))
+          (λ seen tells slot. made_more before (x ∷ []) s
+          (holds.registers x.thread (used_by x.op) s (l.done seen tells ∙ ap {B = Option SlotName} Some slot)))
           (λ k reg j op tells found.
           let (e, has) = exchange_here a x k reg h (in_middle before rest a.ps x parts) op in
           let place = of_some _ _ (sym tells ∙ ap swapped_of has.answer) in
           let at : slice_get (a.cells k) j ≡ Some e = ap (slice_get (a.cells k)) place ∙ has.place in
-          made_more before (x ∷ []) s (found_made a before rest x all k e s h parts holds has (ap (λ o. slot_held (found_in o)) (sym at) ∙ found)))
+          made_more before (x ∷ []) s
+          (found_made a before rest x all k e s h parts holds has (ap (λ o. slot_held (found_in o)) (sym at) ∙ found)))
           is new
     ]
 
 -- what a record's exchange gave was made
-gave_made : (a : Parts) (before rest : List Played) (x : Played) (all : AllRegs) (next : Regs) (k : ℕ) (e : CellEntry) (s : SlotName) → IsFiled a → a.ps ≡ before ++ x ∷ rest → HoldsMade a before all →
-    Row (facts_of a) x.op (all x.thread) x.answer next → Contains (a.cells k) e → e.line ≡ x.line → slot_held e.gave ≡ Some s → IsMadeIn before s
+gave_made : (a : Parts) (before rest : List Played) (x : Played) (all : AllRegs) (next : Regs) (k : ℕ) (e : CellEntry) (s : SlotName) →
+    IsFiled a → a.ps ≡ before ++ x ∷ rest → HoldsMade a before all →
+    Row (facts_of a) x.op (all x.thread) x.answer next → Contains (a.cells k) e → e.line ≡ x.line → slot_held e.gave ≡ Some s →
+    IsMadeIn before s
 gave_made a before rest x all next k e s h parts holds row among line names =
     let here = in_middle before rest a.ps x parts in
     let (reg, op) = exchange_op a x k e h here among line in
     let (d, has) = exchange_here a x k reg h here op in
     let same = one_exchange a x k d e has among line in
     let gave = swap_gave a x k reg d (all x.thread) next has op row in
-    holds.registers x.thread reg s (sym (handle_names (all x.thread reg)) ∙ ap slot_held (sym gave ∙ ap (λ (z : CellEntry). z.gave) same) ∙ names)
+    holds.registers x.thread reg s (sym (handle_names (all x.thread reg)) ∙ ap slot_held (sym gave ∙ ap (λ (z : CellEntry). z.gave) same) ∙
+    names)
 
-one_more : (a : Parts) (before rest : List Played) (x : Played) (all : AllRegs) (next : Regs) → IsFiled a → a.ps ≡ before ++ x ∷ rest → HoldsMade a before all →
+one_more : (a : Parts) (before rest : List Played) (x : Played) (all : AllRegs) (next : Regs) → IsFiled a → a.ps ≡ before ++ x ∷ rest →
+    HoldsMade a before all →
     Row (facts_of a) x.op (all x.thread) x.answer next → HoldsMade a (before ++ x ∷ []) (with_thread all x.thread next)
 one_more a before rest x all next h parts holds row = record {
   registers = λ t r s names. elim (cases_eq t x.thread) [
-    | inl e ↦ let here : slot_in (next r) ≡ Some s = rw (eq-eqb t x.thread e) at names in next_made a before rest x all next r s h parts holds row here
-    | inr e ↦ let there : slot_in (all t r) ≡ Some s = rw (ne_eqb t x.thread e) at names in made_more before (x ∷ []) s (holds.registers t r s there)
+    | inl e ↦ let here : slot_in (next r) ≡ Some s = rw (eq-eqb t x.thread e) at names in
+        next_made a before rest x all next r s h parts holds row here
+    | inr e ↦ let there : slot_in (all t r) ≡ Some s = rw (ne_eqb t x.thread e) at names in
+        made_more before (x ∷ []) s (holds.registers t r s there)
   ];
   cells = λ k e q s member among line names. elim (Contains-push_cases before x q among) [
     | inl old ↦ made_more before (x ∷ []) s (holds.cells k e q s member old line names)
-    | inr same ↦ made_more before (x ∷ []) s (gave_made a before rest x all next k e s h parts holds row member (line ∙ ap (λ (z : Played). z.line) (sym same)) names)
+    | inr same ↦ made_more before (x ∷ []) s
+        (gave_made a before rest x all next k e s h parts holds row member (line ∙ ap (λ (z : Played). z.line) (sym same)) names)
   ];
 }
 
@@ -190,16 +203,20 @@ made_along a before [] rest all after h parts holds e =
 made_along a before (p ∷ ps) rest all after h parts holds (next, row, more) =
     let parts' : a.ps ≡ (before ++ p ∷ []) ++ (ps ++ rest) = parts ∙ sym (append_assoc before (p ∷ []) (ps ++ rest)) in
     let holds' = one_more a before (ps ++ rest) p all next h parts holds row in
-    subst (λ xs. HoldsMade a xs after) (append_assoc before (p ∷ []) ps) (made_along a (before ++ p ∷ []) ps rest (with_thread all p.thread next) after h parts' holds' more)
+    subst (λ xs. HoldsMade a xs after) (append_assoc before (p ∷ []) ps)
+    (made_along a (before ++ p ∷ []) ps rest (with_thread all p.thread next) after h parts' holds' more)
 
 -- all of it, before any record
-pub holds_made : (a : Parts) (before rest : List Played) (all : AllRegs) → IsFiled a → a.ps ≡ before ++ rest → HasRegisters a before all → HoldsMade a before all
+pub holds_made : (a : Parts) (before rest : List Played) (all : AllRegs) → IsFiled a → a.ps ≡ before ++ rest → HasRegisters a before all →
+    HoldsMade a before all
 holds_made a before rest all h parts rows =
-    let start : HoldsMade a [] no_regs = record { registers = λ t r s e. absurd (not_some s e); cells = λ k e q s member among. absurd (not_in_none q among) } in
+    let start : HoldsMade a [] no_regs =
+    record { registers = λ t r s e. absurd (not_some s e); cells = λ k e q s member among. absurd (not_in_none q among) } in
     made_along a [] before rest no_regs all h parts start rows
 
 -- the slot that a record's answer `done` reports was made by a record before it
-pub done_made : (a : Parts) (before rest : List Played) (x : Played) (seen : Seen) → IsFiled a → a.ps ≡ before ++ x ∷ rest → x.answer ≡ Done seen → IsMadeIn before seen.slot
+pub done_made : (a : Parts) (before rest : List Played) (x : Played) (seen : Seen) → IsFiled a → a.ps ≡ before ++ x ∷ rest →
+    x.answer ≡ Done seen → IsMadeIn before seen.slot
 done_made a before rest x seen h parts is =
     let at = row_at a before rest x h parts in
     let l = row_leads (facts_of a) x.op (at.all x.thread) x.answer at.next at.row in

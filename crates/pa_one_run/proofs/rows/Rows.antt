@@ -41,14 +41,16 @@ use Rattle.pa_one_run.proofs.lines.Cuts.{cut_here}
 
 -- the histories have the same exchanges for an answer to an op
 abbrev AreCellsAlike : (ℕ → List CellEntry) → (ℕ → List CellEntry) → Op → Answer → Type 0
-AreCellsAlike cells others op answer = (k reg j : ℕ) → op ≡ ops.Swap k reg → swapped_of answer ≡ Some j → slice_get (cells k) j ≡ slice_get (others k) j
+AreCellsAlike cells others op answer = (k reg j : ℕ) → op ≡ ops.Swap k reg → swapped_of answer ≡ Some j →
+    slice_get (cells k) j ≡ slice_get (others k) j
 
 swap_alike : (one other : ℕ → Option CellEntry) (f : Option CellEntry → ℕ × Reg) (o : Option ℕ) → ((j : ℕ) → o ≡ Some j → one j ≡ other j)
     → option_map (λ j. f (one j)) o ≡ option_map (λ j. f (other j)) o
 swap_alike one other f None h = refl
 swap_alike one other f (Some j) h = ap {B = Option (ℕ × Reg)} (λ c. Some (f c)) (h j refl)
 
-change_alike : (cells others : ℕ → List CellEntry) (op : Op) (answer : Answer) → AreCellsAlike cells others op answer → change_of cells op answer ≡ change_of others op answer
+change_alike : (cells others : ℕ → List CellEntry) (op : Op) (answer : Answer) → AreCellsAlike cells others op answer →
+    change_of cells op answer ≡ change_of others op answer
 change_alike cells others (ops.Alloc reg partition size) answer h = refl
 change_alike cells others (ops.Copy from to) answer h = refl
 change_alike cells others (ops.Reset reg) answer h = refl
@@ -56,11 +58,13 @@ change_alike cells others (ops.Free reg) answer h = refl
 change_alike cells others (ops.Write reg value) answer h = refl
 change_alike cells others (ops.Read reg place) answer h = refl
 change_alike cells others (ops.Swap cell reg) answer h =
-    swap_alike (slice_get (cells cell)) (slice_get (others cell)) (λ c. (reg, reg_of (found_in c))) (swapped_of answer) (λ j e. h cell reg j refl e)
+    swap_alike (slice_get (cells cell)) (slice_get (others cell)) (λ c. (reg, reg_of (found_in c))) (swapped_of answer)
+    (λ j e. h cell reg j refl e)
 change_alike cells others ops.Purge answer h = refl
 
 -- records lead from equal registers to equal registers by two histories that have equal exchanges for their answers
-rows_alike : (f g : Facts) (all all' : AllRegs) (ps : List Played) (after after' : AllRegs) → ((q : Played) → Contains ps q → AreCellsAlike f.cells g.cells q.op q.answer) → all ≡ all' →
+rows_alike : (f g : Facts) (all all' : AllRegs) (ps : List Played) (after after' : AllRegs) →
+    ((q : Played) → Contains ps q → AreCellsAlike f.cells g.cells q.op q.answer) → all ≡ all' →
     RowsTo f all ps after → RowsTo g all' ps after' → after ≡ after'
 rows_alike f g all all' [] after after' alike same e d = e ∙ same ∙ sym d
 rows_alike f g all all' (p ∷ ps) after after' alike same (next, row, more) (next', row', more') =
@@ -68,13 +72,16 @@ rows_alike f g all all' (p ∷ ps) after after' alike same (next, row, more) (ne
     let m = row_leads g p.op (all' p.thread) p.answer next' row' in
     let change = change_alike f.cells g.cells p.op p.answer (alike p (first_in p ps)) in
     let each : (k : ℕ) → next k ≡ next' k = λ k.
-    l.registers k ∙ ap (λ (z : AllRegs). changed (z p.thread) (change_of f.cells p.op p.answer) k) same ∙ ap (λ o. changed (all' p.thread) o k) change ∙ sym (m.registers k) in
+    l.registers k ∙ ap (λ (z : AllRegs). changed (z p.thread) (change_of f.cells p.op p.answer) k) same ∙
+    ap (λ o. changed (all' p.thread) o k) change ∙ sym (m.registers k) in
     let there : next ≡ next' = λ i k. each k i in
     let both : with_thread all p.thread next ≡ with_thread all' p.thread next' = λ i. with_thread (same i) p.thread (there i) in
-    rows_alike f g (with_thread all p.thread next) (with_thread all' p.thread next') ps after after' (λ q among. alike q (later_in p q ps among)) both more more'
+    rows_alike f g (with_thread all p.thread next) (with_thread all' p.thread next') ps after after'
+    (λ q among. alike q (later_in p q ps among)) both more more'
 
 -- two runs that agree before a line have the same registers there
-pub registers_agree : (a b : Parts) (before rest rest' : List Played) (n : ℕ) (all all' : AllRegs) → IsFiled a → IsFiled b → a.ps ≡ before ++ rest → b.ps ≡ before ++ rest' →
+pub registers_agree : (a b : Parts) (before rest rest' : List Played) (n : ℕ) (all all' : AllRegs) → IsFiled a → IsFiled b →
+    a.ps ≡ before ++ rest → b.ps ≡ before ++ rest' →
     ((q : Played) → Contains before q → q.line < n) → Agrees n a b → HasRegisters a before all → HasRegisters b before all' → all ≡ all'
 registers_agree a b before rest rest' n all all' h k parts parts' early agrees rows rows' =
     rows_alike (facts_of a) (facts_of b) no_regs no_regs before all all'
@@ -90,7 +97,8 @@ registers_agree a b before rest rest' n all all' h k parts parts' early agrees r
 -- ---- the usable numbers
 
 -- how many bytes of a slot that was made are usable, the record says that made it first
-pub usable_front : (before more other : List Played) (s : SlotName) → IsMadeIn before s → usable_in (before ++ more) s ≡ usable_in (before ++ other) s
+pub usable_front : (before more other : List Played) (s : SlotName) → IsMadeIn before s →
+    usable_in (before ++ more) s ≡ usable_in (before ++ other) s
 usable_front [] more other s (q, seen, usable, among, is, slot) = absurd (not_in_none q among)
 usable_front (p ∷ before) more other s (q, seen, usable, among, is, slot) = elim (in_cases p q before among) [
   | inl same ↦
@@ -130,7 +138,8 @@ look_is : (line : ℕ) (o : Option Seen) (seen : Seen) → o ≡ Some seen → I
 look_is line None seen e = absurd (not_some seen e)
 look_is line (Some other) seen e = mark_is line None other seen e
 
-answer_mark : (line : ℕ) (op : Op) (answer : Answer) (seen : Seen) → seen_of answer ≡ Some seen → IsMarkOf (mark_of_answer line op answer) seen
+answer_mark : (line : ℕ) (op : Op) (answer : Answer) (seen : Seen) → seen_of answer ≡ Some seen →
+    IsMarkOf (mark_of_answer line op answer) seen
 answer_mark line op (Made other usable) seen e = mark_is line (Some steps.Issue) other seen e
 answer_mark line op (Done other) seen e = mark_is line (step_of op) other seen e
 answer_mark line op (Value other value) seen e = look_is line (Some other) seen e
@@ -142,7 +151,8 @@ answer_mark line op (Shared other) seen e = look_is line (Some other) seen e
 answer_mark line op answer seen e = absurd (not_some seen e)
 
 -- the word that a record saw
-pub seen_word : (a : Parts) (before rest : List Played) (x : Played) (seen : Seen) → IsFiled a → a.ps ≡ before ++ x ∷ rest → seen_of x.answer ≡ Some seen → seen.found.0 ≡ word_after before seen.slot
+pub seen_word : (a : Parts) (before rest : List Played) (x : Played) (seen : Seen) → IsFiled a → a.ps ≡ before ++ x ∷ rest →
+    seen_of x.answer ≡ Some seen → seen.found.0 ≡ word_after before seen.slot
 seen_word a before rest x seen h parts is =
     let (m, mark, slot, found) = answer_mark x.line x.op x.answer seen is in
     sym found ∙ found_is a before rest x m h parts mark ∙ ap (word_after before) slot
@@ -158,7 +168,8 @@ record AreAlike (f g : Facts) (regs : Regs) (x y : Answer) : Type 0 where
   values : (c : Seen) (v w : ℕ) → x ≡ Value c v → y ≡ Value c w → v ≡ w
   poisons : (c d : Seen) (v w : ℕ) → x ≡ Dangling c v → y ≡ Dangling d w → v ≡ w
 
-request_alike : (f g : Facts) (regs : Regs) (x y : Answer) (reg size : ℕ) (next next' : Regs) → AreAlike f g regs x y → RequestRow f regs reg size x next → RequestRow g regs reg size y next' → x ≡ y
+request_alike : (f g : Facts) (regs : Regs) (x y : Answer) (reg size : ℕ) (next next' : Regs) → AreAlike f g regs x y →
+    RequestRow f regs reg size x next → RequestRow g regs reg size y next' → x ≡ y
 request_alike f g regs x y reg size next next' alike (inl h) (inl k) = h.1 ∙ sym k.1
 request_alike f g regs x y reg size next next' alike (inl h) (inr (inl k)) = absurd (omega (arith, h.0, k.0))
 request_alike f g regs x y reg size next next' alike (inl h) (inr (inr k)) = absurd (omega (arith, h.0, k.0))
@@ -167,10 +178,13 @@ request_alike f g regs x y reg size next next' alike (inr (inl (low, c, is, _)))
     let slot = alike.placed.made c d (f.usable_of size) (g.usable_of size) is is' in
     let same = alike.seen c d (ap seen_of is) (ap seen_of is') slot in
     is ∙ ap {B = Answer} (λ z. Made z (f.usable_of size)) same ∙ ap {B = Answer} (λ n. Made d n) (alike.sizes size) ∙ sym is'
-request_alike f g regs x y reg size next next' alike (inr (inl (low, c, is, _))) (inr (inr (low', j, is', _))) = absurd (alike.placed.made_full c (f.usable_of size) j is is')
+request_alike f g regs x y reg size next next' alike (inr (inl (low, c, is, _))) (inr (inr (low', j, is', _))) =
+    absurd (alike.placed.made_full c (f.usable_of size) j is is')
 request_alike f g regs x y reg size next next' alike (inr (inr h)) (inl k) = absurd (omega (arith, h.0, k.0))
-request_alike f g regs x y reg size next next' alike (inr (inr (low, i, is, _))) (inr (inl (low', d, is', _))) = absurd (alike.placed.full_made d (g.usable_of size) i is is')
-request_alike f g regs x y reg size next next' alike (inr (inr (low, i, is, _))) (inr (inr (low', j, is', _))) = is ∙ ap {B = Answer} (λ n. Full n) (alike.placed.full i j is is') ∙ sym is'
+request_alike f g regs x y reg size next next' alike (inr (inr (low, i, is, _))) (inr (inl (low', d, is', _))) =
+    absurd (alike.placed.full_made d (g.usable_of size) i is is')
+request_alike f g regs x y reg size next next' alike (inr (inr (low, i, is, _))) (inr (inr (low', j, is', _))) = is ∙
+    ap {B = Answer} (λ n. Full n) (alike.placed.full i j is is') ∙ sym is'
 
 alloc_alike : (f g : Facts) (r : Reg) (regs : Regs) (x y : Answer) (reg size : ℕ) (next next' : Regs) → AreAlike f g regs x y
     → AllocRow r f regs reg size x next → AllocRow r g regs reg size y next' → x ≡ y
@@ -183,10 +197,13 @@ alloc_alike f g Cleared regs x y reg size next next' alike h k = request_alike f
 -- both saw one slot
 seen_alike : (f g : Facts) (regs : Regs) (x y a b : Answer) (c d : Seen) (s : SlotName) → AreAlike f g regs x y → x ≡ a → y ≡ b
     → seen_of a ≡ Some c → seen_of b ≡ Some d → c.slot ≡ s → d.slot ≡ s → c ≡ d
-seen_alike f g regs x y a b c d s alike is is' one other slot slot' = alike.seen c d (ap seen_of is ∙ one) (ap seen_of is' ∙ other) (slot ∙ sym slot')
+seen_alike f g regs x y a b c d s alike is is' one other slot slot' =
+    alike.seen c d (ap seen_of is ∙ one) (ap seen_of is' ∙ other) (slot ∙ sym slot')
 
-done_alike : (f g : Facts) (regs : Regs) (x y : Answer) (c d : Seen) (s : SlotName) → AreAlike f g regs x y → c.slot ≡ s → d.slot ≡ s → x ≡ Done c → y ≡ Done d → x ≡ y
-done_alike f g regs x y c d s alike slot slot' is is' = is ∙ ap {B = Answer} (λ z. Done z) (seen_alike f g regs x y (Done c) (Done d) c d s alike is is' refl refl slot slot') ∙ sym is'
+done_alike : (f g : Facts) (regs : Regs) (x y : Answer) (c d : Seen) (s : SlotName) → AreAlike f g regs x y → c.slot ≡ s → d.slot ≡ s →
+    x ≡ Done c → y ≡ Done d → x ≡ y
+done_alike f g regs x y c d s alike slot slot' is is' = is ∙
+    ap {B = Answer} (λ z. Done z) (seen_alike f g regs x y (Done c) (Done d) c d s alike is is' refl refl slot slot') ∙ sym is'
 
 copy_to_alike : (f g : Facts) (r : Reg) (s : SlotName) (regs : Regs) (x y : Answer) (to : ℕ) (next next' : Regs) → AreAlike f g regs x y
     → CopyToRow r s regs to x next → CopyToRow r s regs to y next' → x ≡ y
@@ -196,14 +213,16 @@ copy_to_alike f g (Ref t) s regs x y to next next' alike h k = h.0 ∙ sym k.0
 copy_to_alike f g Freed s regs x y to next next' alike h k = done_alike f g regs x y h.0 k.0 s alike h.1 k.1 h.2 k.2
 copy_to_alike f g Cleared s regs x y to next next' alike h k = done_alike f g regs x y h.0 k.0 s alike h.1 k.1 h.2 k.2
 
-copy_alike : (f g : Facts) (r : Reg) (regs : Regs) (x y : Answer) (to : ℕ) (next next' : Regs) → AreAlike f g regs x y → CopyRow r regs to x next → CopyRow r regs to y next' → x ≡ y
+copy_alike : (f g : Facts) (r : Reg) (regs : Regs) (x y : Answer) (to : ℕ) (next next' : Regs) → AreAlike f g regs x y →
+    CopyRow r regs to x next → CopyRow r regs to y next' → x ≡ y
 copy_alike f g Empty regs x y to next next' alike h k = h.0 ∙ sym k.0
 copy_alike f g (Own s) regs x y to next next' alike h k = copy_to_alike f g (regs to) s regs x y to next next' alike h k
 copy_alike f g (Ref s) regs x y to next next' alike h k = copy_to_alike f g (regs to) s regs x y to next next' alike h k
 copy_alike f g Freed regs x y to next next' alike h k = h.0 ∙ sym k.0
 copy_alike f g Cleared regs x y to next next' alike h k = h.0 ∙ sym k.0
 
-reset_alike : (f g : Facts) (r : Reg) (regs : Regs) (x y : Answer) (reg : ℕ) (next next' : Regs) → AreAlike f g regs x y → ResetRow r regs reg x next → ResetRow r regs reg y next' → x ≡ y
+reset_alike : (f g : Facts) (r : Reg) (regs : Regs) (x y : Answer) (reg : ℕ) (next next' : Regs) → AreAlike f g regs x y →
+    ResetRow r regs reg x next → ResetRow r regs reg y next' → x ≡ y
 reset_alike f g Empty regs x y reg next next' alike h k = h.0 ∙ sym k.0
 reset_alike f g (Own s) regs x y reg next next' alike h k = h.0 ∙ sym k.0
 reset_alike f g (Ref s) regs x y reg next next' alike h k = done_alike f g regs x y h.0 k.0 s alike h.1 k.1 h.2 k.2
@@ -214,18 +233,25 @@ reset_alike f g Cleared regs x y reg next next' alike h k = h.0 ∙ sym k.0
 abbrev ByHeld : Seen → Answer → Answer → Answer → Type 0
 ByHeld seen answer kept freed = ((held_of seen.found.0 ≡ 1) × (answer ≡ kept)) ⊎ ((held_of seen.found.0 ≡ 0) × (answer ≡ freed))
 
-held_alike : (c d : Seen) (x y : Answer) (kept freed : Seen → Answer) → ((o : Seen) → seen_of (kept o) ≡ Some o) → ((o : Seen) → seen_of (freed o) ≡ Some o) →
-    ((m n : Seen) → seen_of x ≡ Some m → seen_of y ≡ Some n → m.slot ≡ n.slot → m ≡ n) → c.slot ≡ d.slot → ByHeld c x (kept c) (freed c) → ByHeld d y (kept d) (freed d) → x ≡ y
-held_alike c d x y kept freed one other seen slot (inl h) (inl k) = h.1 ∙ ap kept (seen c d (ap seen_of h.1 ∙ one c) (ap seen_of k.1 ∙ one d) slot) ∙ sym k.1
+held_alike : (c d : Seen) (x y : Answer) (kept freed : Seen → Answer) → ((o : Seen) → seen_of (kept o) ≡ Some o) →
+    ((o : Seen) → seen_of (freed o) ≡ Some o) →
+    ((m n : Seen) → seen_of x ≡ Some m → seen_of y ≡ Some n → m.slot ≡ n.slot → m ≡ n) → c.slot ≡ d.slot → ByHeld c x (kept c) (freed c) →
+    ByHeld d y (kept d) (freed d) → x ≡ y
+held_alike c d x y kept freed one other seen slot (inl h) (inl k) = h.1 ∙
+    ap kept (seen c d (ap seen_of h.1 ∙ one c) (ap seen_of k.1 ∙ one d) slot) ∙ sym k.1
 held_alike c d x y kept freed one other seen slot (inl h) (inr k) =
-    let same : held_of c.found.0 ≡ held_of d.found.0 = ap (λ (z : Seen). held_of z.found.0) (seen c d (ap seen_of h.1 ∙ one c) (ap seen_of k.1 ∙ other d) slot) in
+    let same : held_of c.found.0 ≡ held_of d.found.0 =
+    ap (λ (z : Seen). held_of z.found.0) (seen c d (ap seen_of h.1 ∙ one c) (ap seen_of k.1 ∙ other d) slot) in
     absurd (omega (arith, h.0, k.0, same))
 held_alike c d x y kept freed one other seen slot (inr h) (inl k) =
-    let same : held_of c.found.0 ≡ held_of d.found.0 = ap (λ (z : Seen). held_of z.found.0) (seen c d (ap seen_of h.1 ∙ other c) (ap seen_of k.1 ∙ one d) slot) in
+    let same : held_of c.found.0 ≡ held_of d.found.0 =
+    ap (λ (z : Seen). held_of z.found.0) (seen c d (ap seen_of h.1 ∙ other c) (ap seen_of k.1 ∙ one d) slot) in
     absurd (omega (arith, h.0, k.0, same))
-held_alike c d x y kept freed one other seen slot (inr h) (inr k) = h.1 ∙ ap freed (seen c d (ap seen_of h.1 ∙ other c) (ap seen_of k.1 ∙ other d) slot) ∙ sym k.1
+held_alike c d x y kept freed one other seen slot (inr h) (inr k) = h.1 ∙
+    ap freed (seen c d (ap seen_of h.1 ∙ other c) (ap seen_of k.1 ∙ other d) slot) ∙ sym k.1
 
-free_alike : (f g : Facts) (r : Reg) (regs : Regs) (x y : Answer) (reg : ℕ) (next next' : Regs) → AreAlike f g regs x y → FreeRow r regs reg x next → FreeRow r regs reg y next' → x ≡ y
+free_alike : (f g : Facts) (r : Reg) (regs : Regs) (x y : Answer) (reg : ℕ) (next next' : Regs) → AreAlike f g regs x y →
+    FreeRow r regs reg x next → FreeRow r regs reg y next' → x ≡ y
 free_alike f g Empty regs x y reg next next' alike h k = h.0 ∙ sym k.0
 free_alike f g (Own s) regs x y reg next next' alike h k = done_alike f g regs x y h.0 k.0 s alike h.1 k.1 h.2 k.2
 free_alike f g (Ref s) regs x y reg next next' alike (c, slot, _, h) (d, slot', _, k) =
@@ -235,18 +261,22 @@ free_alike f g Cleared regs x y reg next next' alike h k = h.0 ∙ sym k.0
 
 -- a write by the owner, by whether the slot is shared
 owner_alike : (f g : Facts) (regs : Regs) (x y : Answer) (c d : Seen) (s : SlotName) → AreAlike f g regs x y → c.slot ≡ s → d.slot ≡ s →
-    ((0 < refs_of c.found.0) × (x ≡ Shared c)) ⊎ ((refs_of c.found.0 ≡ 0) × (x ≡ Done c)) → ((0 < refs_of d.found.0) × (y ≡ Shared d)) ⊎ ((refs_of d.found.0 ≡ 0) × (y ≡ Done d)) → x ≡ y
+    ((0 < refs_of c.found.0) × (x ≡ Shared c)) ⊎ ((refs_of c.found.0 ≡ 0) × (x ≡ Done c)) → ((0 < refs_of d.found.0) × (y ≡ Shared d)) ⊎
+    ((refs_of d.found.0 ≡ 0) × (y ≡ Done d)) → x ≡ y
 owner_alike f g regs x y c d s alike slot slot' (inl h) (inl k) = h.1
     ∙ ap {B = Answer} (λ z. Shared z) (seen_alike f g regs x y (Shared c) (Shared d) c d s alike h.1 k.1 refl refl slot slot') ∙ sym k.1
 owner_alike f g regs x y c d s alike slot slot' (inl h) (inr k) =
-    let same : refs_of c.found.0 ≡ refs_of d.found.0 = ap (λ (z : Seen). refs_of z.found.0) (seen_alike f g regs x y (Shared c) (Done d) c d s alike h.1 k.1 refl refl slot slot') in
+    let same : refs_of c.found.0 ≡ refs_of d.found.0 =
+    ap (λ (z : Seen). refs_of z.found.0) (seen_alike f g regs x y (Shared c) (Done d) c d s alike h.1 k.1 refl refl slot slot') in
     absurd (omega (arith, h.0, k.0, same))
 owner_alike f g regs x y c d s alike slot slot' (inr h) (inl k) =
-    let same : refs_of c.found.0 ≡ refs_of d.found.0 = ap (λ (z : Seen). refs_of z.found.0) (seen_alike f g regs x y (Done c) (Shared d) c d s alike h.1 k.1 refl refl slot slot') in
+    let same : refs_of c.found.0 ≡ refs_of d.found.0 =
+    ap (λ (z : Seen). refs_of z.found.0) (seen_alike f g regs x y (Done c) (Shared d) c d s alike h.1 k.1 refl refl slot slot') in
     absurd (omega (arith, h.0, k.0, same))
 owner_alike f g regs x y c d s alike slot slot' (inr h) (inr k) = done_alike f g regs x y c d s alike slot slot' h.1 k.1
 
-write_alike : (f g : Facts) (r : Reg) (regs : Regs) (x y : Answer) (next next' : Regs) → AreAlike f g regs x y → WriteRow r regs x next → WriteRow r regs y next' → x ≡ y
+write_alike : (f g : Facts) (r : Reg) (regs : Regs) (x y : Answer) (next next' : Regs) → AreAlike f g regs x y → WriteRow r regs x next →
+    WriteRow r regs y next' → x ≡ y
 write_alike f g Empty regs x y next next' alike h k = h.0 ∙ sym k.0
 write_alike f g (Own s) regs x y next next' alike (c, slot, _, h) (d, slot', _, k) = owner_alike f g regs x y c d s alike slot slot' h k
 write_alike f g (Ref s) regs x y next next' alike (c, slot, _, h) (d, slot', _, k) =
@@ -255,60 +285,78 @@ write_alike f g Freed regs x y next next' alike h k = h.0 ∙ sym k.0
 write_alike f g Cleared regs x y next next' alike h k = h.0 ∙ sym k.0
 
 -- what was read, by whether the slot is held
-read_alike_in : (f g : Facts) (regs : Regs) (x y : Answer) (c d : Seen) (v w : ℕ) (s : SlotName) → AreAlike f g regs x y → c.slot ≡ s → d.slot ≡ s → ByHeld c x (Value c v) (Dangling c v) →
+read_alike_in : (f g : Facts) (regs : Regs) (x y : Answer) (c d : Seen) (v w : ℕ) (s : SlotName) → AreAlike f g regs x y → c.slot ≡ s →
+    d.slot ≡ s → ByHeld c x (Value c v) (Dangling c v) →
     ByHeld d y (Value d w) (Dangling d w) → x ≡ y
 read_alike_in f g regs x y c d v w s alike slot slot' (inl h) (inl k) =
     let same = seen_alike f g regs x y (Value c v) (Value d w) c d s alike h.1 k.1 refl refl slot slot' in
     let as_c : y ≡ Value c w = k.1 ∙ ap {B = Answer} (λ z. Value z w) (sym same) in
     h.1 ∙ ap {B = Answer} (λ n. Value c n) (alike.values c v w h.1 as_c) ∙ sym as_c
 read_alike_in f g regs x y c d v w s alike slot slot' (inl h) (inr k) =
-    let same : held_of c.found.0 ≡ held_of d.found.0 = ap (λ (z : Seen). held_of z.found.0) (seen_alike f g regs x y (Value c v) (Dangling d w) c d s alike h.1 k.1 refl refl slot slot') in
+    let same : held_of c.found.0 ≡ held_of d.found.0 =
+    ap (λ (z : Seen). held_of z.found.0)
+    (seen_alike f g regs x y (Value c v) (Dangling d w) c d s alike h.1 k.1 refl refl slot slot') in
     absurd (omega (arith, h.0, k.0, same))
 read_alike_in f g regs x y c d v w s alike slot slot' (inr h) (inl k) =
-    let same : held_of c.found.0 ≡ held_of d.found.0 = ap (λ (z : Seen). held_of z.found.0) (seen_alike f g regs x y (Dangling c v) (Value d w) c d s alike h.1 k.1 refl refl slot slot') in
+    let same : held_of c.found.0 ≡ held_of d.found.0 =
+    ap (λ (z : Seen). held_of z.found.0)
+    (seen_alike f g regs x y (Dangling c v) (Value d w) c d s alike h.1 k.1 refl refl slot slot') in
     absurd (omega (arith, h.0, k.0, same))
 read_alike_in f g regs x y c d v w s alike slot slot' (inr h) (inr k) =
     let same = seen_alike f g regs x y (Dangling c v) (Dangling d w) c d s alike h.1 k.1 refl refl slot slot' in
     h.1 ∙ ap {B = Answer} (λ n. Dangling c n) (alike.poisons c d v w h.1 k.1) ∙ ap {B = Answer} (λ z. Dangling z w) same ∙ sym k.1
 
-read_from_alike : (f g : Facts) (s : SlotName) (regs : Regs) (x y : Answer) (place : ℕ) (next next' : Regs) → AreAlike f g regs x y → f.usable_at s ≡ g.usable_at s →
+read_from_alike : (f g : Facts) (s : SlotName) (regs : Regs) (x y : Answer) (place : ℕ) (next next' : Regs) → AreAlike f g regs x y →
+    f.usable_at s ≡ g.usable_at s →
     ReadFromRow s f regs place x next → ReadFromRow s g regs place y next' → x ≡ y
 read_from_alike f g s regs x y place next next' alike usable (_, inl h) (_, inl k) = h.1 ∙ sym k.1
 read_from_alike f g s regs x y place next next' alike usable (_, inl h) (_, inr k) = absurd (omega (arith, h.0, k.0, usable))
 read_from_alike f g s regs x y place next next' alike usable (_, inr h) (_, inl k) = absurd (omega (arith, h.0, k.0, usable))
-read_from_alike f g s regs x y place next next' alike usable (_, inr (_, c, v, slot, h)) (_, inr (_, d, w, slot', k)) = read_alike_in f g regs x y c d v w s alike slot slot' h k
+read_from_alike f g s regs x y place next next' alike usable (_, inr (_, c, v, slot, h)) (_, inr (_, d, w, slot', k)) =
+    read_alike_in f g regs x y c d v w s alike slot slot' h k
 
-read_alike : (f g : Facts) (r : Reg) (regs : Regs) (x y : Answer) (place : ℕ) (next next' : Regs) → AreAlike f g regs x y → ((s : SlotName) → slot_in r ≡ Some s → f.usable_at s ≡ g.usable_at s) →
+read_alike : (f g : Facts) (r : Reg) (regs : Regs) (x y : Answer) (place : ℕ) (next next' : Regs) → AreAlike f g regs x y →
+    ((s : SlotName) → slot_in r ≡ Some s → f.usable_at s ≡ g.usable_at s) →
     ReadRow r f regs place x next → ReadRow r g regs place y next' → x ≡ y
 read_alike f g Empty regs x y place next next' alike usable h k = h.0 ∙ sym k.0
-read_alike f g (Own s) regs x y place next next' alike usable h k = read_from_alike f g s regs x y place next next' alike (usable s refl) h k
-read_alike f g (Ref s) regs x y place next next' alike usable h k = read_from_alike f g s regs x y place next next' alike (usable s refl) h k
+read_alike f g (Own s) regs x y place next next' alike usable h k =
+    read_from_alike f g s regs x y place next next' alike (usable s refl) h k
+read_alike f g (Ref s) regs x y place next next' alike usable h k =
+    read_from_alike f g s regs x y place next next' alike (usable s refl) h k
 read_alike f g Freed regs x y place next next' alike usable h k = h.0 ∙ sym k.0
 read_alike f g Cleared regs x y place next next' alike usable h k = h.0 ∙ sym k.0
 
 row_alike : (f g : Facts) (op : Op) (regs : Regs) (x y : Answer) (next next' : Regs) → AreAlike f g regs x y →
-    ((cell reg i j : ℕ) → op ≡ ops.Swap cell reg → x ≡ Swapped i → y ≡ Swapped j → i ≡ j) → Row f op regs x next → Row g op regs y next' → x ≡ y
-row_alike f g (ops.Alloc reg partition size) regs x y next next' alike swapped h k = alloc_alike f g (regs reg) regs x y reg size next next' alike h k
+    ((cell reg i j : ℕ) → op ≡ ops.Swap cell reg → x ≡ Swapped i → y ≡ Swapped j → i ≡ j) → Row f op regs x next → Row g op regs y next' →
+    x ≡ y
+row_alike f g (ops.Alloc reg partition size) regs x y next next' alike swapped h k =
+    alloc_alike f g (regs reg) regs x y reg size next next' alike h k
 row_alike f g (ops.Copy from to) regs x y next next' alike swapped h k = copy_alike f g (regs from) regs x y to next next' alike h k
 row_alike f g (ops.Reset reg) regs x y next next' alike swapped h k = reset_alike f g (regs reg) regs x y reg next next' alike h k
 row_alike f g (ops.Free reg) regs x y next next' alike swapped h k = free_alike f g (regs reg) regs x y reg next next' alike h k
 row_alike f g (ops.Write reg value) regs x y next next' alike swapped h k = write_alike f g (regs reg) regs x y next next' alike h k
-row_alike f g (ops.Read reg place) regs x y next next' alike swapped h k = read_alike f g (regs reg) regs x y place next next' alike (alike.usable reg) h k
-row_alike f g (ops.Swap cell reg) regs x y next next' alike swapped h k = h.2 ∙ ap {B = Answer} (λ n. Swapped n) (swapped cell reg h.0 k.0 refl h.2 k.2) ∙ sym k.2
-row_alike f g ops.Purge regs x y next next' alike swapped h k = h.1 ∙ ap {B = Answer} (λ n. Purged n) (alike.placed.purged h.0 k.0 h.1 k.1) ∙ sym k.1
+row_alike f g (ops.Read reg place) regs x y next next' alike swapped h k =
+    read_alike f g (regs reg) regs x y place next next' alike (alike.usable reg) h k
+row_alike f g (ops.Swap cell reg) regs x y next next' alike swapped h k = h.2 ∙
+    ap {B = Answer} (λ n. Swapped n) (swapped cell reg h.0 k.0 refl h.2 k.2) ∙ sym k.2
+row_alike f g ops.Purge regs x y next next' alike swapped h k = h.1 ∙
+    ap {B = Answer} (λ n. Purged n) (alike.placed.purged h.0 k.0 h.1 k.1) ∙ sym k.1
 
 -- ---- two runs
 
-poison_is : (a : Parts) (before rest : List Played) (x : Played) (seen : Seen) (v : ℕ) → IsFiled a → a.ps ≡ before ++ x ∷ rest → x.answer ≡ Dangling seen v → v ≡ poison
+poison_is : (a : Parts) (before rest : List Played) (x : Played) (seen : Seen) (v : ℕ) → IsFiled a → a.ps ≡ before ++ x ∷ rest →
+    x.answer ≡ Dangling seen v → v ≡ poison
 poison_is a before rest x seen v h parts is =
     let P : Answer → Type 0 = λ z. IsReadExact a.ps z in
     subst P is (h.order.contents x (in_middle before rest a.ps x parts))
 
 -- the registers before the record that comes next in both
-next_registers : (a b : Parts) (before rest rest' : List Played) (x y : Played) (all all' : AllRegs) → IsFiled a → IsFiled b → a.ps ≡ before ++ x ∷ rest → b.ps ≡ before ++ y ∷ rest' →
+next_registers : (a b : Parts) (before rest rest' : List Played) (x y : Played) (all all' : AllRegs) → IsFiled a → IsFiled b →
+    a.ps ≡ before ++ x ∷ rest → b.ps ≡ before ++ y ∷ rest' →
     Agrees x.line a b → HasRegisters a before all → HasRegisters b before all' → all ≡ all'
 next_registers a b before rest rest' x y all all' h k parts parts' agrees rows rows' =
-    registers_agree a b before (x ∷ rest) (y ∷ rest') x.line all all' h k parts parts' (cut_here a before rest x h parts).early agrees rows rows'
+    registers_agree a b before (x ∷ rest) (y ∷ rest') x.line all all' h k parts parts'
+    (cut_here a before rest x h parts).early agrees rows rows'
 
 -- the places of the exchanges
 swaps_agree : (a b : Parts) (before rest rest' : List Played) (x y : Played) (cell reg i j : ℕ) → IsFiled a → IsFiled b
@@ -321,8 +369,10 @@ swaps_agree a b before rest rest' x y cell reg i j h k parts parts' ops lines ag
     let other = of_some _ _ (ap swapped_of (sym is' ∙ has'.answer)) in
     one ∙ ap length (agrees.cells cell) ∙ ap (λ n. length (below cell_line n (b.cells cell))) lines ∙ sym other
 
-pub answers_agree : (a b : Parts) (before rest rest' : List Played) (x y : Played) → IsFiled a → IsFiled b → a.ps ≡ before ++ x ∷ rest → b.ps ≡ before ++ y ∷ rest' → op_line_of x ≡ op_line_of y →
-    Agrees x.line a b → IsPlacedAlike x.answer y.answer → ((seen : Seen) (v w : ℕ) → x.answer ≡ Value seen v → y.answer ≡ Value seen w → v ≡ w) → x.answer ≡ y.answer
+pub answers_agree : (a b : Parts) (before rest rest' : List Played) (x y : Played) → IsFiled a → IsFiled b → a.ps ≡ before ++ x ∷ rest →
+    b.ps ≡ before ++ y ∷ rest' → op_line_of x ≡ op_line_of y →
+    Agrees x.line a b → IsPlacedAlike x.answer y.answer →
+    ((seen : Seen) (v w : ℕ) → x.answer ≡ Value seen v → y.answer ≡ Value seen w → v ≡ w) → x.answer ≡ y.answer
 answers_agree a b before rest rest' x y h k parts parts' same agrees placed values =
     let op : x.op ≡ y.op = ap (λ (l : OpLine). l.op) same in
     let line : x.line ≡ y.line = ap (λ (l : OpLine). l.line) same in
@@ -338,13 +388,16 @@ answers_agree a b before rest rest' x y h k parts parts' same agrees placed valu
       placed = placed;
       sizes = λ size. ap (λ (z : Rules). usable_of z.version size) agrees.rules;
       usable = λ reg s names.
-          ap (λ ps. usable_in ps s) parts ∙ usable_front before (x ∷ rest) (y ∷ rest') s (holds.registers x.thread reg s names) ∙ sym (ap (λ ps. usable_in ps s) parts');
-      seen = λ c d is is' slot. same_seen c d slot (seen_word a before rest x c h parts is ∙ ap (word_after before) slot ∙ sym (seen_word b before rest' y d k parts' is'));
+          ap (λ ps. usable_in ps s) parts ∙ usable_front before (x ∷ rest) (y ∷ rest') s (holds.registers x.thread reg s names) ∙
+          sym (ap (λ ps. usable_in ps s) parts');
+      seen = λ c d is is' slot. same_seen c d slot (seen_word a before rest x c h parts is ∙ ap (word_after before) slot ∙
+          sym (seen_word b before rest' y d k parts' is'));
       values = values;
       poisons = λ c d v w is is'. poison_is a before rest x c v h parts is ∙ sym (poison_is b before rest' y d w k parts' is');
     } in
     row_alike (facts_of a) (facts_of b) x.op (one.all x.thread) x.answer y.answer one.next other.next alike
-    (λ cell reg i j swaps is is'. swaps_agree a b before rest rest' x y cell reg i j h k parts parts' op line agrees swaps is is') one.row row'
+    (λ cell reg i j swaps is is'. swaps_agree a b before rest rest' x y cell reg i j h k parts parts' op line agrees swaps is is') one.row
+    row'
 
 pub swap_cases : (op : Op) (k : ℕ) → ((reg : ℕ) × (op ≡ ops.Swap k reg)) ⊎ ((reg : ℕ) → op ≡ ops.Swap k reg → ⊥)
 swap_cases (ops.Swap cell reg) k = elim (cases_eq cell k) [
@@ -354,7 +407,8 @@ swap_cases (ops.Swap cell reg) k = elim (cases_eq cell k) [
 swap_cases op k = inr (λ r e. cc)
 
 -- the exchanges of a record's line are the same in two runs that agree before it
-pub exchanges_agree : (a b : Parts) (before rest rest' : List Played) (x : Played) → IsFiled a → IsFiled b → a.ps ≡ before ++ x ∷ rest → b.ps ≡ before ++ x ∷ rest' → Agrees x.line a b →
+pub exchanges_agree : (a b : Parts) (before rest rest' : List Played) (x : Played) → IsFiled a → IsFiled b → a.ps ≡ before ++ x ∷ rest →
+    b.ps ≡ before ++ x ∷ rest' → Agrees x.line a b →
     (k : ℕ) → on cell_line x.line (a.cells k) ≡ on cell_line x.line (b.cells k)
 exchanges_agree a b before rest rest' x h k parts parts' agrees cell =
     let here = in_middle before rest a.ps x parts in
@@ -367,7 +421,8 @@ exchanges_agree a b before rest rest' x h k parts parts' agrees cell =
           let other = row_at b before rest' x k parts' in
           let all = next_registers a b before rest rest' x x one.all other.all h k parts parts' agrees one.registers other.registers in
           let gave : e.gave ≡ f.gave = swap_gave a x cell reg e (one.all x.thread) one.next has op one.row
-          ∙ ap (λ (z : AllRegs). handle_of (z x.thread reg)) all ∙ sym (swap_gave b x cell reg f (other.all x.thread) other.next has' op other.row) in
+          ∙ ap (λ (z : AllRegs). handle_of (z x.thread reg)) all ∙
+          sym (swap_gave b x cell reg f (other.all x.thread) other.next has' op other.row) in
           let found : e.found ≡ f.found = has.found ∙ ap (gave_last held.Nothing) (agrees.cells cell) ∙ sym has'.found in
           has.only ∙ ap (λ z. z ∷ []) (same_cell e f (has.line ∙ sym has'.line) gave found) ∙ sym has'.only
       | inr other ↦ exchange_none a x cell h here other ∙ sym (exchange_none b x cell k there other)

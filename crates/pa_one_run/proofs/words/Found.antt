@@ -34,7 +34,8 @@ module _ (a : Parts) (before rest : List Played) (h : IsFiled a) (parts : a.ps �
   pub front_is : IsFront (marks_of a.ps) h.slots (marks_of before)
   front_is =
       let rises = marks_rise a.ps h.rising in
-      front_of (marks_of a.ps) h.slots (marks_of before) (marks_of rest) rises (finds_by_numbers (marks_of a.ps) h.slots rises h.order.numbers) marks_cut
+      front_of (marks_of a.ps) h.slots (marks_of before) (marks_of rest) rises
+      (finds_by_numbers (marks_of a.ps) h.slots rises h.order.numbers) marks_cut
 
 mark_first : (x : Played) (rest : List Played) (m : Mark) → mark_of x ≡ Some m → marks_of (x ∷ rest) ≡ m ∷ marks_of rest
 mark_first x rest m is = rw is refl
@@ -43,45 +44,60 @@ mark_none : (x : Played) (rest : List Played) → mark_of x ≡ None → marks_o
 mark_none x rest none = rw none refl
 
 -- the marks before a record's, its own, and those past it
-pub marks_at : (a : Parts) (before rest : List Played) (x : Played) (m : Mark) → a.ps ≡ before ++ x ∷ rest → mark_of x ≡ Some m → marks_of a.ps ≡ marks_of before ++ m ∷ marks_of rest
-marks_at a before rest x m parts is = ap marks_of parts ∙ filter_map-append mark_of before (x ∷ rest) ∙ ap (λ ys. marks_of before ++ ys) (mark_first x rest m is)
+pub marks_at : (a : Parts) (before rest : List Played) (x : Played) (m : Mark) → a.ps ≡ before ++ x ∷ rest → mark_of x ≡ Some m →
+    marks_of a.ps ≡ marks_of before ++ m ∷ marks_of rest
+marks_at a before rest x m parts is = ap marks_of parts ∙ filter_map-append mark_of before (x ∷ rest) ∙
+    ap (λ ys. marks_of before ++ ys) (mark_first x rest m is)
 
 -- the word found
-pub found_is : (a : Parts) (before rest : List Played) (x : Played) (m : Mark) → IsFiled a → a.ps ≡ before ++ x ∷ rest → mark_of x ≡ Some m → m.found ≡ word_after before m.slot
+pub found_is : (a : Parts) (before rest : List Played) (x : Played) (m : Mark) → IsFiled a → a.ps ≡ before ++ x ∷ rest →
+    mark_of x ≡ Some m → m.found ≡ word_after before m.slot
 found_is a before rest x m h parts is =
-    finds_by_numbers (marks_of a.ps) h.slots (marks_rise a.ps h.rising) h.order.numbers (marks_of before) (marks_of rest) m (marks_at a before rest x m parts is) (front_is a before (x ∷ rest) h parts)
+    finds_by_numbers (marks_of a.ps) h.slots (marks_rise a.ps h.rising) h.order.numbers (marks_of before) (marks_of rest) m
+    (marks_at a before rest x m parts is) (front_is a before (x ∷ rest) h parts)
 
 -- a step that was made can be made
-pub step_can : (a : Parts) (before rest : List Played) (x : Played) (m : Mark) (p : Step) → IsFiled a → a.ps ≡ before ++ x ∷ rest → mark_of x ≡ Some m → m.step ≡ Some p → CanStep p m.found
-step_can a before rest x m p h parts is step = let (vs, run, one) = h.slots m.slot in (one.used m p (mark_in a.ps x m (in_middle before rest a.ps x parts) is) refl step).1
+pub step_can : (a : Parts) (before rest : List Played) (x : Played) (m : Mark) (p : Step) → IsFiled a → a.ps ≡ before ++ x ∷ rest →
+    mark_of x ≡ Some m → m.step ≡ Some p → CanStep p m.found
+step_can a before rest x m p h parts is step = let (vs, run, one) = h.slots m.slot in
+    (one.used m p (mark_in a.ps x m (in_middle before rest a.ps x parts) is) refl step).1
 
 -- the records before a line have one run for each slot, which ends at its word
 pub front_slots : (a : Parts) (before rest : List Played) → IsFiled a → a.ps ≡ before ++ rest → Slots (marks_of before)
 front_slots a before rest h parts = slots_of_runs (marks_of before) (λ s. word_after before s) (front_is a before rest h parts).runs
 
-pub front_word : (a : Parts) (before rest : List Played) (s : SlotName) → IsFiled a → a.ps ≡ before ++ rest → HasWord before s (word_after before s)
+pub front_word : (a : Parts) (before rest : List Played) (s : SlotName) → IsFiled a → a.ps ≡ before ++ rest →
+    HasWord before s (word_after before s)
 front_word a before rest s h parts =
     let runs = (front_is a before rest h parts).runs in
     let (vs, path, found) = runs.path s in
-    let ends = runs_end (marks_of before) (λ z. word_after before z) s runs in
-    (vs, run_of_path (marks_of before) s 0 vs (word_after before s) ends path, path_ends (marks_of before) s 0 vs (word_after before s) path)
+    let ends = runs_end (marks_of before) (λ z. word_after before z) s runs in (
+      vs,
+      run_of_path (marks_of before) s 0 vs (word_after before s) ends path,
+      path_ends (marks_of before) s 0 vs (word_after before s) path,
+    )
 
 -- one record more: a slot that it doesn't name keeps its word, and one that it names has the next
-pub word_same : (before : List Played) (x : Played) (s : SlotName) → mark_of x ≡ None → word_after (before ++ x ∷ []) s ≡ word_after before s
+pub word_same : (before : List Played) (x : Played) (s : SlotName) → mark_of x ≡ None →
+    word_after (before ++ x ∷ []) s ≡ word_after before s
 word_same before x s none =
-    ap (λ ms. word_from ms s 0) (filter_map-append mark_of before (x ∷ []) ∙ ap (λ ys. marks_of before ++ ys) (mark_none x [] none) ∙ append-nil (marks_of before))
+    ap (λ ms. word_from ms s 0) (filter_map-append mark_of before (x ∷ []) ∙ ap (λ ys. marks_of before ++ ys) (mark_none x [] none) ∙
+    append-nil (marks_of before))
 
 marks_more : (before : List Played) (x : Played) (m : Mark) → mark_of x ≡ Some m → marks_of (before ++ x ∷ []) ≡ marks_of before ++ m ∷ []
 marks_more before x m is = filter_map-append mark_of before (x ∷ []) ∙ ap (λ ys. marks_of before ++ ys) (mark_first x [] m is)
 
-pub word_other : (before : List Played) (x : Played) (m : Mark) (s : SlotName) → mark_of x ≡ Some m → (m.slot ≡ s → ⊥) → word_after (before ++ x ∷ []) s ≡ word_after before s
+pub word_other : (before : List Played) (x : Played) (m : Mark) (s : SlotName) → mark_of x ≡ Some m → (m.slot ≡ s → ⊥) →
+    word_after (before ++ x ∷ []) s ≡ word_after before s
 word_other before x m s is other = ap (λ ms. word_from ms s 0) (marks_more before x m is) ∙ word_beside (marks_of before) m s other
 
-pub word_here : (before : List Played) (x : Played) (m : Mark) → mark_of x ≡ Some m → word_after (before ++ x ∷ []) m.slot ≡ stepped_by m.step (word_after before m.slot)
+pub word_here : (before : List Played) (x : Played) (m : Mark) → mark_of x ≡ Some m →
+    word_after (before ++ x ∷ []) m.slot ≡ stepped_by m.step (word_after before m.slot)
 word_here before x m is = ap (λ ms. word_from ms m.slot 0) (marks_more before x m is) ∙ word_at (marks_of before) m
 
 -- if a slot has a first holder at a number, the word that a record finds with that number is free
-pub held_free : (a : Parts) (s : SlotName) (k : ℕ) (holder : Holder) (n : Mark) → IsFiled a → IsFirstHolder a.ps s k holder → Contains (marks_of a.ps) n → n.slot ≡ s → number_of n.found ≡ k →
+pub held_free : (a : Parts) (s : SlotName) (k : ℕ) (holder : Holder) (n : Mark) → IsFiled a → IsFirstHolder a.ps s k holder →
+    Contains (marks_of a.ps) n → n.slot ≡ s → number_of n.found ≡ k →
     (held_of n.found ≡ 0) × (refs_of n.found ≡ 0)
 held_free a s k holder n h first among slot number =
     let (vs, run, one) = h.slots s in
@@ -96,7 +112,8 @@ held_free a s k holder n h first among slot number =
           let found = one.found m (mark_in a.ps x m member mark) of in
           let next = goes_on (marks_of a.ps) s 0 vs m.found m p (marks_rise a.ps h.rising) run found at can in
           let more = number_stepped p m.found can in
-          let is : n.found ≡ stepped p m.found = same_word (marks_of a.ps) s 0 vs n.found (stepped p m.found) run there next (omega arith) in
+          let is : n.found ≡ stepped p m.found =
+          same_word (marks_of a.ps) s 0 vs n.found (stepped p m.found) run there next (omega arith) in
           let (free, none) = leaves_free p m.found can returning in
           (ap held_of is ∙ free, ap refs_of is ∙ none)
     ]

@@ -71,12 +71,14 @@ no_step : (b : Bool) (o : Option Step) → o ≡ None → cond {A = ℕ} (b && i
 no_step true o e = rw e refl
 no_step false o e = refl
 
-front_look : (ms : List Mark) (slots : Slots ms) (front : List Mark) (m : Mark) → ((k : Mark) → Contains front k → k.line < m.line) → m.found ≡ word_from front m.slot 0 → m.step ≡ None →
+front_look : (ms : List Mark) (slots : Slots ms) (front : List Mark) (m : Mark) → ((k : Mark) → Contains front k → k.line < m.line) →
+    m.found ≡ word_from front m.slot 0 → m.step ≡ None →
     IsFront ms slots front → IsFront ms slots (front ++ m ∷ [])
 front_look ms slots front m rising found none h =
     let same : (s : SlotName) → word_from (front ++ m ∷ []) s 0 ≡ word_from front s 0 = λ s. word_look front m s none in
     record {
-      runs = runs_same (front ++ m ∷ []) (λ s. word_from front s 0) (λ s. word_from (front ++ m ∷ []) s 0) same (runs_look front m (λ s. word_from front s 0) rising found none h.runs);
+      runs = runs_same (front ++ m ∷ []) (λ s. word_from front s 0) (λ s. word_from (front ++ m ∷ []) s 0) same
+          (runs_look front m (λ s. word_from front s 0) rising found none h.runs);
       lies = λ s. subst (λ z. Contains (0 ∷ (slots s).0) z) (sym (same s)) (h.lies s);
       counted = λ s.
           let a = steps_push s front m in
@@ -92,17 +94,21 @@ one_step_more b o p e f = rw (e, f) refl
 not_counted : (b : Bool) (o : Option Step) → b ≡ false → cond {A = ℕ} (b && is_some o) 1 0 ≡ 0
 not_counted b o e = rw e refl
 
-front_step : (ms : List Mark) (slots : Slots ms) (front : List Mark) (m : Mark) (p : Step) → AllPairs Rises ms → Contains ms m → ((k : Mark) → Contains front k → k.line < m.line) →
+front_step : (ms : List Mark) (slots : Slots ms) (front : List Mark) (m : Mark) (p : Step) → AllPairs Rises ms → Contains ms m →
+    ((k : Mark) → Contains front k → k.line < m.line) →
     m.found ≡ word_from front m.slot 0 → m.step ≡ Some p → IsFront ms slots front → IsFront ms slots (front ++ m ∷ [])
 front_step ms slots front m p rises among rising found step h =
     let (vs, run, one) = slots m.slot in
     let (first, can) = one.used m p among refl step in
-    let here : word_from (front ++ m ∷ []) m.slot 0 ≡ stepped p m.found = word_at front m ∙ ap (λ o. stepped_by o (word_from front m.slot 0)) step ∙ ap (stepped p) (sym found) in
+    let here : word_from (front ++ m ∷ []) m.slot 0 ≡ stepped p m.found = word_at front m ∙
+    ap (λ o. stepped_by o (word_from front m.slot 0)) step ∙ ap (stepped p) (sym found) in
     record {
-      runs = runs_step front m p (λ s. word_from front s 0) (λ s. word_from (front ++ m ∷ []) s 0) rising found step can here (λ s other. word_beside front m s (λ e. other (sym e))) h.runs;
+      runs = runs_step front m p (λ s. word_from front s 0) (λ s. word_from (front ++ m ∷ []) s 0) rising found step can here
+          (λ s other. word_beside front m s (λ e. other (sym e))) h.runs;
       lies = λ s. elim (same_slot_cases m.slot s) [
         | inl e ↦
-            let on : Contains (0 ∷ vs) (stepped p m.found) = goes_on ms m.slot 0 vs m.found m p rises run (one.found m among refl) first can in
+            let on : Contains (0 ∷ vs) (stepped p m.found) =
+            goes_on ms m.slot 0 vs m.found m p rises run (one.found m among refl) first can in
             subst (λ z. Contains (0 ∷ (slots z).0) (word_from (front ++ m ∷ []) z 0)) e (subst (λ z. Contains (0 ∷ vs) z) (sym here) on)
         | inr other ↦ subst (λ z. Contains (0 ∷ (slots s).0) z) (sym (word_beside front m s other)) (h.lies s)
       ];
@@ -119,31 +125,38 @@ front_step ms slots front m p rises among rising found step h =
                 omega arith
             | inr other ↦
                 let b = not_counted (same_slot m.slot s) m.step (same_slot_no m.slot s other) in
-                let d : number_of (word_from (front ++ m ∷ []) s 0) ≡ number_of (word_from front s 0) = ap number_of (word_beside front m s other) in
+                let d : number_of (word_from (front ++ m ∷ []) s 0) ≡ number_of (word_from front s 0) =
+                ap number_of (word_beside front m s other) in
                 omega arith
           ];
     }
 
-front_push : (ms : List Mark) (slots : Slots ms) (front : List Mark) (m : Mark) (o : Option Step) → m.step ≡ o → AllPairs Rises ms → Contains ms m → ((k : Mark) → Contains front k → k.line < m.line) →
+front_push : (ms : List Mark) (slots : Slots ms) (front : List Mark) (m : Mark) (o : Option Step) → m.step ≡ o → AllPairs Rises ms →
+    Contains ms m → ((k : Mark) → Contains front k → k.line < m.line) →
     m.found ≡ word_from front m.slot 0 → IsFront ms slots front → IsFront ms slots (front ++ m ∷ [])
 front_push ms slots front m None step rises among rising found h = front_look ms slots front m rising found step h
 front_push ms slots front m (Some p) step rises among rising found h = front_step ms slots front m p rises among rising found step h
 
 -- each mark finds the word that those before it leave
 abbrev pub FindsLeft : (ms : List Mark) → Slots ms → Type 0
-FindsLeft ms slots = (front back : List Mark) (m : Mark) → ms ≡ front ++ m ∷ back → IsFront ms slots front → m.found ≡ word_from front m.slot 0
+FindsLeft ms slots = (front back : List Mark) (m : Mark) → ms ≡ front ++ m ∷ back → IsFront ms slots front →
+    m.found ≡ word_from front m.slot 0
 
-fronts : (ms : List Mark) (slots : Slots ms) (front xs back : List Mark) → AllPairs Rises ms → FindsLeft ms slots → ms ≡ front ++ (xs ++ back) → IsFront ms slots front → IsFront ms slots (front ++ xs)
+fronts : (ms : List Mark) (slots : Slots ms) (front xs back : List Mark) → AllPairs Rises ms → FindsLeft ms slots → ms ≡ front ++
+    (xs ++ back) → IsFront ms slots front → IsFront ms slots (front ++ xs)
 fronts ms slots front [] back rises finds parts h = rw (append-nil front) h
 fronts ms slots front (m ∷ xs) back rises finds parts h =
     let among = in_middle front (xs ++ back) ms m parts in
     let rising : (k : Mark) → Contains front k → k.line < m.line =
-    λ k before. pairs_across Rises front (m ∷ (xs ++ back)) k m (subst (λ z. AllPairs Rises z) parts rises) before (first_in m (xs ++ back)) in
-    let next : IsFront ms slots (front ++ m ∷ []) = front_push ms slots front m m.step refl rises among rising (finds front (xs ++ back) m parts h) h in
+    λ k before. pairs_across Rises front (m ∷ (xs ++ back)) k m (subst (λ z. AllPairs Rises z) parts rises) before
+    (first_in m (xs ++ back)) in
+    let next : IsFront ms slots (front ++ m ∷ []) =
+    front_push ms slots front m m.step refl rises among rising (finds front (xs ++ back) m parts h) h in
     let parts' : ms ≡ (front ++ m ∷ []) ++ (xs ++ back) = parts ∙ sym (append_assoc front (m ∷ []) (xs ++ back)) in
     subst (λ z. IsFront ms slots z) (append_assoc front (m ∷ []) xs) (fronts ms slots (front ++ m ∷ []) xs back rises finds parts' next)
 
-pub front_of : (ms : List Mark) (slots : Slots ms) (front back : List Mark) → AllPairs Rises ms → FindsLeft ms slots → ms ≡ front ++ back → IsFront ms slots front
+pub front_of : (ms : List Mark) (slots : Slots ms) (front back : List Mark) → AllPairs Rises ms → FindsLeft ms slots → ms ≡ front ++ back →
+    IsFront ms slots front
 front_of ms slots front back rises finds parts = fronts ms slots [] front back rises finds parts (front_none ms slots)
 
 -- ---- the numbers
@@ -164,7 +177,8 @@ none_before s line (m ∷ ms) late =
     omega arith
 
 -- the steps before a line are those of the marks before it
-pub steps_in_front : (s : SlotName) (line : ℕ) (front back : List Mark) → ((k : Mark) → Contains front k → k.line < line) → ((k : Mark) → Contains back k → line ≤ k.line) →
+pub steps_in_front : (s : SlotName) (line : ℕ) (front back : List Mark) → ((k : Mark) → Contains front k → k.line < line) →
+    ((k : Mark) → Contains back k → line ≤ k.line) →
     steps_before s line (front ++ back) ≡ steps_of s front
 steps_in_front s line [] back early late = none_before s line back late
 steps_in_front s line (m ∷ ms) back early late =
@@ -175,7 +189,8 @@ steps_in_front s line (m ∷ ms) back early late =
     omega arith
 
 -- the steps on the lines before a mark are those of the marks before it
-pub steps_at : (ms front back : List Mark) (m : Mark) → AllPairs Rises ms → ms ≡ front ++ m ∷ back → steps_before m.slot m.line ms ≡ steps_of m.slot front
+pub steps_at : (ms front back : List Mark) (m : Mark) → AllPairs Rises ms → ms ≡ front ++ m ∷ back →
+    steps_before m.slot m.line ms ≡ steps_of m.slot front
 steps_at ms front back m rises parts =
     let cut : AllPairs Rises (front ++ m ∷ back) = subst (λ z. AllPairs Rises z) parts rises in
     ap (steps_before m.slot m.line) parts
@@ -190,5 +205,6 @@ pub finds_by_numbers : (ms : List Mark) (slots : Slots ms) → AllPairs Rises ms
 finds_by_numbers ms slots rises numbers front back m parts h =
     let (vs, run, one) = slots m.slot in
     let among = in_middle front back ms m parts in
-    let number : number_of m.found ≡ number_of (word_from front m.slot 0) = numbers m among ∙ steps_at ms front back m rises parts ∙ sym (h.counted m.slot) in
+    let number : number_of m.found ≡ number_of (word_from front m.slot 0) = numbers m among ∙ steps_at ms front back m rises parts ∙
+    sym (h.counted m.slot) in
     same_word ms m.slot 0 vs m.found (word_from front m.slot 0) run (one.found m among refl) (h.lies m.slot) number

@@ -18,13 +18,16 @@ abbrev pub Rises : Mark → Mark → Type 0
 Rises m n = m.line < n.line
 
 pub marks_rise : (ps : List Played) → AllPairs Earlier ps → AllPairs Rises (marks_of ps)
-marks_rise ps h = marks_pairs Earlier Rises (λ x y m n less is is'. let a = mark_line x m is in let b = mark_line y n is' in omega arith) ps h
+marks_rise ps h = marks_pairs Earlier Rises (λ x y m n less is is'. let a = mark_line x m is in let b = mark_line y n is' in
+    omega arith) ps h
 
 -- two first steps at a word are one
-pub one_step : (ms : List Mark) (s : SlotName) (u : ℕ) (m n : Mark) (p q : Step) → AllPairs Rises ms → IsFirstAt ms s u m p → IsFirstAt ms s u n q → m ≡ n
+pub one_step : (ms : List Mark) (s : SlotName) (u : ℕ) (m n : Mark) (p q : Step) → AllPairs Rises ms → IsFirstAt ms s u m p →
+    IsFirstAt ms s u n q → m ≡ n
 one_step ms s u m n p q h f g = one_mark ms s u m n p q (λ i j d low inside same. let up = h i j d low inside in omega arith) f g
 
 -- if a step was made at a word of the run, the next word is one of the run
-pub goes_on : (ms : List Mark) (s : SlotName) (u : ℕ) (vs : List ℕ) (w : ℕ) (m : Mark) (p : Step) → AllPairs Rises ms → IsRunFrom ms s u vs → Contains (u ∷ vs) w → IsFirstAt ms s w m p → CanStep p w →
+pub goes_on : (ms : List Mark) (s : SlotName) (u : ℕ) (vs : List ℕ) (w : ℕ) (m : Mark) (p : Step) → AllPairs Rises ms →
+    IsRunFrom ms s u vs → Contains (u ∷ vs) w → IsFirstAt ms s w m p → CanStep p w →
     Contains (u ∷ vs) (stepped p w)
 goes_on ms s u vs w m p h = goes_on_by_lines ms s u vs w m p (λ i j d low inside same. let up = h i j d low inside in omega arith)

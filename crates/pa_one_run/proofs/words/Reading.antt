@@ -24,7 +24,8 @@ use Rattle.pa_one_run.proofs.lines.Cuts.{same_played, early_in, cut_here}
 
 -- ---- a record that found a lesser number of the slot comes before
 
-pub stands_before : (a : Parts) (before rest : List Played) (x q : Played) (m n : Mark) → IsFiled a → a.ps ≡ before ++ x ∷ rest → mark_of x ≡ Some m → Contains a.ps q → mark_of q ≡ Some n →
+pub stands_before : (a : Parts) (before rest : List Played) (x q : Played) (m n : Mark) → IsFiled a → a.ps ≡ before ++ x ∷ rest →
+    mark_of x ≡ Some m → Contains a.ps q → mark_of q ≡ Some n →
     n.slot ≡ m.slot → number_of n.found < number_of m.found → Contains before q
 stands_before a before rest x q m n h parts is member is' slot less = elim (cases_lt q.line x.line) [
   | inl early ↦ early_in a x.line before (x ∷ rest) q (cut_here a before rest x h parts) member early
@@ -34,27 +35,32 @@ stands_before a before rest x q m n h parts is member is' slot less = elim (case
       let up = steps_rise m.slot m.line n.line (marks_of a.ps) (omega arith) in
       let d = h.order.numbers m (mark_in a.ps x m (in_middle before rest a.ps x parts) is) in
       let e = h.order.numbers n (mark_in a.ps q n member is') in
-      let f : steps_before n.slot n.line (marks_of a.ps) ≡ steps_before m.slot n.line (marks_of a.ps) = ap (λ s. steps_before s n.line (marks_of a.ps)) slot in
+      let f : steps_before n.slot n.line (marks_of a.ps) ≡ steps_before m.slot n.line (marks_of a.ps) =
+      ap (λ s. steps_before s n.line (marks_of a.ps)) slot in
       absurd (omega arith)
 ]
 
 -- ---- the marks of what made, wrote and read
 
-pub made_mark : (q : Played) (seen : Seen) (usable : ℕ) → q.answer ≡ Made seen usable → mark_of q ≡ Some (mark_at q.line seen (Some steps.Issue))
+pub made_mark : (q : Played) (seen : Seen) (usable : ℕ) → q.answer ≡ Made seen usable →
+    mark_of q ≡ Some (mark_at q.line seen (Some steps.Issue))
 made_mark q seen usable e = rw e refl
 
-pub written_mark : (q : Played) (seen : Seen) (reg value : ℕ) → q.op ≡ ops.Write reg value → q.answer ≡ Done seen → mark_of q ≡ Some (mark_at q.line seen (Some steps.Write))
+pub written_mark : (q : Played) (seen : Seen) (reg value : ℕ) → q.op ≡ ops.Write reg value → q.answer ≡ Done seen →
+    mark_of q ≡ Some (mark_at q.line seen (Some steps.Write))
 written_mark q seen reg value op e = rw (e, op) refl
 
 -- ---- the content before a record that reads
 
-module _ (a : Parts) (before rest : List Played) (x : Played) (seen : Seen) (v : ℕ) (h : IsFiled a) (parts : a.ps ≡ before ++ x ∷ rest) (reads : x.answer ≡ Value seen v) where
+module _ (a : Parts) (before rest : List Played) (x : Played) (seen : Seen) (v : ℕ) (h : IsFiled a) (parts : a.ps ≡ before ++ x ∷ rest)
+    (reads : x.answer ≡ Value seen v) where
   made_before : (m : ℕ) → IsMadeAt a.ps seen.slot m → m < number_of seen.found.0 → IsMadeAt before seen.slot m
   made_before m (q, other, usable, member, answer, slot, number) less = (
     q,
     other,
     usable,
-    stands_before a before rest x q (mark_at x.line seen None) (mark_at q.line other (Some steps.Issue)) h parts (read_mark x seen v reads) member (made_mark q other usable answer) slot (omega arith),
+    stands_before a before rest x q (mark_at x.line seen None) (mark_at q.line other (Some steps.Issue)) h parts
+        (read_mark x seen v reads) member (made_mark q other usable answer) slot (omega arith),
     answer,
     slot,
     number,
@@ -64,7 +70,8 @@ module _ (a : Parts) (before rest : List Played) (x : Played) (seen : Seen) (v :
   made_there m (q, other, usable, member, answer, slot, number) =
       (q, other, usable, in_front before (x ∷ rest) a.ps q parts member, answer, slot, number)
 
-  written_before : (n value : ℕ) → IsWrittenFor a.ps seen.slot (number_of seen.found.0) n value → IsWrittenFor before seen.slot (number_of seen.found.0) n value
+  written_before : (n value : ℕ) → IsWrittenFor a.ps seen.slot (number_of seen.found.0) n value →
+      IsWrittenFor before seen.slot (number_of seen.found.0) n value
   written_before n value ((q, other, reg, member, op, answer, slot, number), less, none) = (
     (
       q,
@@ -81,7 +88,8 @@ module _ (a : Parts) (before rest : List Played) (x : Played) (seen : Seen) (v :
     λ m made. none m (made_there m made),
   )
 
-  written_there : (n value : ℕ) → IsWrittenFor before seen.slot (number_of seen.found.0) n value → IsWrittenFor a.ps seen.slot (number_of seen.found.0) n value
+  written_there : (n value : ℕ) → IsWrittenFor before seen.slot (number_of seen.found.0) n value →
+      IsWrittenFor a.ps seen.slot (number_of seen.found.0) n value
   written_there n value ((q, other, reg, member, op, answer, slot, number), less, none) = (
     (q, other, reg, in_front before (x ∷ rest) a.ps q parts member, op, answer, slot, number),
     less,
@@ -100,24 +108,29 @@ module _ (a : Parts) (before rest : List Played) (x : Played) (seen : Seen) (v :
 -- ---- one content
 
 -- one number of a slot was written once
-written_once : (a : Parts) (before rest : List Played) (s : SlotName) (n v w : ℕ) → IsFiled a → a.ps ≡ before ++ rest → IsWrittenAt before s n v → IsWrittenAt before s n w → v ≡ w
-written_once a before rest s n v w h parts (q, seen, reg, member, op, answer, slot, number) (r, other, reg', member', op', answer', slot', number') =
+written_once : (a : Parts) (before rest : List Played) (s : SlotName) (n v w : ℕ) → IsFiled a → a.ps ≡ before ++ rest →
+    IsWrittenAt before s n v → IsWrittenAt before s n w → v ≡ w
+written_once a before rest s n v w h parts (q, seen, reg, member, op, answer, slot, number)
+    (r, other, reg', member', op', answer', slot', number') =
     let (vs, run, one) = h.slots s in
     let there : Contains a.ps q = in_front before rest a.ps q parts member in
     let there' : Contains a.ps r = in_front before rest a.ps r parts member' in
     let among = mark_in a.ps q (mark_at q.line seen (Some steps.Write)) there (written_mark q seen reg v op answer) in
     let among' = mark_in a.ps r (mark_at r.line other (Some steps.Write)) there' (written_mark r other reg' w op' answer') in
     let word = same_word (marks_of a.ps) s 0 vs seen.found.0 other.found.0 run
-    (one.found (mark_at q.line seen (Some steps.Write)) among slot) (one.found (mark_at r.line other (Some steps.Write)) among' slot') (number ∙ sym number') in
+    (one.found (mark_at q.line seen (Some steps.Write)) among slot) (one.found (mark_at r.line other (Some steps.Write)) among' slot')
+    (number ∙ sym number') in
     let (first, can) = one.used (mark_at q.line seen (Some steps.Write)) steps.Write among slot refl in
     let (first', can') = one.used (mark_at r.line other (Some steps.Write)) steps.Write among' slot' refl in
-    let line = first_line (marks_of a.ps) s other.found.0 (mark_at q.line seen (Some steps.Write)) (mark_at r.line other (Some steps.Write)) steps.Write steps.Write
+    let line = first_line (marks_of a.ps) s other.found.0 (mark_at q.line seen (Some steps.Write))
+    (mark_at r.line other (Some steps.Write)) steps.Write steps.Write
     (subst (λ z. IsFirstAt (marks_of a.ps) s z (mark_at q.line seen (Some steps.Write)) steps.Write) word first) first' in
     let same : q ≡ r = same_played a q r h there there' line in
     let ops' : ops.Write reg v ≡ ops.Write reg' w = sym op ∙ ap (λ (z : Played). z.op) same ∙ op' in
     cc
 
-content_one : (a : Parts) (before rest : List Played) (s : SlotName) (k v w : ℕ) → IsFiled a → a.ps ≡ before ++ rest → IsContent before s k v → IsContent before s k w → v ≡ w
+content_one : (a : Parts) (before rest : List Played) (s : SlotName) (k v w : ℕ) → IsFiled a → a.ps ≡ before ++ rest →
+    IsContent before s k v → IsContent before s k w → v ≡ w
 content_one a before rest s k v w h parts (inl (n, written, last)) (inl (m, written', last')) = elim (cases_lt n m) [
   | inl less ↦ absurd (last m w written' less)
   | inr more ↦ elim (cases_lt m n) [
@@ -131,7 +144,9 @@ content_one a before rest s k v w h parts (inl (n, written, last)) (inr (zero_va
 content_one a before rest s k v w h parts (inr (zero_value, none)) (inl (m, written, last)) = absurd (none m w written)
 content_one a before rest s k v w h parts (inr (zero_value, none)) (inr (zero_value', none')) = zero_value ∙ sym zero_value'
 
-pub values_agree : (a b : Parts) (before rest rest' : List Played) (x y : Played) (seen : Seen) (v w : ℕ) → IsFiled a → IsFiled b → a.ps ≡ before ++ x ∷ rest → b.ps ≡ before ++ y ∷ rest' →
+pub values_agree : (a b : Parts) (before rest rest' : List Played) (x y : Played) (seen : Seen) (v w : ℕ) → IsFiled a → IsFiled b →
+    a.ps ≡ before ++ x ∷ rest → b.ps ≡ before ++ y ∷ rest' →
     x.answer ≡ Value seen v → y.answer ≡ Value seen w → v ≡ w
 values_agree a b before rest rest' x y seen v w h k parts parts' is is' =
-    content_one a before (x ∷ rest) seen.slot (number_of seen.found.0) v w h parts (content_before a before rest x seen v h parts is) (content_before b before rest' y seen w k parts' is')
+    content_one a before (x ∷ rest) seen.slot (number_of seen.found.0) v w h parts (content_before a before rest x seen v h parts is)
+    (content_before b before rest' y seen w k parts' is')

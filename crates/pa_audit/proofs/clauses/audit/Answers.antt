@@ -8,7 +8,8 @@ use Rattle.pa_audit.proofs.Alike.{same_verdict}
 use Rattle.pa_audit.proofs.clauses.audit.Goals as goal
 
 -- an answer of the run that has the lists is one of the run
-told_of_run : {E : Type 0} (a b : Run) (t : Trace) (r : Result Verdict E) → HasListsOf a b → IfOk r (λ v. IsVerdict v t b) → IfOk r (λ v. IsVerdict v t a)
+told_of_run : {E : Type 0} (a b : Run) (t : Trace) (r : Result Verdict E) → HasListsOf a b →
+    IfOk r (λ v. IsVerdict v t b) → IfOk r (λ v. IsVerdict v t a)
 told_of_run a b t (Ok v) same is = same_verdict a b t v same is
 told_of_run a b t (Err e) same is = tt
 

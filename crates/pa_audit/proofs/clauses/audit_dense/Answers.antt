@@ -23,7 +23,8 @@ turn_below clauses.Seen = omega arith
 turn_below clauses.Report = omega arith
 
 pub returns : goal.returns
-returns c = (c.legal_is.ensures c.args.trace.now c.args.run.now).1 (λ d. let less = turn_below d in c.loop-at.invariant.holds d (omega (arith, less, c.loop-at-test.false)))
+returns c = (c.legal_is.ensures c.args.trace.now c.args.run.now).1
+    (λ d. let less = turn_below d in c.loop-at.invariant.holds d (omega (arith, less, c.loop-at-test.false)))
 
 pub clause_fails-requires-clause-can : goal.clause_fails-requires-clause-can
 clause_fails-requires-clause-can c =
@@ -39,7 +40,8 @@ clause_fails-requires-clause-can c =
       printable = c.requires.printable;
       short = c.requires.short;
       records = same ∙ told.records ∙ ap (λ k. played k c.as_slice.result.now c.entries.result.now) c.rules.ensures
-          ∙ ap (λ ls. played (rules_of c.args.trace.now) ls c.entries.result.now) c.as_slice.ensures ∙ ap (played (rules_of c.args.trace.now) c.args.trace.now.lines) c.entries.ensures.entries;
+          ∙ ap (λ ls. played (rules_of c.args.trace.now) ls c.entries.result.now) c.as_slice.ensures ∙
+          ap (played (rules_of c.args.trace.now) c.args.trace.now.lines) c.entries.ensures.entries;
       few = let long = ap length same in let all = ap length lines in omega (arith, long, all, few, short);
       rising = subst RiseByLine (sym same) told.rising;
       before = λ d less. c.loop-at.invariant.holds d (let at = c.clause_of-clause.ensures in omega (arith, less, at));

@@ -22,14 +22,16 @@ returns-in-Some-clause-place c =
     let t = c.args.trace.now in
     let r = c.args.run.now in
     refusal_told t.partitions c.args.records.now r.pool.items (journal_at r.roots.items) c.in-Some.at
-    (subst (λ rs. Refusals t.partitions c.args.records.now r.pool.items rs (Some c.in-Some.at)) c.roots.ensures.roots (c.in-Some.ensures t.partitions r.pool.items))
+    (subst (λ rs. Refusals t.partitions c.args.records.now r.pool.items rs (Some c.in-Some.at)) c.roots.ensures.roots
+    (c.in-Some.ensures t.partitions r.pool.items))
 
 pub returns-in-Some-first-clause-place : goal.returns-in-Some-first-clause-place
 returns-in-Some-first-clause-place c =
     let t = c.args.trace.now in
     let r = c.args.run.now in
     entry_told t.partitions c.args.records.now r.pool.items (journal_at r.roots.items) c.in-Some-first.partition c.in-Some-first.at
-    (subst (λ rs. Refusals t.partitions c.args.records.now r.pool.items rs None) c.roots.ensures.roots (c.in-None.ensures t.partitions r.pool.items))
+    (subst (λ rs. Refusals t.partitions c.args.records.now r.pool.items rs None) c.roots.ensures.roots
+    (c.in-None.ensures t.partitions r.pool.items))
     (subst (Entries t.partitions c.args.records.now r.pool.items r.roots.items) c.in-Some-first.is c.in_ok-first-in-None.ensures.entry)
 
 pub returns-in-None-first-clause-place : goal.returns-in-None-first-clause-place
@@ -37,7 +39,8 @@ returns-in-None-first-clause-place c =
     let t = c.args.trace.now in
     let r = c.args.run.now in
     entries_all t.partitions c.args.records.now r.pool.items (journal_at r.roots.items)
-    (subst (λ rs. Refusals t.partitions c.args.records.now r.pool.items rs None) c.roots.ensures.roots (c.in-None.ensures t.partitions r.pool.items))
+    (subst (λ rs. Refusals t.partitions c.args.records.now r.pool.items rs None) c.roots.ensures.roots
+    (c.in-None.ensures t.partitions r.pool.items))
     (subst (Entries t.partitions c.args.records.now r.pool.items r.roots.items) c.in-None-first.is c.in_ok-first-in-None.ensures.entry)
 
 pub returns-in_err-first-in-None-clause-asks : goal.returns-in_err-first-in-None-clause-asks
@@ -45,4 +48,5 @@ returns-in_err-first-in-None-clause-asks c =
     let t = c.args.trace.now in
     let r = c.args.run.now in
     any_err c.from_residual.result _
-    (subst (λ rs. Refusals t.partitions c.args.records.now r.pool.items rs None) c.roots.ensures.roots (c.in-None.ensures t.partitions r.pool.items))
+    (subst (λ rs. Refusals t.partitions c.args.records.now r.pool.items rs None) c.roots.ensures.roots
+    (c.in-None.ensures t.partitions r.pool.items))

@@ -26,7 +26,8 @@ abbrev Entries : ℕ → List Played → List PoolEntry → List (List RootEntry
 Entries supers ps pools roots o = TellsFirst (λ j. PoolDemand supers ps pools (journal_at roots) (places.Pool j)) o
 
 -- what is reported of these records, entries and journals is reported of the run's places
-places_of : (t : Trace) (r : Run) (ps : List Played) (pools : List PoolEntry) (roots : List (List RootEntry)) (o : Option ℕ) → AreRecordsOf t r ps → pools ≡ r.pool.items → roots ≡ r.roots.items →
+places_of : (t : Trace) (r : Run) (ps : List Played) (pools : List PoolEntry) (roots : List (List RootEntry)) (o : Option ℕ) →
+    AreRecordsOf t r ps → pools ≡ r.pool.items → roots ≡ r.roots.items →
     Entries t.region ps pools roots o → TellsPlace (Demand clauses.Pool t (told_by r)) (option_map places.Pool o)
 places_of t r ps pools roots o records same is tells =
     pool_told t.region (records_of t (told_by r)) r.pool.items (journal_at r.roots.items) o
@@ -37,7 +38,9 @@ pub pool_meets-requires-clause-supers : goal.pool_meets-requires-clause-supers
 pool_meets-requires-clause-supers c = region_few c.args.trace.now c.requires.limits
 
 pub pool_meets-requires-clause-threads : goal.pool_meets-requires-clause-threads
-pool_meets-requires-clause-threads c = of_threads c.args.trace.now c.args.run.now c.args.records.now c.requires.records c.requires.limits (c.requires.before clauses.Lines (omega arith))
+pool_meets-requires-clause-threads c =
+    of_threads c.args.trace.now c.args.run.now c.args.records.now c.requires.records c.requires.limits
+    (c.requires.before clauses.Lines (omega arith))
 
 pub line_where-requires-clause-there : goal.line_where-requires-clause-there
 line_where-requires-clause-there c =
@@ -46,7 +49,8 @@ line_where-requires-clause-there c =
     let o = c.in_ok-at.at in
     subst (λ p. IfSome p (IsThere r)) (sym c.pool_place.ensures)
     (place_there clauses.Pool t r (option_map places.Pool o) (pool_rest t r)
-    (places_of t r c.args.records.now c.pool-pools.result.now c.roots.result.now o c.requires.records c.pool-pools.ensures.pool c.roots.ensures.roots c.in_ok-at.ensures))
+    (places_of t r c.args.records.now c.pool-pools.result.now c.roots.result.now o c.requires.records c.pool-pools.ensures.pool
+    c.roots.ensures.roots c.in_ok-at.ensures))
 
 pub returns : goal.returns
 returns c =
@@ -56,4 +60,5 @@ returns c =
     subst (λ p. TellsLine clauses.Pool t r p) (sym c.line_where.ensures)
     (subst (λ p. TellsLine clauses.Pool t r (option_map (line_at r) p)) (sym c.pool_place.ensures)
     (place_told clauses.Pool t r (option_map places.Pool o) (pool_rest t r)
-    (places_of t r c.args.records.now c.pool-pools.result.now c.roots.result.now o c.requires.records c.pool-pools.ensures.pool c.roots.ensures.roots c.in_ok-at.ensures)))
+    (places_of t r c.args.records.now c.pool-pools.result.now c.roots.result.now o c.requires.records c.pool-pools.ensures.pool
+    c.roots.ensures.roots c.in_ok-at.ensures)))

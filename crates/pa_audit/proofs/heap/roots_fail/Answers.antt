@@ -14,7 +14,8 @@ line_where-requires-clause-there c =
     let t = c.args.trace.now in
     let r = c.args.run.now in
     place_there clauses.Roots t r c.in_ok-place.place (roots_rest t r)
-    (subst (λ (ps : List Played). TellsPlace (RootsDemand t.partitions ps r.pool.items (journal_of r)) c.in_ok-place.place) c.requires.records c.in_ok-place.ensures.place)
+    (subst (λ (ps : List Played). TellsPlace (RootsDemand t.partitions ps r.pool.items (journal_of r)) c.in_ok-place.place)
+    c.requires.records c.in_ok-place.ensures.place)
 
 pub returns-clause-line : goal.returns-clause-line
 returns-clause-line c =
@@ -22,4 +23,5 @@ returns-clause-line c =
     let r = c.args.run.now in
     subst (λ o. TellsLine clauses.Roots t r o) (sym c.line_where.ensures)
     (place_told clauses.Roots t r c.in_ok-place.place (roots_rest t r)
-    (subst (λ (ps : List Played). TellsPlace (RootsDemand t.partitions ps r.pool.items (journal_of r)) c.in_ok-place.place) c.requires.records c.in_ok-place.ensures.place))
+    (subst (λ (ps : List Played). TellsPlace (RootsDemand t.partitions ps r.pool.items (journal_of r)) c.in_ok-place.place)
+    c.requires.records c.in_ok-place.ensures.place))

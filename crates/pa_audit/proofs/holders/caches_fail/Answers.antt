@@ -27,7 +27,8 @@ pub of-requires-clause-kinds : goal.of-requires-clause-kinds
 of-requires-clause-kinds c s =
     let before = c.requires.can.before in
     subst (λ (rs : List (List RootEntry)). HasOneHome c.args.trace.now.version (journal_at rs) s) (sym c.roots-2.ensures.roots)
-    (homes_held c.args.trace.now c.args.run.now (before clauses.Lines (omega arith)) (before clauses.Pool (omega arith)) (before clauses.Roots (omega arith)) s)
+    (homes_held c.args.trace.now c.args.run.now (before clauses.Lines (omega arith)) (before clauses.Pool (omega arith))
+    (before clauses.Roots (omega arith)) s)
 
 pub caches_meet-requires-clause-ends : goal.caches_meet-requires-clause-ends
 caches_meet-requires-clause-ends c =
@@ -55,8 +56,10 @@ returns-clause-line c =
     c.in_ok-books.ensures c.in_ok-found.ensures.misfit in
     subst (λ o. TellsLine clauses.Caches t r o) (sym c.record_line.ensures)
     (line_told clauses.Caches t r at tt
-    (subst (λ (ps : List Played). TellsFirst (λ i. CachesDemand t.partitions (journal_at r.roots.items) ps (places.Record i)) at) c.requires.can.records
-    (subst (λ (rs : List (List RootEntry)). TellsFirst (λ i. CachesDemand t.partitions (journal_at rs) c.args.records.now (places.Record i)) at)
+    (subst (λ (ps : List Played). TellsFirst (λ i. CachesDemand t.partitions (journal_at r.roots.items) ps (places.Record i)) at)
+    c.requires.can.records
+    (subst (λ (rs : List (List RootEntry)). TellsFirst
+    (λ i. CachesDemand t.partitions (journal_at rs) c.args.records.now (places.Record i)) at)
     c.roots-2.ensures.roots misfit)))
 
 -- if no line is reported there was no misfit
@@ -73,7 +76,9 @@ returns-clause-lists c = λ none.
     let cached = subst (λ (b : RunBooks). HaveCached b.partitions t.threads (journal_at b.roots) b.records found.cached.items)
     c.in_ok-books.ensures (c.in_ok-found.ensures.cached no) in
     record {
-      homes = subst (λ (rs : List (List RootEntry)). KnowsHomes (journal_at rs) (value_at c.in_ok-homes.homes)) c.roots.ensures.roots c.in_ok-homes.ensures;
-      cached = subst (λ (rs : List (List RootEntry)). HaveCached t.partitions t.threads (journal_at rs) ps found.cached.items) c.roots-2.ensures.roots cached;
+      homes = subst (λ (rs : List (List RootEntry)). KnowsHomes (journal_at rs) (value_at c.in_ok-homes.homes)) c.roots.ensures.roots
+          c.in_ok-homes.ensures;
+      cached = subst (λ (rs : List (List RootEntry)). HaveCached t.partitions t.threads (journal_at rs) ps found.cached.items)
+          c.roots-2.ensures.roots cached;
       listed = c.in_ok-found.ensures.many no ∙ ap length c.as_slice.ensures.value ∙ c.requires.ends.phases;
     }

@@ -18,14 +18,16 @@ use Rattle.pa_audit.proofs.Telling.{holders_told}
 use Rattle.pa_audit.proofs.holders.holders_fail.Goals as goal
 
 -- what is reported of these records and journals is reported of the run's places
-places_of : (t : Trace) (r : Run) (ps : List Played) (roots : List (List RootEntry)) (o : Option Place) → AreRecordsOf t r ps → roots ≡ r.roots.items → TellsHolders ps (journal_at roots) o →
+places_of : (t : Trace) (r : Run) (ps : List Played) (roots : List (List RootEntry)) (o : Option Place) → AreRecordsOf t r ps →
+    roots ≡ r.roots.items → TellsHolders ps (journal_at roots) o →
     TellsPlace (Demand clauses.Holders t (told_by r)) o
 places_of t r ps roots o records is tells =
     holders_told (records_of t (told_by r)) (journal_at r.roots.items) o
     (subst (λ qs. TellsHolders qs (journal_at r.roots.items) o) records (subst (λ rs. TellsHolders ps (journal_at rs) o) is tells))
 
 pub holders_meet-requires-clause-slots : goal.holders_meet-requires-clause-slots
-holders_meet-requires-clause-slots c = slots_held c.args.trace.now c.args.run.now c.args.records.now c.requires.records (c.requires.before clauses.Slots (omega arith))
+holders_meet-requires-clause-slots c =
+    slots_held c.args.trace.now c.args.run.now c.args.records.now c.requires.records (c.requires.before clauses.Slots (omega arith))
 
 pub line_where-requires-clause-there : goal.line_where-requires-clause-there
 line_where-requires-clause-there c =
@@ -40,4 +42,5 @@ returns c =
     let r = c.args.run.now in
     subst (λ o. TellsLine clauses.Holders t r o) (sym c.line_where.ensures)
     (place_told clauses.Holders t r c.in_ok-place.place (holders_rest t r)
-    (places_of t r c.args.records.now c.roots.result.now c.in_ok-place.place c.requires.records c.roots.ensures.roots c.in_ok-place.ensures))
+    (places_of t r c.args.records.now c.roots.result.now c.in_ok-place.place c.requires.records c.roots.ensures.roots
+    c.in_ok-place.ensures))

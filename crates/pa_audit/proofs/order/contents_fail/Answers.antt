@@ -19,17 +19,20 @@ pub contents_meet-requires-clause-within : goal.contents_meet-requires-clause-wi
 contents_meet-requires-clause-within c = all_within c.args.trace.now c.args.run.now c.args.records.now c.requires.records c.requires.limits
 
 pub contents_meet-requires-clause-slots : goal.contents_meet-requires-clause-slots
-contents_meet-requires-clause-slots c = slots_held c.args.trace.now c.args.run.now c.args.records.now c.requires.records (c.requires.before clauses.Slots (omega arith))
+contents_meet-requires-clause-slots c =
+    slots_held c.args.trace.now c.args.run.now c.args.records.now c.requires.records (c.requires.before clauses.Slots (omega arith))
 
 -- what is told of these records and cells is so by the rules of a version
 abbrev IsTold : ℕ → List Played → List (List CellEntry) → Option ℕ → Type 0
 IsTold version ps cells at = TellsFirst (λ i. ContentsDemand (usable_of version) (history_at cells) ps (places.Record i)) at
 
 -- it is so by those of the trace's version, as the clause of the registers was tested before
-told_first : (t : Trace) (r : Run) (ps : List Played) (cells : List (List CellEntry)) (at : Option ℕ) → CanBeAudited clauses.Contents t r ps → cells ≡ r.cells.items
+told_first : (t : Trace) (r : Run) (ps : List Played) (cells : List (List CellEntry)) (at : Option ℕ) →
+    CanBeAudited clauses.Contents t r ps → cells ≡ r.cells.items
     → ((version : ℕ) → MeetRegisters version (history_at cells) ps → IsTold version ps cells at) → IsTold t.version ps r.cells.items at
 told_first t r ps cells at can same told =
-    subst (λ (cs : List (List CellEntry)). (version : ℕ) → MeetRegisters version (history_at cs) ps → IsTold version ps cs at) same told t.version
+    subst (λ (cs : List (List CellEntry)). (version : ℕ) → MeetRegisters version (history_at cs) ps → IsTold version ps cs at)
+    same told t.version
     (registers_held t r ps can.records (can.before clauses.Registers (omega arith)))
 
 pub record_line-requires : goal.record_line-requires
@@ -38,8 +41,10 @@ record_line-requires c =
     let r = c.args.run.now in
     let ps = c.args.records.now in
     let few = c.requires.few in
-    first_there ps 4294967294 (λ i. ContentsDemand (usable_of t.version) (history_at r.cells.items) ps (places.Record i)) c.in_ok-at.at (omega (arith, few))
-    (λ i none x at. absurd (none x at)) (told_first t r ps c.cells.result.now c.in_ok-at.at c.requires c.cells.ensures.cells c.in_ok-at.ensures)
+    first_there ps 4294967294 (λ i. ContentsDemand (usable_of t.version) (history_at r.cells.items) ps (places.Record i)) c.in_ok-at.at
+    (omega (arith, few))
+    (λ i none x at. absurd (none x at))
+    (told_first t r ps c.cells.result.now c.in_ok-at.at c.requires c.cells.ensures.cells c.in_ok-at.ensures)
 
 pub returns : goal.returns
 returns c =

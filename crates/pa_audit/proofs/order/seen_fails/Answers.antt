@@ -25,13 +25,15 @@ seen_meets-requires-clause-swaps c i =
 pub seen_meets-requires-clause-exchanges : goal.seen_meets-requires-clause-exchanges
 seen_meets-requires-clause-exchanges c k j =
     subst (λ (cs : List (List CellEntry)). CellsDemand (history_at cs) c.args.records.now (places.Cell k j)) (sym c.cells.ensures.cells)
-    (exchanges_held c.args.trace.now c.args.run.now c.args.records.now c.requires.records (c.requires.before clauses.Cells (omega arith)) k j)
+    (exchanges_held c.args.trace.now c.args.run.now c.args.records.now c.requires.records
+    (c.requires.before clauses.Cells (omega arith)) k j)
 
 pub record_line-requires : goal.record_line-requires
 record_line-requires c =
     let ps = c.args.records.now in
     let few = c.requires.few in
-    first_there ps 4294967294 (λ i. SeenDemand (history_at c.cells.result.now) ps (places.Record i)) c.in_ok-at.at (omega (arith, few)) (λ i none x at. absurd (none x at)) c.in_ok-at.ensures
+    first_there ps 4294967294 (λ i. SeenDemand (history_at c.cells.result.now) ps (places.Record i)) c.in_ok-at.at (omega (arith, few))
+    (λ i none x at. absurd (none x at)) c.in_ok-at.ensures
 
 pub returns : goal.returns
 returns c =
@@ -41,4 +43,5 @@ returns c =
     subst (λ o. TellsLine clauses.Seen t r o) (sym c.record_line.ensures)
     (line_told clauses.Seen t r at tt
     (subst (λ (ps : List Played). TellsFirst (λ i. SeenDemand (history_at r.cells.items) ps (places.Record i)) at) c.requires.records
-    (subst (λ (cs : List (List CellEntry)). TellsFirst (λ i. SeenDemand (history_at cs) c.args.records.now (places.Record i)) at) c.cells.ensures.cells c.in_ok-at.ensures)))
+    (subst (λ (cs : List (List CellEntry)). TellsFirst (λ i. SeenDemand (history_at cs) c.args.records.now (places.Record i)) at)
+    c.cells.ensures.cells c.in_ok-at.ensures)))

@@ -25,4 +25,5 @@ returns c =
     subst (λ o. TellsLine clauses.Lines t r o) (sym c.record_line.ensures)
     (line_told clauses.Lines t r o tt
     (subst (λ (es : List Entry). TellsFirst (λ i. LinesDemand (rules_of t) t.lines es (places.Record i)) o) c.entries.ensures.entries
-    (subst (λ (ls : List Line). TellsFirst (λ i. LinesDemand (rules_of t) ls c.entries.result.now (places.Record i)) o) c.as_slice.ensures (c.lines_meet.ensures (rules_of t)))))
+    (subst (λ (ls : List Line). TellsFirst (λ i. LinesDemand (rules_of t) ls c.entries.result.now (places.Record i)) o) c.as_slice.ensures
+    (c.lines_meet.ensures (rules_of t)))))

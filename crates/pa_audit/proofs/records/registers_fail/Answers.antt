@@ -19,6 +19,7 @@ returns c =
     let at = c.in_ok-at.at in
     subst (λ o. TellsLine clauses.Registers t r o) (sym c.record_line.ensures)
     (line_told clauses.Registers t r at tt
-    (subst (λ (ps : List Played). TellsFirst (λ i. RegistersDemand (usable_of c.args.trace.now.version) (history_at r.cells.items) ps (places.Record i)) at) c.requires.records
+    (subst (λ (ps : List Played). TellsFirst
+    (λ i. RegistersDemand (usable_of c.args.trace.now.version) (history_at r.cells.items) ps (places.Record i)) at) c.requires.records
     (subst (λ (cs : List (List CellEntry)). TellsFirst (λ i. RegistersDemand (usable_of c.args.trace.now.version) (history_at cs)
     c.args.records.now (places.Record i)) at) c.cells.ensures.cells c.in_ok-at.ensures)))

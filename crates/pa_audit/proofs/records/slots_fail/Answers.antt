@@ -13,4 +13,6 @@ returns c =
     let t = c.args.trace.now in
     let r = c.args.run.now in
     subst (λ o. TellsLine clauses.Slots t r o) (sym c.record_line.ensures)
-    (line_told clauses.Slots t r c.in_ok-at.at tt (subst (λ (ps : List Played). TellsFirst (λ i. SlotsDemand ps (places.Record i)) c.in_ok-at.at) c.requires.records c.in_ok-at.ensures))
+    (line_told clauses.Slots t r c.in_ok-at.at tt
+    (subst (λ (ps : List Played). TellsFirst (λ i. SlotsDemand ps (places.Record i)) c.in_ok-at.at) c.requires.records
+    c.in_ok-at.ensures))

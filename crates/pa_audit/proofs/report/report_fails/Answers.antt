@@ -27,4 +27,5 @@ returns c =
     let t = c.args.trace.now in
     let r = c.args.run.now in
     subst (λ o. TellsLine clauses.Report t r o) (sym c.line_where.ensures)
-    (subst (λ p. TellsLine clauses.Report t r (option_map (line_at r) p)) (sym c.report_place.ensures) (report_told t r c.in_ok-at.at c.in_ok-at.ensures.first))
+    (subst (λ p. TellsLine clauses.Report t r (option_map (line_at r) p)) (sym c.report_place.ensures)
+    (report_told t r c.in_ok-at.at c.in_ok-at.ensures.first))

@@ -27,17 +27,21 @@ loop-entry-preserved c =
     let f = c.entry-item.result in
     let there : slice_get c.entries-entry-items.result.now i ≡ Some f = slice_get_read c.entries-entry-items.result.now
     (length c.entries-entry-items.result.now) i f refl c.loop-entry-test.true c.entry-item.is in
-    let is : slice_get (roots q) i ≡ Some f = subst (λ (es : List RootEntry). slice_get es i ≡ Some f) (c.entries-entry-items.ensures.entries ∙ sym c.requires.journal) there in
+    let is : slice_get (roots q) i ≡ Some f =
+    subst (λ (es : List RootEntry). slice_get es i ≡ Some f) (c.entries-entry-items.ensures.entries ∙ sym c.requires.journal) there in
     let asked : asked_by f.act ≡ c.asked_by.result = sym (c.asked_by.ensures ∙ ap asked_by c.act.ensures.act) in
     elim c.match-asked_by.branch [
       | in-Some w ↦
           let asks : asked_by f.act ≡ Some w.in-Some.pool = asked ∙ w.in-Some.is in
-          let now = ap (λ (v : Vec Naming Global). v.items) w.namings-is ∙ w.name.ensures ∙ ap (λ n. named_at l.namings.items w.in-Some.pool (Once q n)) w.line.ensures.line in
-          subst (AreNamings roots q (i + 1) size) (sym now) (namings_more roots q i size w.in-Some.pool f l.namings.items is asks l.invariant)
+          let now = ap (λ (v : Vec Naming Global). v.items) w.namings-is ∙ w.name.ensures ∙
+          ap (λ n. named_at l.namings.items w.in-Some.pool (Once q n)) w.line.ensures.line in
+          subst (AreNamings roots q (i + 1) size) (sym now)
+          (namings_more roots q i size w.in-Some.pool f l.namings.items is asks l.invariant)
       | in_default w ↦
           let none : asked_by f.act ≡ None = asked ∙ w.in_default.is in
           let now = ap (λ (v : Vec Naming Global). v.items) w.namings-is in
-          subst (AreNamings roots q (i + 1) size) (sym now) (namings_other roots q i size f l.namings.items is (λ j less asks. not_some j (sym none ∙ asks)) l.invariant)
+          subst (AreNamings roots q (i + 1) size) (sym now)
+          (namings_other roots q i size f l.namings.items is (λ j less asks. not_some j (sym none ∙ asks)) l.invariant)
     ]
 
 pub returns : goal.returns

@@ -10,9 +10,11 @@ returns-then-count-ge1-clause-fits c =
     let count = c.in-Take.count in (
       λ yes.
           let same : c.take.result ≡ c.in-Take.first = grind (arith, c.eq.ensures) in
-          subst (λ a. PoolActFits pools c.args.entry.partition a s) (sym c.in-Take.is) (c.if-count-ge1.true, subst (λ f. IsLowest s count f) same c.take.ensures.lowest),
+          subst (λ a. PoolActFits pools c.args.entry.partition a s) (sym c.in-Take.is)
+          (c.if-count-ge1.true, subst (λ f. IsLowest s count f) same c.take.ensures.lowest),
       λ fits.
           let there = subst (λ a. PoolActFits pools c.args.entry.partition a s) c.in-Take.is fits in
-          let same : c.take.result ≡ c.in-Take.first = pool_answers.lowest s count c.take.result c.in-Take.first c.take.ensures.lowest there.1 in
+          let same : c.take.result ≡ c.in-Take.first =
+          pool_answers.lowest s count c.take.result c.in-Take.first c.take.ensures.lowest there.1 in
           grind (arith, c.eq.ensures),
     )

@@ -18,7 +18,8 @@ returns-then-not-act_fits c =
     let l = c.loop-entry in
     let pools = c.args.pools.now in (
       subst (λ i. FitsPool c.args.supers pools i → ⊥) (sym l.invariant.at)
-          (played_misfit c.args.supers pools l.entry-index l.plan (get_or pools l.entry-index no_entry) l.invariant.played (entry_at pools l.entry-index c.loop-entry-test.true)
+          (played_misfit c.args.supers pools l.entry-index l.plan (get_or pools l.entry-index no_entry) l.invariant.played
+          (entry_at pools l.entry-index c.loop-entry-test.true)
           (λ fits. both_ways _ c.if-not-act_fits.true (c.act_fits.ensures.fits.1 fits))),
       λ j less. l.invariant.played.met j (omega arith),
     )
@@ -29,8 +30,10 @@ loop-entry-preserved c =
     let pools = c.args.pools.now in
     record {
       at = omega arith;
-      played = played_more c.args.supers pools l.entry-index l.plan c.act_fits.new.plan (get_or pools l.entry-index no_entry) l.invariant.played
-          (entry_at pools l.entry-index c.loop-entry-test.true) (c.act_fits.ensures.fits.0 c.if-not-act_fits.false) (c.act_fits.ensures.next c.if-not-act_fits.false);
+      played = played_more c.args.supers pools l.entry-index l.plan c.act_fits.new.plan
+          (get_or pools l.entry-index no_entry) l.invariant.played
+          (entry_at pools l.entry-index c.loop-entry-test.true) (c.act_fits.ensures.fits.0 c.if-not-act_fits.false)
+          (c.act_fits.ensures.next c.if-not-act_fits.false);
     }
 
 pub returns : goal.returns
@@ -38,4 +41,5 @@ returns c =
     let l = c.loop-entry in
     let pools = c.args.pools.now in
     let past = c.loop-entry-test.false in
-    tells_none (FitsPool c.args.supers pools) (length pools) (λ j less. l.invariant.played.met j (omega arith)) (λ j more. fits_past c.args.supers pools j more)
+    tells_none (FitsPool c.args.supers pools) (length pools) (λ j less. l.invariant.played.met j (omega arith))
+    (λ j more. fits_past c.args.supers pools j more)

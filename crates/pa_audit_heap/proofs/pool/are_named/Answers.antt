@@ -26,7 +26,8 @@ returns-then-not-is_named c =
     let at : c.index.result.now ≡ get_or c.in_ok-namings.namings.items i Nobody = get_or_read c.in_ok-namings.namings.items _ _
     (omega arith) c.index.ensures Nobody ∙ ap (λ k. get_or c.in_ok-namings.namings.items k Nobody) l.invariant.at in (
       subst (λ k. IsNamedAt pools roots k → ⊥) (sym l.invariant.at)
-          (λ named. both_ways _ c.if-not-is_named.true (c.is_named.ensures.1 (at ∙ naming_is roots (length c.args.roots.now) i e (get_or c.in_ok-namings.namings.items i Nobody)
+          (λ named. both_ways _ c.if-not-is_named.true
+          (c.is_named.ensures.1 (at ∙ naming_is roots (length c.args.roots.now) i e (get_or c.in_ok-namings.namings.items i Nobody)
           (all_journals c.args.roots.now) (namings.each i within) (named e (entry_at pools i within))))),
       λ j less. l.invariant.met j (omega arith),
     )
@@ -44,10 +45,12 @@ loop-entry-preserved c =
     let at : c.index.result.now ≡ get_or c.in_ok-namings.namings.items i Nobody = get_or_read c.in_ok-namings.namings.items _ _
     (omega arith) c.index.ensures Nobody ∙ ap (λ k. get_or c.in_ok-namings.namings.items k Nobody) l.invariant.at in
     let is = sym at ∙ c.is_named.ensures.0 c.if-not-is_named.false in
-    let named = named_is roots (length c.args.roots.now) i e (all_journals c.args.roots.now) (subst (IsNaming roots (length c.args.roots.now) 0 i) is (namings.each i within)) in
+    let named = named_is roots (length c.args.roots.now) i e (all_journals c.args.roots.now)
+    (subst (IsNaming roots (length c.args.roots.now) 0 i) is (namings.each i within)) in
     record {
       at = omega arith;
-      met = met_more (IsNamedAt pools roots) i l.invariant.met (λ d there. subst (λ (z : PoolEntry). IsNamed roots i z) (one_at pools i e d (entry_at pools i within) there) named);
+      met = met_more (IsNamedAt pools roots) i l.invariant.met
+          (λ d there. subst (λ (z : PoolEntry). IsNamed roots i z) (one_at pools i e d (entry_at pools i within) there) named);
     }
 
 pub returns : goal.returns
@@ -56,4 +59,5 @@ returns c =
     let pools = c.args.pools.now in
     let roots = journal_at c.args.roots.now in
     let past = c.loop-entry-test.false in
-    tells_none (IsNamedAt pools roots) (length pools) (λ j less. l.invariant.met j (omega arith)) (λ j more e at. absurd (none_past pools j e more at))
+    tells_none (IsNamedAt pools roots) (length pools) (λ j less. l.invariant.met j (omega arith))
+    (λ j more e at. absurd (none_past pools j e more at))

@@ -19,7 +19,8 @@ returns-then-not-admits c =
     let ps = c.args.records.now in
     let lines = map (λ (e : PoolEntry). e.line) pools in (
       subst (λ i. ComesAt ps pools i → ⊥) (sym l.invariant.at)
-          (order_stops ps lines l.entry-index (get_or pools l.entry-index no_entry).line l.order c.admits.new.self c.admits.result l.invariant.order
+          (order_stops ps lines l.entry-index
+          (get_or pools l.entry-index no_entry).line l.order c.admits.new.self c.admits.result l.invariant.order
           (line_there pools l.entry-index c.loop-entry-test.true) c.if-not-admits.true c.admits.ensures),
       λ j less. l.invariant.order.met j (omega arith),
     )
@@ -32,7 +33,8 @@ loop-entry-preserved c =
     let lines = map (λ (e : PoolEntry). e.line) pools in
     record {
       at = omega arith;
-      order = order_more ps lines l.entry-index (get_or pools l.entry-index no_entry).line l.order c.admits.new.self c.admits.result c.requires.threads l.invariant.order
+      order = order_more ps lines l.entry-index (get_or pools l.entry-index no_entry).line l.order c.admits.new.self c.admits.result
+          c.requires.threads l.invariant.order
           (line_there pools l.entry-index c.loop-entry-test.true) c.if-not-admits.false c.admits.ensures;
     }
 
@@ -44,4 +46,5 @@ returns c =
     let lines = map (λ (e : PoolEntry). e.line) pools in
     let past = c.loop-entry-test.false in
     let size = length-map pools (λ (e : PoolEntry). e.line) in
-    tells_none (ComesAt ps pools) (length pools) (λ j less. l.invariant.order.met j (omega arith)) (λ j more. order_past ps lines j (omega arith))
+    tells_none (ComesAt ps pools) (length pools) (λ j less. l.invariant.order.met j (omega arith))
+    (λ j more. order_past ps lines j (omega arith))

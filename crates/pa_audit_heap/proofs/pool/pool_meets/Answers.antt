@@ -18,9 +18,12 @@ returns c =
     let fits = FitsPool supers pools in
     let named = IsNamedAt pools roots in
     let comes = ComesAt ps pools in
-    let later = tells_both named comes c.in_ok-named.named c.come_in_order-comes.result c.in_ok-named.ensures c.come_in_order-comes.ensures in
-    let all = tells_both fits (λ i. named i × comes i) c.in_ok-fits.fits (least_place c.in_ok-named.named c.come_in_order-comes.result) c.in_ok-fits.ensures later in
+    let later = tells_both named comes c.in_ok-named.named c.come_in_order-comes.result c.in_ok-named.ensures
+    c.come_in_order-comes.ensures in
+    let all = tells_both fits (λ i. named i × comes i) c.in_ok-fits.fits
+    (least_place c.in_ok-named.named c.come_in_order-comes.result) c.in_ok-fits.ensures later in
     let result : c.earlier-2.result ≡ least_place c.in_ok-fits.fits (least_place c.in_ok-named.named c.come_in_order-comes.result) =
     c.earlier-2.ensures ∙ ap (least_place c.in_ok-fits.fits) c.earlier.ensures in
     subst (TellsFirst (λ j. PoolDemand supers ps pools roots (places.Pool j))) (sym result)
-    (tells_same (λ i. fits i × (named i × comes i)) (λ j. PoolDemand supers ps pools roots (places.Pool j)) _ (parts_are supers ps pools roots) (are_parts supers ps pools roots) all)
+    (tells_same (λ i. fits i × (named i × comes i)) (λ j. PoolDemand supers ps pools roots (places.Pool j)) _
+    (parts_are supers ps pools roots) (are_parts supers ps pools roots) all)

@@ -5,7 +5,8 @@ use Rattle.pa_audit_heap.proofs.refusals.names_full.Goals as goal
 
 pub returns-in-Alloc : goal.returns-in-Alloc
 returns-in-Alloc c = (
-  λ yes. full_named (journal_at c.args.roots.now) c.args.found c.in-Full.entry c.in-Alloc.reg c.in-Alloc.partition c.in-Alloc.size c.in-Full.is c.in-Alloc.is (c.has_full.ensures.0 yes),
+  λ yes. full_named (journal_at c.args.roots.now) c.args.found c.in-Full.entry c.in-Alloc.reg c.in-Alloc.partition c.in-Alloc.size
+      c.in-Full.is c.in-Alloc.is (c.has_full.ensures.0 yes),
   λ named. c.has_full.ensures.1 (named c.in-Full.entry c.in-Alloc.reg c.in-Alloc.partition c.in-Alloc.size c.in-Full.is c.in-Alloc.is),
 )
 

@@ -15,7 +15,8 @@ returns-then-not-names_full c = λ partitions pools.
     let ps = c.args.records.now in
     let roots = journal_at c.args.roots.now in
     let at = l.invariant.at in
-    tells_same (NamesFullAt roots ps) (λ i. RootsDemand partitions ps pools roots (places.Record i)) (Some l.at) (record_named partitions ps pools roots) (named_record partitions ps pools roots) (
+    tells_same (NamesFullAt roots ps) (λ i. RootsDemand partitions ps pools roots (places.Record i)) (Some l.at)
+    (record_named partitions ps pools roots) (named_record partitions ps pools roots) (
       λ named. both_ways _ c.if-not-names_full.true (c.names_full.ensures.1
           (subst (NamesFullAt roots ps) at named _ (slice_get-get_or ps l.found-index no_played c.loop-found-test.true))),
       λ j less. l.invariant.met j (omega arith),
@@ -28,7 +29,8 @@ loop-found-preserved c =
     let roots = journal_at c.args.roots.now in
     record {
       at = omega arith;
-      met = met_more (NamesFullAt roots ps) l.found-index l.invariant.met (named_here roots ps l.found-index c.loop-found-test.true (c.names_full.ensures.0 c.if-not-names_full.false));
+      met = met_more (NamesFullAt roots ps) l.found-index l.invariant.met
+          (named_here roots ps l.found-index c.loop-found-test.true (c.names_full.ensures.0 c.if-not-names_full.false));
     }
 
 pub returns : goal.returns
@@ -37,5 +39,6 @@ returns c = λ partitions pools.
     let ps = c.args.records.now in
     let roots = journal_at c.args.roots.now in
     let past = c.loop-found-test.false in
-    tells_same (NamesFullAt roots ps) (λ i. RootsDemand partitions ps pools roots (places.Record i)) None (record_named partitions ps pools roots) (named_record partitions ps pools roots)
+    tells_same (NamesFullAt roots ps) (λ i. RootsDemand partitions ps pools roots (places.Record i)) None
+    (record_named partitions ps pools roots) (named_record partitions ps pools roots)
     (tells_none (NamesFullAt roots ps) (length ps) (λ j less. l.invariant.met j (omega arith)) (named_past roots ps))

@@ -9,6 +9,7 @@ use Rattle.pa_audit_heap.proofs.roots.journals_meet.Given as goal
 abbrev pub invariant-loop-partition : goal.invariant-loop-partition
 invariant-loop-partition l = record {
   many : length l.censuses.items ≡ l.partition;
-  each : HasEach (λ p censuses. HaveCensuses l.records l.pools (journal_at l.roots) p censuses × (length censuses ≡ l.phases)) l.censuses.items;
+  each : HasEach (λ p censuses. HaveCensuses l.records l.pools (journal_at l.roots) p censuses × (length censuses ≡ l.phases))
+      l.censuses.items;
   met : (p j : ℕ) → p < l.partition → RootsDemand l.partitions l.records l.pools (journal_at l.roots) (places.Root p j);
 }

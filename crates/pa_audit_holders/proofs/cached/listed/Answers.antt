@@ -9,9 +9,11 @@ pub loop-thread-preserved : goal.loop-thread-preserved
 loop-thread-preserved c =
     let l = c.loop-thread in
     let p = c.args.partition in
-    let below : c.loop-thread.thread < length c.args.caches.now = omega (arith, c.loop-thread-test.true, c.requires.threads, c.requires.many) in
+    let below : c.loop-thread.thread < length c.args.caches.now =
+    omega (arith, c.loop-thread-test.true, c.requires.threads, c.requires.many) in
     let there : cache_in c.index-caches-thread.result ≡ caches_in c.args.caches.now c.loop-thread.thread =
-    ap cache_in (c.index-caches-thread.is ∙ get_or_default c.args.caches.now c.loop-thread.thread c.index-caches-thread.result no_lists below) in
+    ap cache_in (c.index-caches-thread.is ∙
+    get_or_default c.args.caches.now c.loop-thread.thread c.index-caches-thread.result no_lists below) in
     let sum : c.and-sum.result.slots ≡ l.sum.slots + c.sum.result.slots = ap (λ (t : Tally). t.slots) c.and-sum.ensures in
     let more : c.and-sum.result.bytes ≡ l.sum.bytes + c.sum.result.bytes = ap (λ (t : Tally). t.bytes) c.and-sum.ensures in
     record {

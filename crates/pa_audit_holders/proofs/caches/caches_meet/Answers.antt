@@ -27,13 +27,17 @@ loop-end-init c =
       many = ap length c.new-cached.ensures.items;
       low = low_none (map (λ (x : Played). x.phase) c.args.books.now.records) 0;
       threads = c.in_ok-caches.ensures.many;
-      version = subst (λ v. All (λ (x : VersionLists). x.version ≡ v) c.in_ok-caches.caches.items) c.version.ensures c.in_ok-caches.ensures.version;
-      walk = caches_start c.args.books.now.partitions (journal_at c.args.books.now.roots) c.args.books.now.records (caches_in c.in_ok-caches.caches.items) c.in_ok-caches.ensures.none;
-      listed = subst (λ (zs : List VersionLists). HaveListed c.args.threads (caches_in zs) c.all_listed-listed.result) c.as_slice.ensures.value c.all_listed-listed.ensures;
+      version = subst (λ v. All (λ (x : VersionLists). x.version ≡ v) c.in_ok-caches.caches.items) c.version.ensures
+          c.in_ok-caches.ensures.version;
+      walk = caches_start c.args.books.now.partitions (journal_at c.args.books.now.roots) c.args.books.now.records
+          (caches_in c.in_ok-caches.caches.items) c.in_ok-caches.ensures.none;
+      listed = subst (λ (zs : List VersionLists). HaveListed c.args.threads (caches_in zs) c.all_listed-listed.result)
+          c.as_slice.ensures.value c.all_listed-listed.ensures;
       told =
           subst (λ (us : List (List Tally)). HasEach (λ i u. AreCachedAt c.args.books.now.partitions c.args.threads
           (journal_at c.args.books.now.roots) (until (i + 1) c.args.books.now.records) u) us) (sym c.new-cached.ensures.items)
-          (each_none (λ i u. AreCachedAt c.args.books.now.partitions c.args.threads (journal_at c.args.books.now.roots) (until (i + 1) c.args.books.now.records) u));
+          (each_none (λ i u. AreCachedAt c.args.books.now.partitions c.args.threads (journal_at c.args.books.now.roots)
+          (until (i + 1) c.args.books.now.records) u));
     }
 
 pub loop-end-preserved : goal.loop-end-preserved
@@ -54,16 +58,20 @@ loop-end-preserved c =
           let walk = played_none b.partitions roots ps (caches_in lists) e w.in_ok-misfit.misfit none w.in_ok-misfit.ensures.played in
           let listed = subst (λ (zs : List VersionLists). HaveListed c.args.threads (caches_in zs) tallies)
           w.as_slice-then-from-end.ensures.value w.all_listed-listed-then-from-end.ensures in
-          subst (λ (v : Vec VersionLists Global). IsEnded b.partitions c.args.threads roots ps (i + 1) j.from v.items j.listed) (sym w.caches-is)
+          subst (λ (v : Vec VersionLists Global). IsEnded b.partitions c.args.threads roots ps (i + 1) j.from v.items j.listed)
+          (sym w.caches-is)
           (subst (λ (ts : List Tally). IsEnded b.partitions c.args.threads roots ps (i + 1) j.from lists ts) (sym w.listed-is)
-          (phase_ended b.partitions c.args.threads roots ps (i + 1) j.from e lists tallies cut w.from-is w.in_ok-misfit.ensures.sixteen walk listed))
+          (phase_ended b.partitions c.args.threads roots ps
+          (i + 1) j.from e lists tallies cut w.from-is w.in_ok-misfit.ensures.sixteen walk listed))
       | else-from-end w ↦
           let low = cut_order (map (λ (x : Played). x.phase) ps) i (i + 1) l.from e (omega arith) l.invariant.low cut in
           let same : l.from ≡ e = omega (arith, low, w.if-from-end.false) in
           let walk = subst (λ n. CachesSoFar b.partitions roots ps (caches_in l.caches.items) n) same l.invariant.walk in
-          subst (λ (v : Vec VersionLists Global). IsEnded b.partitions c.args.threads roots ps (i + 1) j.from v.items j.listed) (sym w.caches-is)
+          subst (λ (v : Vec VersionLists Global). IsEnded b.partitions c.args.threads roots ps (i + 1) j.from v.items j.listed)
+          (sym w.caches-is)
           (subst (λ (ts : List Tally). IsEnded b.partitions c.args.threads roots ps (i + 1) j.from l.caches.items ts) (sym w.listed-is)
-          (phase_ended b.partitions c.args.threads roots ps (i + 1) j.from e l.caches.items l.listed cut (w.from-is ∙ same) l.invariant.threads walk l.invariant.listed))
+          (phase_ended b.partitions c.args.threads roots ps (i + 1) j.from e l.caches.items l.listed cut
+          (w.from-is ∙ same) l.invariant.threads walk l.invariant.listed))
     ] in
     record {
       many = long_next l.cached.items c.push.new.self.items j.listed i c.in_ok-push.ensures.items l.invariant.many;
@@ -71,12 +79,15 @@ loop-end-preserved c =
       threads = ended.sixteen;
       version = elim j.branch [
         | then-from-end+in_ok-misfit+else-is_some w ↦
-            subst (λ (v : Vec VersionLists Global). All (λ (x : VersionLists). x.version ≡ b.version) v.items) (sym w.caches-is) w.in_ok-misfit.ensures.version
-        | else-from-end w ↦ subst (λ (v : Vec VersionLists Global). All (λ (x : VersionLists). x.version ≡ b.version) v.items) (sym w.caches-is) l.invariant.version
+            subst (λ (v : Vec VersionLists Global). All (λ (x : VersionLists). x.version ≡ b.version) v.items)
+            (sym w.caches-is) w.in_ok-misfit.ensures.version
+        | else-from-end w ↦ subst (λ (v : Vec VersionLists Global). All (λ (x : VersionLists). x.version ≡ b.version) v.items)
+            (sym w.caches-is) l.invariant.version
       ];
       walk = ended.walk;
       listed = ended.listed;
-      told = each_next (λ k u. AreCachedAt b.partitions c.args.threads roots (until (k + 1) ps) u) l.cached.items c.push.new.self.items j.listed i
+      told = each_next (λ k u. AreCachedAt b.partitions c.args.threads roots (until (k + 1) ps) u) l.cached.items
+          c.push.new.self.items j.listed i
           c.in_ok-push.ensures.items l.invariant.many l.invariant.told ended.here;
     }
 

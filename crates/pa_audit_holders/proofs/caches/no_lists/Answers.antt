@@ -15,8 +15,10 @@ loop-preserved c =
     let long = length-append c.loop.lists.items (c.in_ok-empty.empty ∷ []) in
     record {
       version = subst (λ zs. All (λ x. x.version ≡ c.args.version) zs) (sym items)
-          (All-push (λ x. x.version ≡ c.args.version) c.loop.lists.items c.in_ok-empty.empty c.loop.invariant.version c.in_ok-empty.ensures.version);
+          (All-push (λ x. x.version ≡ c.args.version) c.loop.lists.items c.in_ok-empty.empty c.loop.invariant.version
+          c.in_ok-empty.ensures.version);
       many = ap length items ∙ long ∙ ap (λ n. n + 1) c.loop.invariant.many;
       none = subst (λ zs. All (λ t. cache_in t ≡ (λ p class. [])) zs) (sym items)
-          (All-push (λ t. cache_in t ≡ (λ p class. [])) c.loop.lists.items c.in_ok-empty.empty c.loop.invariant.none c.in_ok-empty.ensures.empty);
+          (All-push (λ t. cache_in t ≡ (λ p class. [])) c.loop.lists.items c.in_ok-empty.empty c.loop.invariant.none
+          c.in_ok-empty.ensures.empty);
     }

@@ -19,9 +19,11 @@ returns-clause-next c =
     let roots = journal_at page.roots in
     let after = c.plays.new.cache in
     let is = c.index_mut-cache.ensures.value ∙ ap (λ (k : ℕ). get_or threads k c.index_mut-cache.result.now) same in
-    subst (λ (k : ℕ). TellsNext page.partitions roots page.told (caches_in threads) (caches_in (set threads k after)) c.in_ok-fits.fits) (sym same)
+    subst (λ (k : ℕ). TellsNext page.partitions roots page.told (caches_in threads)
+    (caches_in (set threads k after)) c.in_ok-fits.fits) (sym same)
     (play_next page.partitions roots page.told threads c.index_mut-cache.result.now after c.in_ok-fits.fits below
-    (subst (λ (z : VersionLists). TellsRow (CacheRow page.partitions roots page.told page.told.answer (cache_in z)) (cache_in after) c.in_ok-fits.fits) is c.in_ok-fits.ensures.row))
+    (subst (λ (z : VersionLists). TellsRow (CacheRow page.partitions roots page.told page.told.answer (cache_in z))
+    (cache_in after) c.in_ok-fits.fits) is c.in_ok-fits.ensures.row))
 
 -- the lists of a thread are of the version that those of all threads are of
 of_version : (threads : List VersionLists) (version t : ℕ) (lists : VersionLists) → length threads ≡ 16 → t < 16

@@ -17,8 +17,10 @@ returns-then-not-fits-clause-played c =
     let below : l.at < length b.records = omega (arith, c.loop-at-test.true, c.requires.end) in
     let d = c.page-page.result.told in
     let is = c.page-page.ensures.page (get_or b.records l.at d) (slice_get-get_or b.records l.at d below) in
-    let next = subst (λ (g : RecordPage). TellsNext g.partitions (journal_at g.roots) g.told before after c.in_ok-fits.fits) is c.in_ok-fits.ensures.next in
-    caches_not b.partitions (journal_at b.roots) b.records before after l.at d c.in_ok-fits.fits c.page-page.ensures.kinds below l.invariant.walk next c.if-not-fits.true
+    let next = subst (λ (g : RecordPage). TellsNext g.partitions (journal_at g.roots) g.told before after c.in_ok-fits.fits) is
+    c.in_ok-fits.ensures.next in
+    caches_not b.partitions (journal_at b.roots) b.records before after l.at d c.in_ok-fits.fits c.page-page.ensures.kinds below
+    l.invariant.walk next c.if-not-fits.true
 
 pub loop-at-preserved : goal.loop-at-preserved
 loop-at-preserved c =
@@ -29,11 +31,14 @@ loop-at-preserved c =
     let below : l.at < length b.records = omega (arith, c.loop-at-test.true, c.requires.end) in
     let d = c.page-page.result.told in
     let is = c.page-page.ensures.page (get_or b.records l.at d) (slice_get-get_or b.records l.at d below) in
-    let next = subst (λ (g : RecordPage). TellsNext g.partitions (journal_at g.roots) g.told before after c.in_ok-fits.fits) is c.in_ok-fits.ensures.next in
+    let next = subst (λ (g : RecordPage). TellsNext g.partitions (journal_at g.roots) g.told before after c.in_ok-fits.fits) is
+    c.in_ok-fits.ensures.next in
     record {
       threads = c.in_ok-fits.ensures.threads;
-      version = subst (λ v. All (λ (x : VersionLists). x.version ≡ v) c.play.new.caches.items) (ap (λ (g : RecordPage). g.version) is) c.in_ok-fits.ensures.version;
-      walk = caches_more b.partitions (journal_at b.roots) b.records before after l.at d c.in_ok-fits.fits below l.invariant.walk next c.if-not-fits.false;
+      version = subst (λ v. All (λ (x : VersionLists). x.version ≡ v) c.play.new.caches.items)
+          (ap (λ (g : RecordPage). g.version) is) c.in_ok-fits.ensures.version;
+      walk = caches_more b.partitions (journal_at b.roots) b.records before after l.at d c.in_ok-fits.fits below l.invariant.walk next
+          c.if-not-fits.false;
     }
 
 pub play-requires-clause-version : goal.play-requires-clause-version

@@ -25,7 +25,8 @@ returns c =
     let last : c.args.at + 1 ≡ length acts = c.if-at-places.false ∙ sym long in
     let e = c.index-journal-places.result in
     let there = act_found journal places c.args.at e c.requires.among (omega (arith, last, long)) in
-    let here : get_or acts c.args.at Purge ≡ act_of c.act.result = there ∙ ap (λ (z : RootEntry). z.act) (sym c.index-journal-places.is) ∙ sym c.act.ensures.act in (
+    let here : get_or acts c.args.at Purge ≡ act_of c.act.result =
+    there ∙ ap (λ (z : RootEntry). z.act) (sym c.index-journal-places.is) ∙ sym c.act.ensures.act in (
       λ yes. last_is acts c.args.at Purge last (here ∙ c.is_purge.ensures.0 yes),
       λ is. c.is_purge.ensures.1 (sym here ∙ (last_was acts c.args.at Purge is).1),
     )

@@ -16,7 +16,8 @@ pub returns-then-next-places : goal.returns-then-next-places
 returns-then-next-places c =
     let acts = map (did_at c.args.journal.now) c.args.places.now in
     let long = length-map c.args.places.now (did_at c.args.journal.now) in
-    strip_short acts c.args.at c.args.slots.now c.batches.from c.min-to.result c.batches.next c.batches.invariant c.batches-test.true c.min-to.ensures (omega (arith, long, c.if-next-places.true))
+    strip_short acts c.args.at c.args.slots.now c.batches.from c.min-to.result c.batches.next c.batches.invariant c.batches-test.true
+    c.min-to.ensures (omega (arith, long, c.if-next-places.true))
 
 pub returns-then-not-is_give : goal.returns-then-not-is_give
 returns-then-not-is_give c =
@@ -27,8 +28,10 @@ returns-then-not-is_give c =
     let within : c.batches.next < length places = c.if-next-places.false in
     let e = c.index-journal-places.result in
     let act = act_of c.act.result in
-    let there = act_found journal places c.batches.next e c.requires.among within ∙ ap (λ (z : RootEntry). z.act) (sym c.index-journal-places.is) ∙ sym c.act.ensures.act in
-    strip_other acts c.args.at c.args.slots.now c.batches.from c.min-to.result c.batches.next act c.batches.invariant c.batches-test.true c.min-to.ensures (omega (arith, long, within))
+    let there = act_found journal places c.batches.next e c.requires.among within ∙
+    ap (λ (z : RootEntry). z.act) (sym c.index-journal-places.is) ∙ sym c.act.ensures.act in
+    strip_other acts c.args.at c.args.slots.now c.batches.from c.min-to.result c.batches.next act c.batches.invariant c.batches-test.true
+    c.min-to.ensures (omega (arith, long, within))
     there (λ is. both_ways _ c.if-not-is_give.true (c.is_give.ensures.1 is))
 
 pub batches-preserved : goal.batches-preserved
@@ -40,8 +43,10 @@ batches-preserved c =
     let within : c.batches.next < length places = c.if-next-places.false in
     let e = c.index-journal-places.result in
     let act = act_of c.act.result in
-    let there = act_found journal places c.batches.next e c.requires.among within ∙ ap (λ (z : RootEntry). z.act) (sym c.index-journal-places.is) ∙ sym c.act.ensures.act in
-    strip_more acts c.args.at c.args.slots.now c.batches.from c.min-to.result c.batches.next act c.batches.invariant c.batches-test.true c.min-to.ensures (omega (arith, long, within))
+    let there = act_found journal places c.batches.next e c.requires.among within ∙
+    ap (λ (z : RootEntry). z.act) (sym c.index-journal-places.is) ∙ sym c.act.ensures.act in
+    strip_more acts c.args.at c.args.slots.now c.batches.from c.min-to.result c.batches.next act c.batches.invariant c.batches-test.true
+    c.min-to.ensures (omega (arith, long, within))
     there (c.is_give.ensures.0 c.if-not-is_give.false)
 
 pub returns : goal.returns

@@ -12,8 +12,10 @@ returns-in_ok-put c = λ before h.
     let slot = c.args.slot in
     let key = c.key-key.result in
     let (asked, is) = c.requires in
-    gone_entered before c.args.entry.now f g asked key slot c.in_ok-before.before c.min.result is c.key-key.ensures.start c.key-key.ensures.key c.in_ok-before.ensures.old
-    (c.min.ensures ∙ ap (λ o. lesser_of o slot.number) (sym c.in-Some.is)) (puts_over f m g key slot.number c.min.result c.in_ok-before.ensures.puts c.in_ok-put.ensures.puts) h
+    gone_entered before c.args.entry.now f g asked key slot c.in_ok-before.before c.min.result is c.key-key.ensures.start
+    c.key-key.ensures.key c.in_ok-before.ensures.old
+    (c.min.ensures ∙ ap (λ o. lesser_of o slot.number) (sym c.in-Some.is))
+    (puts_over f m g key slot.number c.min.result c.in_ok-before.ensures.puts c.in_ok-put.ensures.puts) h
 
 pub returns-in_default : goal.returns-in_default
 returns-in_default c = λ before h.

@@ -19,4 +19,5 @@ returns-then-has c = λ before h. (
 )
 
 pub returns : goal.returns
-returns c = λ before h. let end = c.loop-slot-test.false in (λ yes i n d less gone. c.loop-slot.invariant before h i n d (omega (arith, less, end)) gone, λ none. refl)
+returns c = λ before h. let end = c.loop-slot-test.false in
+    (λ yes i n d less gone. c.loop-slot.invariant before h i n d (omega (arith, less, end)) gone, λ none. refl)

@@ -16,7 +16,8 @@ returns-in-Made c =
     let n = c.numbered.result in
     let o = c.owner_of-owner.result in
     let held : (o ≡ Thread x.thread) ↔ IsHeld ps roots seen.slot (number_of seen.found.0) (WithThread x.thread) =
-    subst (λ (z : SlotName). (o ≡ Thread x.thread) ↔ IsHeld ps roots z (number_of seen.found.0) (WithThread x.thread)) c.numbered.ensures.slot
+    subst (λ (z : SlotName). (o ≡ Thread x.thread) ↔ IsHeld ps roots z (number_of seen.found.0) (WithThread x.thread))
+    c.numbered.ensures.slot
     (subst (λ k. (o ≡ Thread x.thread) ↔ IsHeld ps roots n.slot k (WithThread x.thread)) c.numbered.ensures.number
     (held_is ps roots n.slot n.number x.thread o c.requires.known c.owner_of-owner.ensures)) in
     let is = issued_is ps roots x seen c.in-Made.usable c.in-Made.is in

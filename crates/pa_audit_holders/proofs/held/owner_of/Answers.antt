@@ -21,7 +21,8 @@ returns-then-are_two c =
     let s = c.args.slot.slot in
     let k = c.args.slot.number in
     let f = value_at t.owners in
-    let known : KnowsJournal ps (roots i) t = subst (λ (z : Table). KnowsJournal ps (roots i) z) (sym c.table-item.is) (c.requires.tables.each i t c.loop-table-test.true) in
+    let known : KnowsJournal ps (roots i) t =
+    subst (λ (z : Table). KnowsJournal ps (roots i) z) (sym c.table-item.is) (c.requires.tables.each i t c.loop-table-test.true) in
     let e : c.find-owner.result ≡ f (word_key s k) = c.find-owner.ensures ∙ ap f c.key_at-key.ensures.key in
     found_two ps roots s k i f c.loop-table.found c.key_at-key.ensures.sized known.owners c.loop-table.invariant
     (subst (λ o. IsSome c.loop-table.found × IsSome o) e (c.are_two.ensures.0 c.if-are_two.true))
@@ -36,7 +37,8 @@ loop-table-preserved c =
     let k = c.args.slot.number in
     let f = value_at t.owners in
     let found = c.loop-table.found in
-    let known : KnowsJournal ps (roots i) t = subst (λ (z : Table). KnowsJournal ps (roots i) z) (sym c.table-item.is) (c.requires.tables.each i t c.loop-table-test.true) in
+    let known : KnowsJournal ps (roots i) t =
+    subst (λ (z : Table). KnowsJournal ps (roots i) z) (sym c.table-item.is) (c.requires.tables.each i t c.loop-table-test.true) in
     let e : c.find-owner.result ≡ f (word_key s k) = c.find-owner.ensures ∙ ap f c.key_at-key.ensures.key in
     subst (λ o. FoundSoFar ps roots s k (i + 1) o) (sym (c.either-found.ensures ∙ ap (either_of found) e))
     (found_next ps roots s k i f found c.key_at-key.ensures.sized known.owners c.loop-table.invariant
@@ -52,7 +54,8 @@ returns-in-Some c =
     let many = c.requires.tables.many in
     let test = c.loop-table-test.false in
     let end : length c.args.roots.now ≤ n = omega (arith, many, test) in
-    held_found ps roots s k n c.in-Some.owner (no_moves_past c.args.roots.now s k n end) (subst (λ o. FoundSoFar ps roots s k n o) c.in-Some.is c.loop-table.invariant)
+    held_found ps roots s k n c.in-Some.owner (no_moves_past c.args.roots.now s k n end)
+    (subst (λ o. FoundSoFar ps roots s k n o) c.in-Some.is c.loop-table.invariant)
 
 pub returns-in-None : goal.returns-in-None
 returns-in-None c =
@@ -64,4 +67,5 @@ returns-in-None c =
     let many = c.requires.tables.many in
     let test = c.loop-table-test.false in
     let end : length c.args.roots.now ≤ n = omega (arith, many, test) in
-    held_first ps roots s k n c.first_owner.result (no_moves_past c.args.roots.now s k n end) (subst (λ o. FoundSoFar ps roots s k n o) c.in-None.is c.loop-table.invariant) c.first_owner.ensures
+    held_first ps roots s k n c.first_owner.result (no_moves_past c.args.roots.now s k n end)
+    (subst (λ o. FoundSoFar ps roots s k n o) c.in-None.is c.loop-table.invariant) c.first_owner.ensures

@@ -14,7 +14,8 @@ loop-journal-preserved c =
     let roots = c.args.roots.now in
     let journal = c.journal-item.result in
     let walked = c.in_ok-walked.walked in
-    let there : journal_at roots l.partition ≡ journal = ap (journal_at roots) l.invariant.at ∙ get_or_default roots i [] journal c.loop-journal-test.true ∙ sym c.journal-item.is in
+    let there : journal_at roots l.partition ≡ journal =
+    ap (journal_at roots) l.invariant.at ∙ get_or_default roots i [] journal c.loop-journal-test.true ∙ sym c.journal-item.is in
     record {
       at = ap (λ n. n + 1) l.invariant.at;
       tables =
@@ -32,4 +33,5 @@ returns c =
     let at = l.invariant.at in
     let test = c.loop-journal-test.false in
     let end : length roots ≤ l.partition = omega (arith, at, test) in
-    subst (λ o. TellsHolders ps (journal_at roots) o) (sym c.place_of.ensures) (tells_entry ps roots l.partition l.misfit end l.invariant.entries c.in-None.ensures)
+    subst (λ o. TellsHolders ps (journal_at roots) o) (sym c.place_of.ensures)
+    (tells_entry ps roots l.partition l.misfit end l.invariant.entries c.in-None.ensures)

@@ -16,7 +16,8 @@ pub returns-clause-enters : goal.returns-clause-enters
 returns-clause-enters c =
     let f = value_at c.args.homes.now in
     let g = value_at c.put.new.self in
-    entered_one f g c.args.slot c.args.home c.key.ensures.start (subst (λ k. Puts f g k c.args.home) c.key.ensures.key c.in_ok-put.ensures.puts)
+    entered_one f g c.args.slot c.args.home c.key.ensures.start
+    (subst (λ k. Puts f g k c.args.home) c.key.ensures.key c.in_ok-put.ensures.puts)
 
 pub returns-in_err-put-clause-homes : goal.returns-in_err-put-clause-homes
 returns-in_err-put-clause-homes c = λ k h is. c.requires.homes k h (sym (c.in_err-put.ensures.same k) ∙ is)

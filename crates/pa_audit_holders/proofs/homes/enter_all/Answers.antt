@@ -13,13 +13,15 @@ loop-entry-preserved c =
     let roots = journal_at c.args.roots.now in
     let f = c.entry-item.result in
     let es = c.entries-entry-items.result.now in
-    let there : slice_get es l.entry-index ≡ Some f = slice_get_read es (length es) l.entry-index f refl c.loop-entry-test.true c.entry-item.is in
+    let there : slice_get es l.entry-index ≡ Some f =
+    slice_get_read es (length es) l.entry-index f refl c.loop-entry-test.true c.entry-item.is in
     let is : slice_get (roots c.args.partition) l.entry-index ≡ Some f = subst
     (λ (xs : List RootEntry). slice_get xs l.entry-index ≡ Some f)
     (c.entries-entry-items.ensures.entries ∙ sym c.requires.journal) there in
     record {
       homes = c.enter_entry.ensures.homes;
-      above = above_more roots c.args.partition l.entry-index f (value_at l.homes) (value_at c.enter_entry.new.homes) is l.invariant.above c.in_ok-enter_entry.ensures.enters;
+      above = above_more roots c.args.partition l.entry-index f (value_at l.homes)
+          (value_at c.enter_entry.new.homes) is l.invariant.above c.in_ok-enter_entry.ensures.enters;
     }
 
 pub returns-clause-above : goal.returns-clause-above

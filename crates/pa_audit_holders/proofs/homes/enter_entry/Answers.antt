@@ -19,7 +19,8 @@ enter_slots-requires-clause-home c = λ s among.
       subst (λ (zs : List Numbered). Contains (names zs) s) c.items.ensures.items among,
     ) in
     record {
-      goes = subst (λ (k : ℕ). IsOfClass (journal_at c.args.roots.now) s c.args.partition k × (k < 170)) (sym c.number.ensures.number) (of, c.number.ensures.bound);
+      goes = subst (λ (k : ℕ). IsOfClass (journal_at c.args.roots.now) s c.args.partition k × (k < 170)) (sym c.number.ensures.number)
+          (of, c.number.ensures.bound);
       size = inl (c.in-Fill.class, of, c.slot_size.ensures.size);
     }
 

@@ -14,7 +14,8 @@ pub lists-smaller : goal.lists-smaller
 lists-smaller c = let within = emptied_within c.lists.invariant c.lists-test.true in omega (arith, within)
 
 -- the length of the list that was read in a place is that of the list there
-long_read : (lists : List (List Numbered)) (at len : ℕ) (d found : List Numbered) → at < length lists → len ≡ length found → found ≡ get_or lists at d
+long_read : (lists : List (List Numbered)) (at len : ℕ) (d found : List Numbered) → at < length lists →
+    len ≡ length found → found ≡ get_or lists at d
     → len ≡ length (get_or lists at [])
 long_read lists at len d found below long is = long ∙ ap length (is ∙ get_or_default lists at d [] below)
 
@@ -27,9 +28,13 @@ pub lists-preserved : goal.lists-preserved
 lists-preserved c =
     let l = c.lists in
     let below = emptied_below l.invariant c.lists-test.true c.requires.within in
-    subst (λ (xs : List Numbered). AreEmptied c.args.lists.now.items (set l.lists.items l.at xs) c.args.first c.args.count (l.at + 1) (l.rest - c.len-rest.result))
+    subst (λ (xs : List Numbered). AreEmptied c.args.lists.now.items (set l.lists.items l.at xs) c.args.first c.args.count (l.at + 1)
+    (l.rest - c.len-rest.result))
     (sym c.clear.ensures)
-    (emptied_more l.invariant c.lists-test.true c.len-rest.result c.requires.within (long_read _ _ _ _ _ below c.len-rest.ensures c.index.ensures))
+    (emptied_more l.invariant c.lists-test.true c.len-rest.result c.requires.within
+    (long_read _ _ _ _ _ below c.len-rest.ensures c.index.ensures))
 
 pub returns-clause-these : goal.returns-clause-these
-returns-clause-these c = emptied_these c.args.lists.now.items c.lists.lists.items c.args.first c.args.count c.lists.at c.lists.rest c.lists.invariant c.lists-test.false
+returns-clause-these c =
+    emptied_these c.args.lists.now.items c.lists.lists.items c.args.first c.args.count c.lists.at c.lists.rest c.lists.invariant
+    c.lists-test.false

@@ -12,4 +12,5 @@ loop-record-preserved c =
     c.loop-record-test.true c.loop-record.invariant c.in_ok-enter_return.ensures.enters
 
 pub returns : goal.returns
-returns c = returns_whole c.args.records.now (value_at c.loop-record.firsts) c.loop-record.record-index c.loop-record-test.false c.loop-record.invariant
+returns c = returns_whole c.args.records.now (value_at c.loop-record.firsts) c.loop-record.record-index c.loop-record-test.false
+    c.loop-record.invariant

@@ -6,7 +6,9 @@ use Rattle.pa_audit_holders.proofs.purges.purged.Goals as goal
 
 pub returns-then-not-purges_all-clause-row : goal.returns-then-not-purges_all-clause-row
 returns-then-not-purges_all-clause-row c = λ next row. both_ways _ c.if-not-purges_all.true
-    (c.purges_all.ensures.1 (purged_was c.args.page.now.partitions (journal_at c.args.page.now.roots) c.args.page.now.told c.args.slots (cache_in c.args.cache.now) next row))
+    (c.purges_all.ensures.1
+    (purged_was c.args.page.now.partitions (journal_at c.args.page.now.roots) c.args.page.now.told c.args.slots
+    (cache_in c.args.cache.now) next row))
 
 pub returns-clause-row : goal.returns-clause-row
 returns-clause-row c = purged_row c.args.page.now.partitions (journal_at c.args.page.now.roots) c.args.page.now.told c.args.slots

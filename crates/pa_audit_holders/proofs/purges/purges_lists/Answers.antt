@@ -8,7 +8,7 @@ use Rattle.pa_rules.specs.Sizes.{HasClass}
 use Rattle.pa_rules.proofs.Versions.{real_in}
 use Rattle.pa_audit_holders.specs.Gives.{whole_count}
 use Rattle.pa_audit_holders.specs.Lines.{did_at}
-use Rattle.pa_audit_holders.specs.Lists.{VersionLists, cache_in, IsListedBy}
+use Rattle.pa_audit_holders.specs.Lists.{VersionLists, cache_in}
 use Rattle.pa_audit_holders.proofs.Listing.{none_but}
 use Rattle.pa_audit_holders.proofs.Purging.{IsPurging, purging_end, purging_more, purging_no_end, purging_not, purging_over, purging_part, purging_start}
 use Rattle.pa_audit_holders.proofs.Remaining.{left_some}
@@ -40,7 +40,8 @@ same_number o class number e h = subst (λ z. IfSome z (λ k. k ≡ number)) e h
 pub unwrap-requires : goal.unwrap-requires
 unwrap-requires c =
     let l = c.lists in
-    let less = real_in c.args.cache.now.version l.number (has_class _ _ _ _ _ _ _ _ l.invariant.low l.invariant.purging c.lists-test.true) in
+    let less = real_in c.args.cache.now.version l.number
+    (has_class _ _ _ _ _ _ _ _ l.invariant.low l.invariant.purging c.lists-test.true) in
     search rules
 
 pub list-list-requires-clause-class : goal.list-list-requires-clause-class
@@ -76,11 +77,13 @@ lists-smaller c =
 
 pub returns-in_default : goal.returns-in_default
 returns-in_default c = purging_not c.lists.invariant.purging c.lists-test.true
-    (read_here (cache_in c.args.cache.now c.args.partition) _ _ _ _ c.unwrap.ensures c.of.ensures.class c.list-list.ensures.slots) c.in_default.ensures
+    (read_here (cache_in c.args.cache.now c.args.partition) _ _ _ _ c.unwrap.ensures c.of.ensures.class c.list-list.ensures.slots)
+    c.in_default.ensures
 
 pub returns-then-list-left : goal.returns-then-list-left
 returns-then-list-left c = purging_over c.lists.invariant.purging c.lists-test.true
-    (read_here (cache_in c.args.cache.now c.args.partition) _ _ _ _ c.unwrap.ensures c.of.ensures.class c.list-list.ensures.slots) (omega (arith, c.if-list-left.true))
+    (read_here (cache_in c.args.cache.now c.args.partition) _ _ _ _ c.unwrap.ensures c.of.ensures.class c.list-list.ensures.slots)
+    (omega (arith, c.if-list-left.true))
 
 pub returns-then-ends_with_purge : goal.returns-then-ends_with_purge
 returns-then-ends_with_purge c =

@@ -8,7 +8,8 @@ use Rattle.pa_audit_holders.proofs.purges.purges_lists.Given as goal
 abbrev pub invariant-lists : goal.invariant-lists
 invariant-lists l = record {
   low : first_class l.cache.version ≤ l.number;
-  purging : IsPurging (map (did_at l.journal) l.places) (cache_in l.cache l.partition) l.slots (past_class l.cache.version) l.number l.at l.left l.rest;
+  purging : IsPurging (map (did_at l.journal) l.places) (cache_in l.cache l.partition) l.slots
+      (past_class l.cache.version) l.number l.at l.left l.rest;
 }
 
 abbrev pub decreases-lists : goal.decreases-lists

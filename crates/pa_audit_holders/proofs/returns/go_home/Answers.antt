@@ -12,7 +12,8 @@ pub put_in_list-requires-clause-class : goal.put_in_list-requires-clause-class
 put_in_list-requires-clause-class c =
     let roots = journal_at c.args.page.now.roots in
     let s = c.args.slot.slot in
-    let number : c.unwrap-class.result ≡ c.in-Some.number = subst (λ o. IfSome o (λ k. k ≡ c.in-Some.number)) c.unwrap-class.ensures c.of.ensures.class in
+    let number : c.unwrap-class.result ≡ c.in-Some.number =
+    subst (λ o. IfSome o (λ k. k ≡ c.in-Some.number)) c.unwrap-class.ensures c.of.ensures.class in
     let home = subst (λ o. IsHomeIn roots s c.args.home.partition o) c.in-Some.is c.requires.home.goes in
     subst (λ v. HasClass v c.unwrap-class.result) (sym c.requires.version)
     (c.requires.one.real c.args.home.partition c.unwrap-class.result
@@ -22,7 +23,8 @@ pub returns-in_ok-fits-in-Some-clause-row : goal.returns-in_ok-fits-in-Some-clau
 returns-in_ok-fits-in-Some-clause-row c =
     let roots = journal_at c.args.page.now.roots in
     let s = c.args.slot.slot in
-    let number : c.unwrap-class.result ≡ c.in-Some.number = subst (λ o. IfSome o (λ k. k ≡ c.in-Some.number)) c.unwrap-class.ensures c.of.ensures.class in
+    let number : c.unwrap-class.result ≡ c.in-Some.number =
+    subst (λ o. IfSome o (λ k. k ≡ c.in-Some.number)) c.unwrap-class.ensures c.of.ensures.class in
     let home = subst (λ o. IsHomeIn roots s c.args.home.partition o) c.in-Some.is c.requires.home.goes in
     back_by_class roots c.args.page.now.told c.args.slot (cache_in c.args.cache.now) (cache_in c.put_in_list.new.cache)
     c.args.home.partition c.unwrap-class.result c.in_ok-fits-in-Some.fits c.requires.one

@@ -16,8 +16,11 @@ returns-clause-row c =
     let cache = cache_in c.args.cache.now in
     let more = c.items-2.result.now in
     let only : OnlyActs roots c.args.page.now.told.line p (gives (drop stays.result more)) =
-    subst (λ (z : List Numbered). OnlyActs roots c.args.page.now.told.line p (gives z)) (slice_rest stays.result more) (c.only_gives.ensures.0 c.if-not-only_gives.false) in
-    let becomes = with_again cache (cache_in c.replace-slots.new.self) (cache_in c.replace.new.self) p class c.new-none.result c.keep.new.self c.replace-slots.ensures.after c.replace.ensures.after in
+    subst (λ (z : List Numbered). OnlyActs roots c.args.page.now.told.line p (gives z)) (slice_rest stays.result more)
+    (c.only_gives.ensures.0 c.if-not-only_gives.false) in
+    let becomes =
+    with_again cache (cache_in c.replace-slots.new.self)
+    (cache_in c.replace.new.self) p class c.new-none.result c.keep.new.self c.replace-slots.ensures.after c.replace.ensures.after in
     put_row roots c.args.page.now.told.line p class stays.result c.args.slot cache (cache_in c.replace.new.self)
     c.replace-slots.result c.put_front.new.self c.items.result.now more c.replace-slots.ensures.slots c.in_ok-put_front.ensures.put
     c.items.ensures c.items-2.ensures

@@ -11,5 +11,7 @@ returns-clause-row c =
     let roots = journal_at c.args.page.now.roots in
     let cache = cache_in c.args.cache.now in
     let after = cache_in c.put_back.new.cache in
-    done_returning roots c.args.page.now.told c.args.step c.args.seen cache after c.in_ok-fits.fits (c.returns.ensures.0 c.if-not-returns.false)
-    (subst (λ (n : ℕ). TellsRow (ReturnRow roots c.args.page.now.told (record { slot = c.args.seen.slot; number = n + 1 }) cache) after c.in_ok-fits.fits) c.number.ensures c.in_ok-fits.ensures.row)
+    done_returning roots c.args.page.now.told c.args.step c.args.seen cache after c.in_ok-fits.fits
+    (c.returns.ensures.0 c.if-not-returns.false)
+    (subst (λ (n : ℕ). TellsRow (ReturnRow roots c.args.page.now.told (record { slot = c.args.seen.slot; number = n + 1 }) cache) after
+    c.in_ok-fits.fits) c.number.ensures c.in_ok-fits.ensures.row)

@@ -20,13 +20,15 @@ returns-in-Some c =
     let class = c.in-Some.bin.class in
     let asks = subst (λ (o : Played). AsksForClass o p class) c.told-told.ensures.told c.in-Some.ensures.some in
     full_by_class roots c.args.page.now.told (cache_in c.args.cache.now) p class c.is_class_full.result asks
-    (subst (λ (list : List Numbered). IsTrue c.is_class_full.result ↔ ((list ≡ []) × IsRoomless roots c.args.page.now.told.line p class)) c.list-list.ensures.slots c.is_class_full.ensures)
+    (subst (λ (list : List Numbered). IsTrue c.is_class_full.result ↔ ((list ≡ []) × IsRoomless roots c.args.page.now.told.line p class))
+    c.list-list.ensures.slots c.is_class_full.ensures)
 
 pub returns-in-Some-map_asked : goal.returns-in-Some-map_asked
 returns-in-Some-map_asked c =
     let (size, given) = c.in-Some-map_asked.ensures.some in
     let asks = subst (λ (o : Played). AsksForMap o c.in-Some-map_asked.partition size) c.told-told.ensures.told given in
-    full_by_map (journal_at c.args.page.now.roots) c.args.page.now.told (cache_in c.args.cache.now) c.in-Some-map_asked.partition size c.is_map_full.result asks c.is_map_full.ensures
+    full_by_map (journal_at c.args.page.now.roots) c.args.page.now.told
+    (cache_in c.args.cache.now) c.in-Some-map_asked.partition size c.is_map_full.result asks c.is_map_full.ensures
 
 pub returns-in-None-map_asked : goal.returns-in-None-map_asked
 returns-in-None-map_asked c =

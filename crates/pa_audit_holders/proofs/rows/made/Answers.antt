@@ -13,7 +13,8 @@ made_of_class-requires-clause-class c =
 
 pub returns-in_ok-fits-in-Some-clause-row : goal.returns-in_ok-fits-in-Some-clause-row
 returns-in_ok-fits-in-Some-clause-row c =
-    let asks = subst (λ (o : Played). AsksForClass o c.in-Some.bin.partition c.in-Some.bin.class) c.told-told.ensures.told c.in-Some.ensures.some in
+    let asks = subst (λ (o : Played). AsksForClass o c.in-Some.bin.partition c.in-Some.bin.class) c.told-told.ensures.told
+    c.in-Some.ensures.some in
     made_by_class (journal_at c.args.page.now.roots) c.args.page.now.told c.args.seen (cache_in c.args.cache.now)
     (cache_in c.made_of_class.new.cache) c.in-Some.bin.partition c.in-Some.bin.class c.in_ok-fits-in-Some.fits asks
     c.in_ok-fits-in-Some.ensures.row
@@ -22,7 +23,8 @@ pub returns-in-Some-map_asked-clause-row : goal.returns-in-Some-map_asked-clause
 returns-in-Some-map_asked-clause-row c =
     let (size, given) = c.in-Some-map_asked.ensures.some in
     let asks = subst (λ (o : Played). AsksForMap o c.in-Some-map_asked.partition size) c.told-told.ensures.told given in
-    made_by_map (journal_at c.args.page.now.roots) c.args.page.now.told c.args.seen (cache_in c.args.cache.now) c.in-Some-map_asked.partition size c.is_mapped.result asks c.is_mapped.ensures
+    made_by_map (journal_at c.args.page.now.roots) c.args.page.now.told c.args.seen
+    (cache_in c.args.cache.now) c.in-Some-map_asked.partition size c.is_mapped.result asks c.is_mapped.ensures
 
 pub returns-in-None-map_asked-clause-row : goal.returns-in-None-map_asked-clause-row
 returns-in-None-map_asked-clause-row c =

@@ -18,11 +18,13 @@ returns-clause-parted c =
     cut_parted c.args.bytes.now rest c.split_at.result.0.now c.split_at.result.1.now c.loop-rest.lines c.loop-rest.invariant
     c.split_at.ensures.front c.split_at.ensures.back
     (elim c.loop-rest-test.branch [
-      | then-loop-rest-test+else-not-starts_with w ↦ run_begins rest w.starts_with.result w.starts_with.ensures.value w.if-not-starts_with.false
+      | then-loop-rest-test+else-not-starts_with w ↦
+          run_begins rest w.starts_with.result w.starts_with.ensures.value w.if-not-starts_with.false
       | else-loop-rest-test w ↦ none_begins rest c.is_empty.result c.is_empty.ensures w.loop-rest-test.false
     ])
 
 pub returns-clause-lines : goal.returns-clause-lines
 returns-clause-lines c =
-    cut_count (λ line. line ≡ run_line → ⊥) c.args.bytes.now c.loop-rest.rest.now c.split_at.result.0.now c.loop-rest.lines c.loop-rest.invariant
+    cut_count (λ line. line ≡ run_line → ⊥) c.args.bytes.now c.loop-rest.rest.now c.split_at.result.0.now c.loop-rest.lines
+    c.loop-rest.invariant
     c.split_at.ensures.front

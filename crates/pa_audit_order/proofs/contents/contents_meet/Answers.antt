@@ -28,7 +28,8 @@ may_give-requires-clause-one_free c = one_at Free c.args.records.now c.requires.
 pub loop-record-init : goal.loop-record-init
 loop-record-init c = record {
   met = λ version meet j below. absurd (omega arith);
-  regs = λ version meet. regs_start version (history_at c.args.cells.now) c.args.records.now c.in_ok-registers.registers c.in_ok-registers.ensures;
+  regs = λ version meet. regs_start version (history_at c.args.cells.now) c.args.records.now c.in_ok-registers.registers
+      c.in_ok-registers.ensures;
   at = refl;
 }
 
@@ -39,7 +40,8 @@ returns-then-not-may_give c = λ version meet.
     let l = c.loop-record in
     tells_at (λ k. ContentsDemand (usable_of version) cells ps (places.Record k)) l.record-index l.at l.invariant.at
     (λ asks. false≢true (c.if-not-may_give.ensures.1
-    (content_may version cells ps l.registers l.record-index _ c.requires.rising c.loop-record-test.true (l.invariant.regs version meet) asks)))
+    (content_may version cells ps l.registers l.record-index _ c.requires.rising c.loop-record-test.true
+    (l.invariant.regs version meet) asks)))
     (l.invariant.met version meet)
 
 pub loop-record-preserved : goal.loop-record-preserved
@@ -50,7 +52,8 @@ loop-record-preserved c =
     let i = l.record-index in
     record {
       met = λ version meet. met_more (λ k. ContentsDemand (usable_of version) cells ps (places.Record k)) i (l.invariant.met version meet)
-          (content_met version cells ps l.registers i _ c.loop-record-test.true (l.invariant.regs version meet) (c.if-not-may_give.ensures.0 refl));
+          (content_met version cells ps l.registers i _ c.loop-record-test.true (l.invariant.regs version meet)
+          (c.if-not-may_give.ensures.0 refl));
       regs = λ version meet. regs_on version cells ps l.registers c.change.new.self i _ c.loop-record-test.true meet
           (l.invariant.regs version meet) c.change.ensures;
       at = ap (λ n. n + 1) l.invariant.at;

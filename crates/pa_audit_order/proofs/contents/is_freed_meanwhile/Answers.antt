@@ -12,7 +12,8 @@ returns-in-Some c =
       λ yes. (free, next, c.is_other.ensures.0 yes),
       λ (y, there, other).
           c.is_other.ensures.1
-          (subst (λ (z : Played). IsOther z c.args.told) (one_next c.args.records.now c.args.slot c.args.number y free c.requires.one there next) other),
+          (subst (λ (z : Played). IsOther z c.args.told)
+          (one_next c.args.records.now c.args.slot c.args.number y free c.requires.one there next) other),
     )
 
 pub returns-in-None : goal.returns-in-None

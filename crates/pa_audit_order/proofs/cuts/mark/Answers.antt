@@ -13,4 +13,6 @@ returns-in_ok-raise-clause-left c =
     c.in-Some.ensures c.key.ensures.sized.0 c.key.ensures.key c.in_ok-raise.ensures.raises c.requires.left
 
 pub returns-in_default-clause-left : goal.returns-in_default-clause-left
-returns-in_default-clause-left c = left_unlooked c.args.records.now c.args.marked.now.items (value_at c.args.left.now) c.args.at _ c.requires.at c.in_default.ensures c.requires.left
+returns-in_default-clause-left c =
+    left_unlooked c.args.records.now c.args.marked.now.items
+    (value_at c.args.left.now) c.args.at _ c.requires.at c.in_default.ensures c.requires.left

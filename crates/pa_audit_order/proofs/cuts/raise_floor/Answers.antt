@@ -23,8 +23,10 @@ returns-else-records-floor-clause-all c =
 
 pub returns-after-loop-floor-clause-all : goal.returns-after-loop-floor-clause-all
 returns-after-loop-floor-clause-all c =
-    adds_past c.args.records.now c.args.phase c.args.stack.now.items c.args.floor.now c.loop-floor.stack.items c.loop-floor.floor c.loop-floor-test.false c.loop-floor.invariant
+    adds_past c.args.records.now c.args.phase c.args.stack.now.items c.args.floor.now c.loop-floor.stack.items c.loop-floor.floor
+    c.loop-floor-test.false c.loop-floor.invariant
 
 pub returns-in_err-push-clause-some : goal.returns-in_err-push-clause-some
 returns-in_err-push-clause-some c =
-    any_err _ _ (subst (λ zs. Adds c.args.records.now c.args.phase c.args.stack.now.items c.args.floor.now zs c.loop-floor.floor) (sym c.in_err-push.ensures.items) c.loop-floor.invariant)
+    any_err _ _ (subst (λ zs. Adds c.args.records.now c.args.phase c.args.stack.now.items c.args.floor.now zs c.loop-floor.floor)
+    (sym c.in_err-push.ensures.items) c.loop-floor.invariant)

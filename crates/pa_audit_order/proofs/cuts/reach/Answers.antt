@@ -23,7 +23,8 @@ loop-next-init c =
     let adds = c.in_ok-add_steps.ensures.adds in
     let h = cut_but cells ps A at marked old cut.floor left c.requires.cut in
     let near = steps_in cells ps A at marked old new cut.floor high left adds h in
-    let there = cut_steps cells ps A at marked old new cut.floor high left (λ x y here step. step_ahead cells ps at x y c.requires.ready.rising here step) adds h in
+    let there = cut_steps cells ps A at marked old new cut.floor high left
+    (λ x y here step. step_ahead cells ps at x y c.requires.ready.rising here step) adds h in
     record { cut = cut_all cells ps A at marked new high left near there; near = near }
 
 pub index-requires : goal.index-requires
@@ -32,7 +33,8 @@ index-requires c =
     let ps = c.args.records.now in
     let cut = c.loop-next.cut in
     let rest = c.pop.new.self.items in
-    let P = λ (zs : List ℕ). IsGrown cells ps (IsAheadAt cells ps c.args.at) (length ps) cut.marked.items zs cut.floor (value_at cut.left) in
+    let P = λ (zs : List ℕ). IsGrown cells ps (IsAheadAt cells ps c.args.at) (length ps) cut.marked.items zs cut.floor
+    (value_at cut.left) in
     let h = subst P c.in-Some.ensures.items c.loop-next.invariant.cut in
     let low = h.within c.in-Some.next (Contains-push rest c.in-Some.next) in
     let long = h.long in
@@ -45,7 +47,8 @@ mark-requires-clause-at c =
     let ps = c.args.records.now in
     let cut = c.loop-next.cut in
     let rest = c.pop.new.self.items in
-    let P = λ (zs : List ℕ). IsGrown cells ps (IsAheadAt cells ps c.args.at) (length ps) cut.marked.items zs cut.floor (value_at cut.left) in
+    let P = λ (zs : List ℕ). IsGrown cells ps (IsAheadAt cells ps c.args.at) (length ps) cut.marked.items zs cut.floor
+    (value_at cut.left) in
     let h = subst P c.in-Some.ensures.items c.loop-next.invariant.cut in
     h.within c.in-Some.next (Contains-push rest c.in-Some.next)
 
@@ -55,7 +58,8 @@ add_steps-requires-then-not-index-clause-at c =
     let ps = c.args.records.now in
     let cut = c.loop-next.cut in
     let rest = c.pop.new.self.items in
-    let P = λ (zs : List ℕ). IsGrown cells ps (IsAheadAt cells ps c.args.at) (length ps) cut.marked.items zs cut.floor (value_at cut.left) in
+    let P = λ (zs : List ℕ). IsGrown cells ps (IsAheadAt cells ps c.args.at) (length ps) cut.marked.items zs cut.floor
+    (value_at cut.left) in
     let h = subst P c.in-Some.ensures.items c.loop-next.invariant.cut in
     h.within c.in-Some.next (Contains-push rest c.in-Some.next)
 
@@ -75,7 +79,8 @@ loop-next-preserved-in-Continue-branch-3 c =
     let adds = c.in_ok-add_steps-2.ensures.adds in
     let items = c.in-Some.ensures.items in
     let h = subst (λ zs. IsGrown cells ps A n marked zs cut.floor (value_at cut.left)) items c.loop-next.invariant.cut in
-    let within : next < length marked = let low = h.within next (Contains-push rest next) in let long = h.long in omega (arith, low, long) in
+    let within : next < length marked = let low = h.within next (Contains-push rest next) in let long = h.long in
+    omega (arith, low, long) in
     let set_ = set marked next true in
     let made = cut_mark cells ps A next marked rest cut.floor (value_at cut.left) left c.in_ok-mark.ensures.left h in
     let steps = cut_steps cells ps A next set_ rest new cut.floor high left
@@ -88,7 +93,8 @@ loop-next-preserved-in-Continue-branch-3 c =
       cut = subst (λ ms. IsGrown cells ps A n ms new high left) is all;
       near = λ j to.
           subst (λ ms. IsTakenUp ms new j) is
-          (in_more set_ rest new j adds.kept (in_mark marked rest next j within (subst (λ zs. IsTakenUp marked zs j) items (c.loop-next.invariant.near j to))));
+          (in_more set_ rest new j adds.kept
+          (in_mark marked rest next j within (subst (λ zs. IsTakenUp marked zs j) items (c.loop-next.invariant.near j to))));
     }
 
 pub loop-next-smaller-in-Continue-branch-3 : goal.loop-next-smaller-in-Continue-branch-3
@@ -104,7 +110,8 @@ loop-next-smaller-in-Continue-branch-3 c =
     let adds = c.in_ok-add_steps-2.ensures.adds in
     let items = c.in-Some.ensures.items in
     let h = subst (λ zs. IsGrown cells ps A n marked zs cut.floor (value_at cut.left)) items c.loop-next.invariant.cut in
-    let within : next < length marked = let low = h.within next (Contains-push rest next) in let long = h.long in omega (arith, low, long) in
+    let within : next < length marked = let low = h.within next (Contains-push rest next) in let long = h.long in
+    omega (arith, low, long) in
     let fewer = fewer_unmarked marked next c.index.result.now within (sym c.index.ensures ∙ c.if-not-index.true) in
     let is = ap unmarked c.mark.ensures.marked in
     let popped = ap length items in
@@ -126,7 +133,8 @@ loop-next-preserved c =
     let left = value_at cut.left in
     let items = c.in-Some.ensures.items in
     let h = subst (λ zs. IsGrown cells ps A n marked zs cut.floor left) items c.loop-next.invariant.cut in
-    let within : next < length marked = let low = h.within next (Contains-push rest next) in let long = h.long in omega (arith, low, long) in
+    let within : next < length marked = let low = h.within next (Contains-push rest next) in let long = h.long in
+    omega (arith, low, long) in
     let is = marked_at marked next c.index.result.now within (sym c.index.ensures ∙ c.if-not-index.false) in
     record {
       cut = cut_skip cells ps A n next marked rest cut.floor left is h;

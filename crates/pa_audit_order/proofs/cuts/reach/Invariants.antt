@@ -7,7 +7,8 @@ use Rattle.pa_audit_order.proofs.cuts.reach.Given as goal
 abbrev pub invariant-loop-next : goal.invariant-loop-next
 invariant-loop-next l = record {
   cut :
-      IsGrown (history_at l.cells) l.records (IsAheadAt (history_at l.cells) l.records l.at) (length l.records) l.cut.marked.items l.cut.stack.items l.cut.floor (value_at l.cut.left);
+      IsGrown (history_at l.cells) l.records (IsAheadAt (history_at l.cells) l.records l.at)
+      (length l.records) l.cut.marked.items l.cut.stack.items l.cut.floor (value_at l.cut.left);
   near : (j : ℕ) → IsNear (history_at l.cells) l.records j l.at → IsTakenUp l.cut.marked.items l.cut.stack.items j;
 }
 

@@ -8,7 +8,8 @@ use Rattle.pa_audit_order.proofs.keys.greatest.Goals as goal
 pub returns-then-key-low-clause-none : goal.returns-then-key-low-clause-none
 returns-then-key-low-clause-none c =
     let h = (c.range-below.ensures.in_range tt).4 _ _ c.in_ok-key.ensures.steps in
-    none_from (get nat_cmp c.args.map.now) c.args.low c.args.high c.in_ok-key.key.now c.if-key-low.true (λ q below some. h q (tt, below) some)
+    none_from (get nat_cmp c.args.map.now) c.args.low c.args.high c.in_ok-key.key.now c.if-key-low.true
+    (λ q below some. h q (tt, below) some)
 
 pub returns-clause-some : goal.returns-clause-some
 returns-clause-some c =

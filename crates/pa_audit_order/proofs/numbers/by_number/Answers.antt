@@ -24,12 +24,14 @@ loop-record-preserved c =
             let g = get nat_cmp w.insert.new.self in
             let key = w.key.ensures.key ∙ ap (word_key seen.slot) w.number.ensures in
             let put = put_key f g w.key.result c.loop-record.at w.in_ok-insert.ensures.updates.1 w.in_ok-insert.ensures.updates.2 in
-            let puts = subst (λ z. Puts f g (word_key seen.slot (number_of seen.found.0)) z) inv.at (subst (λ z. Puts f g z c.loop-record.at) key put) in
+            let puts = subst (λ z. Puts f g (word_key seen.slot (number_of seen.found.0)) z) inv.at
+            (subst (λ z. Puts f g z c.loop-record.at) key put) in
             let sized = subst (λ z. IsSized seen.slot z) w.number.ensures w.key.ensures.sized in
             subst (λ z. AreByNumber kind ps (get nat_cmp z) (k + 1)) (sym w.table-is)
             (table_put kind ps f g k _ seen c.requires.one c.loop-record-test.true (sym w.in-Some.ensures) sized puts inv.table)
         | in_default w ↦
-            subst (λ z. AreByNumber kind ps (get nat_cmp z) (k + 1)) (sym w.table-is) (table_skip kind ps f k _ c.loop-record-test.true (sym w.in_default.ensures) inv.table)
+            subst (λ z. AreByNumber kind ps (get nat_cmp z) (k + 1)) (sym w.table-is)
+            (table_skip kind ps f k _ c.loop-record-test.true (sym w.in_default.ensures) inv.table)
       ];
       at = ap (λ n. n + 1) inv.at;
     }

@@ -16,8 +16,10 @@ loop-record-preserved c =
           w.in-Some.ensures w.key.ensures.key w.in_ok-old.ensures.old w.in_ok-old.ensures.puts
           (subst (λ z. z ≤ w.in-Some.look.found) w.unwrap_or.ensures w.if-look-unwrap_or.false) c.loop-record.invariant)
       | in_default w ↦
-          subst (λ z. RisesSoFar ps (value_at z) (n + 1)) (sym w.left-is) (rises_quiet ps before n _ c.loop-record-test.true w.in_default.ensures c.loop-record.invariant)
+          subst (λ z. RisesSoFar ps (value_at z) (n + 1)) (sym w.left-is)
+          (rises_quiet ps before n _ c.loop-record-test.true w.in_default.ensures c.loop-record.invariant)
     ]
 
 pub returns : goal.returns
-returns c = λ all. rises_end c.args.records.now (value_at c.loop-record.left) c.loop-record.record-index c.loop-record-test.false c.loop-record.invariant
+returns c = λ all. rises_end c.args.records.now
+    (value_at c.loop-record.left) c.loop-record.record-index c.loop-record-test.false c.loop-record.invariant

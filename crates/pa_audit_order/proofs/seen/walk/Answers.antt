@@ -57,11 +57,13 @@ loop-record-preserved c =
             subst P (sym w.cut-is)
             (walked_on cells ps c.args.previous.now t k c.loop-record.at _ old.marked.items cut.marked.items old.stack.items
             cut.stack.items old.floor cut.floor (value_at old.left) (value_at cut.left) inv.at
-            c.loop-record-test.true w.if-record-thread.true c.requires.ready.rising c.requires.ready.threads inv.walked w.in_ok-reach.ensures.cut w.in_ok-reach.ensures.empty w.in_ok-reach.ensures.near
+            c.loop-record-test.true w.if-record-thread.true c.requires.ready.rising c.requires.ready.threads inv.walked
+            w.in_ok-reach.ensures.cut w.in_ok-reach.ensures.empty w.in_ok-reach.ensures.near
             (w.if-not-is_fresh.ensures.fresh.0 refl))
         | else-record-thread w ↦
             subst P (sym w.cut-is)
-            (walked_past cells ps t k _ old.marked.items old.stack.items old.floor (value_at old.left) c.loop-record-test.true w.if-record-thread.false inv.walked)
+            (walked_past cells ps t k _ old.marked.items old.stack.items old.floor
+            (value_at old.left) c.loop-record-test.true w.if-record-thread.false inv.walked)
       ];
       at = ap (λ n. n + 1) inv.at;
     }

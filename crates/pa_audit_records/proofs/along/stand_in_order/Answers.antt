@@ -19,8 +19,10 @@ loop-record-preserved c =
           (along_told ps before (word_by (value_at w.continues.new.words)) n _ _ c.requires.rising c.loop-record-test.true
           w.in-Some.ensures.mark (w.in_ok-continues.ensures w.if-not-branch.false) c.loop-record.invariant)
       | in_default w ↦
-          subst (λ z. RunsTo ps (n + 1) (word_by (value_at z))) (sym w.words-is) (along_quiet ps before n _ c.loop-record-test.true w.in_default.ensures.mark c.loop-record.invariant)
+          subst (λ z. RunsTo ps (n + 1) (word_by (value_at z))) (sym w.words-is)
+          (along_quiet ps before n _ c.loop-record-test.true w.in_default.ensures.mark c.loop-record.invariant)
     ]
 
 pub returns : goal.returns
-returns c = λ all. along_end c.args.records.now (word_by (value_at c.loop-record.words)) c.loop-record.record-index c.loop-record-test.false c.loop-record.invariant
+returns c = λ all. along_end c.args.records.now
+    (word_by (value_at c.loop-record.words)) c.loop-record.record-index c.loop-record-test.false c.loop-record.invariant

@@ -19,7 +19,8 @@ pub returns-in-Some : goal.returns-in-Some
 returns-in-Some c =
     let cells = history_at c.args.cells.now in
     let ps = c.args.records.now in
-    pair_at (λ k j. CellsDemand cells ps (places.Cell k j)) c.loop-history.cell c.in-Some.at c.in_ok-at.field-0 c.in-Some.is c.loop-history.invariant.met c.in_ok-at.ensures.tells
+    pair_at (λ k j. CellsDemand cells ps (places.Cell k j)) c.loop-history.cell c.in-Some.at c.in_ok-at.field-0 c.in-Some.is
+    c.loop-history.invariant.met c.in_ok-at.ensures.tells
 
 pub loop-history-preserved : goal.loop-history-preserved
 loop-history-preserved c =
@@ -27,8 +28,10 @@ loop-history-preserved c =
     let ps = c.args.records.now in
     record {
       cell = ap (λ n. n + 1) c.loop-history.invariant.cell;
-      met = cells_more (λ k j. CellsDemand cells ps (places.Cell k j)) c.loop-history.cell c.in_ok-at.field-0 c.in_default.is c.loop-history.invariant.met c.in_ok-at.ensures.tells;
-      lines = subst (λ o. IfNone o (AreLinesKnown cells (value_at c.cell_meets.new.known) (c.loop-history.cell + 1) 0)) c.in_default.is c.in_ok-at.ensures.known;
+      met = cells_more (λ k j. CellsDemand cells ps (places.Cell k j)) c.loop-history.cell c.in_ok-at.field-0 c.in_default.is
+          c.loop-history.invariant.met c.in_ok-at.ensures.tells;
+      lines = subst (λ o. IfNone o (AreLinesKnown cells (value_at c.cell_meets.new.known) (c.loop-history.cell + 1) 0)) c.in_default.is
+          c.in_ok-at.ensures.known;
     }
 
 pub returns : goal.returns

@@ -23,7 +23,8 @@ loop-record-preserved c =
     let cells = history_at c.args.cells.now in
     let i = c.loop-record.record-index in
     record {
-      met = met_more (λ k. CellsDemand cells ps (places.Record k)) i c.loop-record.invariant.met (swap_met cells ps i _ c.loop-record-test.true (c.if-not-swap_fits.ensures.0 refl));
+      met = met_more (λ k. CellsDemand cells ps (places.Record k)) i c.loop-record.invariant.met
+          (swap_met cells ps i _ c.loop-record-test.true (c.if-not-swap_fits.ensures.0 refl));
       at = ap (λ n. n + 1) c.loop-record.invariant.at;
     }
 

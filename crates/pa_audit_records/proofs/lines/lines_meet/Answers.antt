@@ -9,7 +9,8 @@ loop-line-init c = record { due = λ r. due_start r c.args.lines.now c.args.reco
 
 pub returns-then-not-is_due : goal.returns-then-not-is_due
 returns-then-not-is_due c = λ r.
-    due_not r c.args.lines.now c.args.records.now c.loop-line.line-index c.loop-line.number c.loop-line.at c.in-Do.thread c.in-Do.op c.loop-line-test.true c.in-Do.is (c.loop-line.invariant.due r)
+    due_not r c.args.lines.now c.args.records.now c.loop-line.line-index c.loop-line.number c.loop-line.at c.in-Do.thread c.in-Do.op
+    c.loop-line-test.true c.in-Do.is (c.loop-line.invariant.due r)
     (search rules)
 
 pub loop-line-preserved : goal.loop-line-preserved
@@ -22,7 +23,9 @@ loop-line-preserved c =
     let next = λ (k : ℕ). (r : Rules) → DueSoFar r ls es (drop (i + 1) ls) (n + 1) k in
     elim c.match-line.branch [
       | in-Do+else-not-is_due w ↦ record {
-        due = subst next (sym w.at-is) (λ r. due_more r ls es i n at w.in-Do.thread w.in-Do.op c.loop-line-test.true w.in-Do.is (c.loop-line.invariant.due r) (search rules));
+        due = subst next (sym w.at-is)
+            (λ r. due_more r ls es i n at w.in-Do.thread w.in-Do.op c.loop-line-test.true w.in-Do.is (c.loop-line.invariant.due r)
+            (search rules));
         few = omega arith;
         number = omega arith;
       }
@@ -35,8 +38,10 @@ loop-line-preserved c =
 
 pub returns-then-at-records : goal.returns-then-at-records
 returns-then-at-records c = λ r.
-    due_over r c.args.lines.now c.args.records.now c.loop-line.line-index c.loop-line.number c.loop-line.at c.loop-line-test.false (c.loop-line.invariant.due r) c.if-at-records.true
+    due_over r c.args.lines.now c.args.records.now c.loop-line.line-index c.loop-line.number c.loop-line.at c.loop-line-test.false
+    (c.loop-line.invariant.due r) c.if-at-records.true
 
 pub returns-else-at-records : goal.returns-else-at-records
 returns-else-at-records c = λ r.
-    due_all r c.args.lines.now c.args.records.now c.loop-line.line-index c.loop-line.number c.loop-line.at c.loop-line-test.false (c.loop-line.invariant.due r) c.if-at-records.false
+    due_all r c.args.lines.now c.args.records.now c.loop-line.line-index c.loop-line.number c.loop-line.at c.loop-line-test.false
+    (c.loop-line.invariant.due r) c.if-at-records.false

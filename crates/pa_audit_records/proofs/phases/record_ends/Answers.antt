@@ -6,7 +6,8 @@ use Rattle.pa_audit_records.proofs.phases.record_ends.Goals as goal
 
 pub ends_of-requires-clause-rising : goal.ends_of-requires-clause-rising
 ends_of-requires-clause-rising c =
-    subst (λ ks. AllPairs ◌≤◌ ks) (sym (c.as_slice.ensures.value ∙ c.in_ok-record_phases.ensures)) (phases_sorted c.args.records.now c.requires.rising)
+    subst (λ ks. AllPairs ◌≤◌ ks) (sym (c.as_slice.ensures.value ∙ c.in_ok-record_phases.ensures))
+    (phases_sorted c.args.records.now c.requires.rising)
 
 pub returns-clause-cuts : goal.returns-clause-cuts
 returns-clause-cuts c =

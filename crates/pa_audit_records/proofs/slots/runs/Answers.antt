@@ -25,13 +25,17 @@ loop-record-preserved c =
           w.in_ok-reach.ensures.reached w.in_ok-reach.ensures.kept w.in-Some.ensures.mark
           w.in_ok-reach.ensures.first)
       | in-Some+else-is_none w ↦
-          let there : is_some w.find.result ≡ is_some (before (word_key w.in-Some.mark.slot 0)) = ap is_some (w.find.ensures ∙ ap before w.key_word.ensures.key) in
+          let there : is_some w.find.result ≡ is_some (before (word_key w.in-Some.mark.slot 0)) =
+          ap is_some (w.find.ensures ∙ ap before w.key_word.ensures.key) in
           subst (λ z. RunsSoFar ps (value_at z) (n + 1)) (sym w.reached-is)
           (runs_told ps f before before n _ _ c.loop-record-test.true c.requires.firsts c.loop-record.invariant
           c.loop-record.invariant.runs (λ t low some. some) w.in-Some.ensures.mark (sym there ∙ w.if-is_none.ensures))
       | in_default w ↦
-          subst (λ z. RunsSoFar ps (value_at z) (n + 1)) (sym w.reached-is) (runs_quiet ps f before n _ c.loop-record-test.true c.requires.firsts c.loop-record.invariant w.in_default.ensures.mark)
+          subst (λ z. RunsSoFar ps (value_at z) (n + 1)) (sym w.reached-is)
+          (runs_quiet ps f before n _ c.loop-record-test.true c.requires.firsts c.loop-record.invariant w.in_default.ensures.mark)
     ]
 
 pub returns-clause-all : goal.returns-clause-all
-returns-clause-all c = slots_all c.args.records.now (value_at c.loop-record.reached) c.loop-record.record-index c.loop-record-test.false c.loop-record.invariant.all
+returns-clause-all c =
+    slots_all c.args.records.now (value_at c.loop-record.reached) c.loop-record.record-index c.loop-record-test.false
+    c.loop-record.invariant.all

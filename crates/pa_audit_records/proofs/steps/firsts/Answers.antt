@@ -10,7 +10,8 @@ loop-at-preserved-in-Continue-1 c =
     record {
       below = omega arith;
       firsts =
-          firsts_more c.args.records.now (value_at c.loop-at.firsts) (value_at c.put.new.self) k c.loop-at.at c.in-Some.key _ (omega arith) (omega arith) c.in-Some.ensures.key c.step_key.ensures.sized
+          firsts_more c.args.records.now (value_at c.loop-at.firsts) (value_at c.put.new.self) k c.loop-at.at c.in-Some.key _ (omega arith)
+          (omega arith) c.in-Some.ensures.key c.step_key.ensures.sized
           c.in_ok-put.ensures.puts c.loop-at.invariant.firsts;
     }
 
@@ -19,7 +20,8 @@ loop-at-preserved c =
     let k = c.loop-at.at - 1 in
     record {
       below = omega arith;
-      firsts = firsts_same c.args.records.now (value_at c.loop-at.firsts) k c.loop-at.at _ (omega arith) (omega arith) (search rules) c.step_key.ensures.sized c.loop-at.invariant.firsts;
+      firsts = firsts_same c.args.records.now (value_at c.loop-at.firsts) k c.loop-at.at _ (omega arith) (omega arith)
+          (search rules) c.step_key.ensures.sized c.loop-at.invariant.firsts;
     }
 
 pub returns : goal.returns

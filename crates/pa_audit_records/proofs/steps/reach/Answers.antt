@@ -19,7 +19,8 @@ returns c =
     let before = value_at c.args.reached.now in
     let at = value_at c.loop-next.reached in
     record {
-      reached = reach_end c.args.records.now before at c.args.slot c.loop-next.word.0 c.key_word.ensures.sized.0 c.in_default.ensures.last c.requires.reached c.loop-next.invariant;
+      reached = reach_end c.args.records.now before at c.args.slot c.loop-next.word.0 c.key_word.ensures.sized.0 c.in_default.ensures.last
+          c.requires.reached c.loop-next.invariant;
       kept = reach_kept c.args.records.now before at c.args.slot c.loop-next.word.0 c.key_word.ensures.sized.0 c.loop-next.invariant;
       first = reach_first c.args.records.now before at c.args.slot c.loop-next.word.0 c.key_word.ensures.sized.0 c.loop-next.invariant;
     }

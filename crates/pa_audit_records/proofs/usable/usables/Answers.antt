@@ -9,7 +9,8 @@ pub loop-at-preserved-in-Continue-1 : goal.loop-at-preserved-in-Continue-1
 loop-at-preserved-in-Continue-1 c =
     let f = value_at c.loop-at.usables in
     let g = value_at c.put.new.self in
-    let puts : Puts f g (name_key c.in-Made.seen.slot) c.in-Made.usable = subst (λ k. Puts f g k c.in-Made.usable) c.key.ensures.key c.in_ok-put.ensures.puts in
+    let puts : Puts f g (name_key c.in-Made.seen.slot) c.in-Made.usable =
+    subst (λ k. Puts f g k c.in-Made.usable) c.key.ensures.key c.in_ok-put.ensures.puts in
     record {
       below = omega arith;
       usables =

@@ -9,7 +9,11 @@ use Rattle.pa_audit_records.proofs.Walking.{record_among, regs_start, regs_not, 
 use Rattle.pa_audit_records.proofs.walk.registers_meet.Goals as goal
 
 pub loop-record-init : goal.loop-record-init
-loop-record-init c = record { walk = regs_start c.args.version (history_at c.args.cells.now) c.args.records.now c.in_ok-registers.registers c.in_ok-registers.ensures; at = refl }
+loop-record-init c = record {
+  walk =
+      regs_start c.args.version (history_at c.args.cells.now) c.args.records.now c.in_ok-registers.registers c.in_ok-registers.ensures;
+  at = refl;
+}
 
 pub returns-then-not-may_answer : goal.returns-then-not-may_answer
 returns-then-not-may_answer c =
@@ -17,9 +21,11 @@ returns-then-not-may_answer c =
     let cells = history_at c.args.cells.now in
     let P = λ (k : ℕ). TellsFirst (λ i. RegistersDemand (usable_of c.args.version) cells ps (places.Record i)) (Some k) in
     subst P (sym c.loop-record.invariant.at)
-    (regs_not c.args.version cells ps c.loop-record.registers c.loop-record.record-index _ c.loop-record-test.true c.loop-record.invariant.walk
+    (regs_not c.args.version cells ps c.loop-record.registers c.loop-record.record-index _ c.loop-record-test.true
+    c.loop-record.invariant.walk
     (λ may. false≢true
-    ((c.if-not-may_answer.ensures ps (c.in_ok-usables.ensures _ (record_among ps c.loop-record.record-index _ c.loop-record-test.true))).1 may)))
+    ((c.if-not-may_answer.ensures ps
+    (c.in_ok-usables.ensures _ (record_among ps c.loop-record.record-index _ c.loop-record-test.true))).1 may)))
 
 pub loop-record-preserved : goal.loop-record-preserved
 loop-record-preserved c =
@@ -27,10 +33,13 @@ loop-record-preserved c =
     let cells = history_at c.args.cells.now in
     record {
       walk =
-          regs_more c.args.version cells ps c.loop-record.registers c.change.new.self c.loop-record.record-index _ c.loop-record-test.true c.loop-record.invariant.walk
-          ((c.if-not-may_answer.ensures ps (c.in_ok-usables.ensures _ (record_among ps c.loop-record.record-index _ c.loop-record-test.true))).0 refl) c.change.ensures;
+          regs_more c.args.version cells ps c.loop-record.registers c.change.new.self c.loop-record.record-index _ c.loop-record-test.true
+          c.loop-record.invariant.walk
+          ((c.if-not-may_answer.ensures ps
+          (c.in_ok-usables.ensures _ (record_among ps c.loop-record.record-index _ c.loop-record-test.true))).0 refl) c.change.ensures;
       at = ap (λ n. n + 1) c.loop-record.invariant.at;
     }
 
 pub returns : goal.returns
-returns c = regs_all c.args.version (history_at c.args.cells.now) c.args.records.now c.loop-record.registers c.loop-record.record-index c.loop-record-test.false c.loop-record.invariant.walk
+returns c = regs_all c.args.version (history_at c.args.cells.now) c.args.records.now c.loop-record.registers c.loop-record.record-index
+    c.loop-record-test.false c.loop-record.invariant.walk

@@ -8,7 +8,8 @@ use Rattle.pa_audit_report.proofs.counts.count_record.Goals as goal
 pub returns-in-None : goal.returns-in-None
 returns-in-None c =
     let ps = c.args.records.now in
-    counted_quiet (value_at c.args.homes.now) c.args.partition c.args.at ps _ c.args.count (slice_get-get_or ps c.args.at _ c.requires.within) c.in-None.ensures.none c.requires.counted
+    counted_quiet (value_at c.args.homes.now) c.args.partition c.args.at ps _ c.args.count
+    (slice_get-get_or ps c.args.at _ c.requires.within) c.in-None.ensures.none c.requires.counted
 
 pub returns-in-None-bytes_in : goal.returns-in-None-bytes_in
 returns-in-None-bytes_in c =

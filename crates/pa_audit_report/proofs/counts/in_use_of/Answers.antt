@@ -13,7 +13,8 @@ pub count_on-count-requires-clause-order : goal.count_on-count-requires-clause-o
 count_on-count-requires-clause-order c =
     let l = c.loop-end in
     let i = l.end-index in
-    cut_order (map (λ (x : Played). x.phase) c.args.records.now) i (i + 1) l.from _ (omega arith) l.invariant.low (c.requires.ends i _ (slice_get-get_or c.args.ends.now i 0 c.loop-end-test.true))
+    cut_order (map (λ (x : Played). x.phase) c.args.records.now) i (i + 1) l.from _ (omega arith) l.invariant.low
+    (c.requires.ends i _ (slice_get-get_or c.args.ends.now i 0 c.loop-end-test.true))
 
 pub count_on-count-requires-clause-within : goal.count_on-count-requires-clause-within
 count_on-count-requires-clause-within c =
@@ -27,7 +28,8 @@ loop-end-init c =
       many = omega (arith, c.new-uses.ensures.items);
       low = low_none (map (λ (x : Played). x.phase) c.args.records.now) 0;
       counted = c.no_count-count.ensures at c.args.partition;
-      uses = subst (λ (us : List InUse). HasEach (λ i u. IsUse at c.args.partition (until (i + 1) c.args.records.now) u) us) (sym c.new-uses.ensures.items)
+      uses = subst (λ (us : List InUse). HasEach (λ i u. IsUse at c.args.partition (until (i + 1) c.args.records.now) u) us)
+          (sym c.new-uses.ensures.items)
           (each_none (λ i u. IsUse at c.args.partition (until (i + 1) c.args.records.now) u));
     }
 
@@ -41,7 +43,8 @@ loop-end-preserved c =
     let cut = c.requires.ends i (get_or c.args.ends.now i 0) (slice_get-get_or c.args.ends.now i 0 c.loop-end-test.true) in
     let used : IsUse at c.args.partition (until (i + 1) ps) c.in_use.result = record {
       count = c.count_on-count.result;
-      counted = subst (λ xs. HasCounted at c.args.partition xs c.count_on-count.result) (until_is ps (i + 1) (get_or c.args.ends.now i 0) cut) c.count_on-count.ensures;
+      counted = subst (λ xs. HasCounted at c.args.partition xs c.count_on-count.result)
+          (until_is ps (i + 1) (get_or c.args.ends.now i 0) cut) c.count_on-count.ensures;
       live = c.in_use.ensures.live;
       quarantined = c.in_use.ensures.quarantined;
     } in
@@ -49,5 +52,6 @@ loop-end-preserved c =
       many = long_next l.uses.items c.push.new.self.items c.in_use.result i c.in_ok-push.ensures.items l.invariant.many;
       low = cut.front;
       counted = c.count_on-count.ensures;
-      uses = each_next (λ k u. IsUse at c.args.partition (until (k + 1) ps) u) l.uses.items c.push.new.self.items c.in_use.result i c.in_ok-push.ensures.items l.invariant.many l.invariant.uses used;
+      uses = each_next (λ k u. IsUse at c.args.partition (until (k + 1) ps) u) l.uses.items c.push.new.self.items c.in_use.result i
+          c.in_ok-push.ensures.items l.invariant.many l.invariant.uses used;
     }

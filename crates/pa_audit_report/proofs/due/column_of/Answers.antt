@@ -19,12 +19,17 @@ loop-at-preserved c =
     let roots = journal_at c.args.run.now.roots.items in
     let at = value_at c.args.known.now.homes in
     let known = c.requires.known in
-    let uses = subst (λ (us : List InUse). HaveUses at c.args.partition ps us) (sym c.as_slice-in-loop-at.ensures.value) c.in_ok-uses.ensures.uses in
-    let cached = subst (λ (us : List (List Tally)). HaveCached c.args.trace.now.partitions c.args.trace.now.threads roots ps us) (sym c.as_slice-in-loop-at-2.ensures.value) known.lists.cached in
+    let uses = subst (λ (us : List InUse). HaveUses at c.args.partition ps us)
+    (sym c.as_slice-in-loop-at.ensures.value) c.in_ok-uses.ensures.uses in
+    let cached =
+    subst (λ (us : List (List Tally)). HaveCached c.args.trace.now.partitions c.args.trace.now.threads roots ps us)
+    (sym c.as_slice-in-loop-at-2.ensures.value) known.lists.cached in
     let all = c.args.known.now.censuses.items in
-    let below : c.args.partition < length c.args.known.now.censuses.items = let many = known.censuses.many in omega (arith, many, c.requires.partition) in
+    let below : c.args.partition < length c.args.known.now.censuses.items = let many = known.censuses.many in
+    omega (arith, many, c.requires.partition) in
     let there : slice_get c.args.known.now.censuses.items c.args.partition ≡ Some c.items-censuses.result.now =
-    slice_get-get_or all c.args.partition c.index.result.now below ∙ ap Some (sym c.index.ensures) ∙ ap Some (sym c.items-censuses.ensures.items) in
+    slice_get-get_or all c.args.partition c.index.result.now below ∙ ap Some (sym c.index.ensures) ∙
+    ap Some (sym c.items-censuses.ensures.items) in
     let here = c.line_at-line.ensures c.args.trace.now.region c.args.trace.now.partitions c.args.trace.now.threads ps pools roots at
     c.requires.given known.lists.homes uses cached ((known.censuses.each c.args.partition c.items-censuses.result.now there).0) in
     record {

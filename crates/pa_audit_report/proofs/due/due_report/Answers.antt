@@ -25,6 +25,9 @@ returns c =
     c.args.trace.now.threads c.args.records.now c.args.run.now.pool.items (journal_at c.args.run.now.roots.items)
     c.args.trace.now.partitions cs)
     (sym c.as_slice-2.ensures.value) whole in
-    let report = c.in_ok-lines.ensures c.args.trace.now.threads c.args.records.now c.args.run.now.pool.items (journal_at c.args.run.now.roots.items) there in
-    subst (λ n. IsReport n c.args.trace.now.partitions c.args.trace.now.threads c.args.records.now c.args.run.now.pool.items (journal_at c.args.run.now.roots.items) c.in_ok-lines.lines.items)
+    let report =
+    c.in_ok-lines.ensures c.args.trace.now.threads c.args.records.now c.args.run.now.pool.items
+    (journal_at c.args.run.now.roots.items) there in
+    subst (λ n. IsReport n c.args.trace.now.partitions c.args.trace.now.threads c.args.records.now c.args.run.now.pool.items
+    (journal_at c.args.run.now.roots.items) c.in_ok-lines.lines.items)
     (c.phases_in-phases.ensures.phases ∙ ap phases_in c.as_slice.ensures) report

@@ -10,7 +10,8 @@ returns-then-not-stands_at-clause-first c =
     let l = c.loop-line in
     let lines = c.args.lines.now in
     let there = ap (λ k. slice_get lines k) l.invariant.at ∙ slice_get-get_or lines l.line-index _ c.loop-line-test.true in
-    other_here lines c.args.due.now l.at _ there (λ e. both_ways _ c.if-not-stands_at.true (c.stands_at.ensures.1 e)) (same_to lines c.args.due.now l.at l.line-index l.invariant.at l.invariant.same)
+    other_here lines c.args.due.now l.at _ there (λ e. both_ways _ c.if-not-stands_at.true (c.stands_at.ensures.1 e))
+    (same_to lines c.args.due.now l.at l.line-index l.invariant.at l.invariant.same)
 
 pub loop-line-preserved : goal.loop-line-preserved
 loop-line-preserved c =
@@ -19,14 +20,16 @@ loop-line-preserved c =
     let found = ap (λ k. slice_get c.args.due.now k) (sym l.invariant.at) ∙ c.stands_at.ensures.0 c.if-not-stands_at.false in
     record {
       at = ap (λ k. k + 1) l.invariant.at;
-      same = same_more lines c.args.due.now l.line-index _ (slice_get-get_or lines l.line-index _ c.loop-line-test.true) found l.invariant.same;
+      same = same_more lines c.args.due.now l.line-index _
+          (slice_get-get_or lines l.line-index _ c.loop-line-test.true) found l.invariant.same;
     }
 
 pub returns-then-lines-due-clause-first : goal.returns-then-lines-due-clause-first
 returns-then-lines-due-clause-first c =
     let l = c.loop-line in
     let lines = c.args.lines.now in
-    one_missing lines c.args.due.now l.at (omega (arith, l.invariant.at, c.loop-line-test.false)) (omega (arith, l.invariant.at, l.auto.line-index-end, c.if-lines-due.true))
+    one_missing lines c.args.due.now l.at (omega (arith, l.invariant.at, c.loop-line-test.false))
+    (omega (arith, l.invariant.at, l.auto.line-index-end, c.if-lines-due.true))
     (same_to lines c.args.due.now l.at l.line-index l.invariant.at l.invariant.same)
 
 pub returns-else-lines-due-clause-first : goal.returns-else-lines-due-clause-first

@@ -10,5 +10,12 @@ returns c h v w made begins =
     let e = made.entry in
     record {
       partition = made.partition;
-      entry = (e.0, e.1, subst (λ (list : List Made). Contains list e.0) (sym begins.1) (Contains-append_left (list_of h.partition v) begins.0 e.0 e.2), e.3, e.4);
+      entry = (
+        e.0,
+        e.1,
+        subst (λ (list : List Made). Contains list e.0) (sym begins.1)
+            (Contains-append_left (list_of h.partition v) begins.0 e.0 e.2),
+        e.3,
+        e.4,
+      );
     }

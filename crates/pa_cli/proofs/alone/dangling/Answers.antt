@@ -12,5 +12,7 @@ returns-in-Legal-clause-text g c =
     let after = stream_of (g.S.Source.left c.read_input.new.source) (g.S.Source.faults c.read_input.new.source) in
     let bytes = c.as_slice.result.now in
     let read = subst (λ (x : List ℕ). IsRead most_audited before after x) (sym c.as_slice.ensures.value) c.in_ok-input.ensures.read in
-    let legal : IsLegalOf c.in-Legal.trace c.in-Legal.run' bytes = subst (λ j. IsJudgementOn j bytes) c.in-Legal.is c.in_ok-trace.ensures.judged in
-    input_paired c.in-Legal.trace c.in-Legal.run' bytes c.in_ok-pairs_text-in-Legal.field-0.items before after read legal c.in_ok-pairs_text-in-Legal.ensures
+    let legal : IsLegalOf c.in-Legal.trace c.in-Legal.run' bytes =
+    subst (λ j. IsJudgementOn j bytes) c.in-Legal.is c.in_ok-trace.ensures.judged in
+    input_paired c.in-Legal.trace c.in-Legal.run' bytes c.in_ok-pairs_text-in-Legal.field-0.items before after read legal
+    c.in_ok-pairs_text-in-Legal.ensures

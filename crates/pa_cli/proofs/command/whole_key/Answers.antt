@@ -11,7 +11,8 @@ returns-in-Some-clause-found c =
     let found = c.in-Some.ensures.found in
     let none : c.in-Some.rest.now ≡ [] = search rules in
     subst (λ (o : Option ℕ). IfSome o (λ n. IsNumeral n text)) (sym c.ok.ensures.value)
-    (key_found text c.as_bytes.result.now c.as_str.result.now c.in-Some.rest.now found.0 c.parse.result c.as_bytes.ensures.value c.as_str.ensures.value found.1 none c.parse.ensures.value.0)
+    (key_found text c.as_bytes.result.now c.as_str.result.now c.in-Some.rest.now found.0 c.parse.result c.as_bytes.ensures.value
+    c.as_str.ensures.value found.1 none c.parse.ensures.value.0)
 
 pub returns-in-Some-clause-none : goal.returns-in-Some-clause-none
 returns-in-Some-clause-none c =
@@ -19,7 +20,8 @@ returns-in-Some-clause-none c =
     let found = c.in-Some.ensures.found in
     let none : c.in-Some.rest.now ≡ [] = search rules in
     subst (λ (o : Option ℕ). IfNone o ((n : ℕ) → IsNumeral n text → n ≤ 18446744073709551615 → ⊥)) (sym c.ok.ensures.value)
-    (key_none text c.as_bytes.result.now c.as_str.result.now c.in-Some.rest.now found.0 c.parse.result c.as_bytes.ensures.value c.as_str.ensures.value found.1 none c.parse.ensures.value.0)
+    (key_none text c.as_bytes.result.now c.as_str.result.now c.in-Some.rest.now found.0 c.parse.result c.as_bytes.ensures.value
+    c.as_str.ensures.value found.1 none c.parse.ensures.value.0)
 
 pub returns-in_default-clause-none : goal.returns-in_default-clause-none
 returns-in_default-clause-none c = λ n h le.
@@ -30,4 +32,5 @@ returns-in_default-clause-none c = λ n h le.
 pub returns-in_default-2-clause-none : goal.returns-in_default-2-clause-none
 returns-in_default-2-clause-none c = λ n h le.
     never_numeral (string_bytes c.args.word.now) c.as_bytes.result.now c.as_bytes.ensures.value
-    (subst (λ r. IfNone r ((n : ℕ) (rest : List ℕ) → BeginsWith c.as_bytes.result.now n rest → ⊥)) c.in_default.is c.number_at.ensures.none) n h
+    (subst (λ r. IfNone r ((n : ℕ) (rest : List ℕ) → BeginsWith c.as_bytes.result.now n rest → ⊥)) c.in_default.is
+    c.number_at.ensures.none) n h

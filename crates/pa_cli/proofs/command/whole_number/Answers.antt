@@ -12,4 +12,5 @@ returns-in_default-clause-none c = λ n h le.
 pub returns-in_default-2-clause-none : goal.returns-in_default-2-clause-none
 returns-in_default-2-clause-none c = λ n h le.
     never_numeral (string_bytes c.args.word.now) c.as_bytes.result.now c.as_bytes.ensures.value
-    (subst (λ r. IfNone r ((n : ℕ) (rest : List ℕ) → BeginsWith c.as_bytes.result.now n rest → ⊥)) c.in_default.is c.number_at.ensures.none) n h
+    (subst (λ r. IfNone r ((n : ℕ) (rest : List ℕ) → BeginsWith c.as_bytes.result.now n rest → ⊥)) c.in_default.is
+    c.number_at.ensures.none) n h

@@ -11,5 +11,8 @@ on_err (Err e) p = p
 pub returns-in_err-read_piece-clause-given : goal.returns-in_err-read_piece-clause-given
 returns-in_err-read_piece-clause-given g c =
     let last = c.in_err-read_piece.ensures.given in
-    on_err c.from_residual-in_err-read_piece.result
-    (c.loop-source.input.items ++ last.0, given_more _ _ (stream_of (g.S.Source.left c.loop-source.source) 0) _ _ _ c.loop-source.invariant.given last.1 last.2)
+    on_err c.from_residual-in_err-read_piece.result (
+      c.loop-source.input.items ++
+          last.0,
+      given_more _ _ (stream_of (g.S.Source.left c.loop-source.source) 0) _ _ _ c.loop-source.invariant.given last.1 last.2,
+    )

@@ -17,9 +17,11 @@ loop-record-preserved c =
         | in-Some+in_ok-push w ↦
             subst (λ z. AreCollected cells ps z.items (k + 1)) (sym w.pairs-is)
             (subst (λ zs. AreCollected cells ps zs (k + 1)) (sym w.in_ok-push.ensures.items)
-            (collected_push cells ps l.pairs.items k _ w.in-Some.pair c.requires.handles.1.rising c.loop-record-test.true w.in-Some.ensures.some l.invariant.pairs))
+            (collected_push cells ps l.pairs.items k _ w.in-Some.pair c.requires.handles.1.rising c.loop-record-test.true
+            w.in-Some.ensures.some l.invariant.pairs))
         | in_default w ↦
-            subst (λ z. AreCollected cells ps z.items (k + 1)) (sym w.pairs-is) (collected_skip cells ps l.pairs.items k _ c.loop-record-test.true w.in_default.ensures.none l.invariant.pairs)
+            subst (λ z. AreCollected cells ps z.items (k + 1)) (sym w.pairs-is)
+            (collected_skip cells ps l.pairs.items k _ c.loop-record-test.true w.in_default.ensures.none l.invariant.pairs)
       ];
       ways =
           let long = l.invariant.ways.long in

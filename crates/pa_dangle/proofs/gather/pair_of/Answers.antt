@@ -12,7 +12,13 @@ returns-in_err-free-clause-none c =
     let none = subst (λ n. NoStepBelow Freed (marks_of ps) c.args.seen.slot n) c.number.ensures c.in_err-free.ensures.none in
     rw c.from_residual.ensures
     (free_is (history_at c.args.cells.now) ps c.args.told c.args.seen c.args.origin
-    (record { rising = c.requires.rising; slots = c.requires.slots; among = c.requires.told; saw = c.requires.seen; comes = c.requires.origin }) none)
+    (record {
+      rising = c.requires.rising;
+      slots = c.requires.slots;
+      among = c.requires.told;
+      saw = c.requires.seen;
+      comes = c.requires.origin;
+    }) none)
 
 pub returns-in_err-made-clause-none : goal.returns-in_err-made-clause-none
 returns-in_err-made-clause-none c =
@@ -21,7 +27,13 @@ returns-in_err-made-clause-none c =
     let last = subst (λ n. IsLastStep Freed (marks_of ps) c.args.seen.slot n c.in_ok-free.free c.in_ok-free.at m) c.number.ensures found in
     rw c.from_residual-in_err-made.ensures
     (issue_is (history_at c.args.cells.now) ps c.args.told c.args.seen c.args.origin
-    (record { rising = c.requires.rising; slots = c.requires.slots; among = c.requires.told; saw = c.requires.seen; comes = c.requires.origin }) c.in_ok-free.free c.in_ok-free.at m last
+    (record {
+      rising = c.requires.rising;
+      slots = c.requires.slots;
+      among = c.requires.told;
+      saw = c.requires.seen;
+      comes = c.requires.origin;
+    }) c.in_ok-free.free c.in_ok-free.at m last
     c.in_err-made.ensures.none)
 
 pub returns-clause-some : goal.returns-clause-some
@@ -32,5 +44,11 @@ returns-clause-some c =
     let last = subst (λ n. IsLastStep Freed (marks_of ps) c.args.seen.slot n c.in_ok-free.free c.in_ok-free.at m) c.number.ensures found in
     rw c.use_of.ensures
     (pair_is (history_at c.args.cells.now) ps c.args.told c.args.seen c.args.origin
-    (record { rising = c.requires.rising; slots = c.requires.slots; among = c.requires.told; saw = c.requires.seen; comes = c.requires.origin }) c.in_ok-free.free c.in_ok-free.at m last
+    (record {
+      rising = c.requires.rising;
+      slots = c.requires.slots;
+      among = c.requires.told;
+      saw = c.requires.seen;
+      comes = c.requires.origin;
+    }) c.in_ok-free.free c.in_ok-free.at m last
     c.in_ok-made.made c.in_ok-made.field-0-1 i issue (omega arith))

@@ -23,4 +23,5 @@ returns-clause-some c =
     let from = subst (λ z. IsGreatest at z c.key-high.result q i) c.key-low.ensures.key c.in_ok-at.ensures.some in
     let greatest = subst (λ z. IsGreatest at (word_key s 0) z q i) c.key-high.ensures.key from in
     rw c.key-low.ensures.key
-    (last_is c.args.kind c.args.records.now at s c.args.below q i _ c.requires.table c.key-low.ensures.sized.0 c.key-high.ensures.sized.1 greatest)
+    (last_is c.args.kind c.args.records.now at s c.args.below q i _ c.requires.table c.key-low.ensures.sized.0
+    c.key-high.ensures.sized.1 greatest)

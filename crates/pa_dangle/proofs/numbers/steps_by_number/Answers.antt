@@ -17,7 +17,8 @@ pub returns-in-Issued : goal.returns-in-Issued
 returns-in-Issued c =
     let ps = c.args.records.now in
     IfOk-weaker c.by_number.result _ _
-    (λ m h. subst (λ k. AreStepsOf k ps (get nat_cmp m) (length ps)) (sym c.in-Issued.is) (steps_of Issued ps (get nat_cmp m) (length ps) h))
+    (λ m h. subst (λ k. AreStepsOf k ps (get nat_cmp m) (length ps)) (sym c.in-Issued.is)
+    (steps_of Issued ps (get nat_cmp m) (length ps) h))
     c.by_number.ensures
 
 pub returns-in-Freed : goal.returns-in-Freed

@@ -12,7 +12,8 @@ pairs_of-requires-clause-handles c =
     let t = c.args.trace.now in
     let run = c.args.run.now in
     let told = c.as_slice-2.ensures.value ∙ c.in_ok-records.ensures.records
-    ∙ ap (λ k. played k c.as_slice.result.now c.entries.result.now) c.rules.ensures ∙ ap (λ ls. played (rules_of t) ls c.entries.result.now) c.as_slice.ensures
+    ∙ ap (λ k. played k c.as_slice.result.now c.entries.result.now) c.rules.ensures ∙
+    ap (λ ls. played (rules_of t) ls c.entries.result.now) c.as_slice.ensures
     ∙ ap (played (rules_of t) t.lines) c.entries.ensures.entries in
     let whole : HaveHandlesOf (history_at run.cells.items) (records_of t (told_by run)) =
     (t.version, legal_has_handles t (told_by run) c.requires.legal) in

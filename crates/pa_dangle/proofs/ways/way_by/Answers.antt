@@ -11,7 +11,8 @@ returns-in-Some c =
     let ps = c.args.records.now in
     let told = c.args.told in
     let last = subst (λ o. IsPutFor cells ps told c.args.at (first_register told.op) o) c.in-Some.is c.requires.last in
-    way_some cells ps c.args.at c.in-Some.put told _ c.way_back.result (first_register told.op) c.requires.rising c.requires.told refl last c.way_back.ensures
+    way_some cells ps c.args.at c.in-Some.put told _ c.way_back.result
+    (first_register told.op) c.requires.rising c.requires.told refl last c.way_back.ensures
 
 pub returns-in-None : goal.returns-in-None
 returns-in-None c = λ line origin.

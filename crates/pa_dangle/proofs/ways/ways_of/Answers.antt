@@ -16,6 +16,7 @@ loop-record-preserved c =
       ways =
           subst (λ zs. AreWays cells ps zs (k + 1)) (sym c.in_ok-push.ensures.items)
           (ways_more cells ps l.ways.items c.way_by.result k _ c.loop-record-test.true c.way_by.ensures l.invariant.ways);
-      last = puts_more cells ps (get nat_cmp l.last) (get nat_cmp c.enter.new.last) k l.at _ c.loop-record-test.true l.invariant.at c.requires.within c.in_ok-enter.ensures l.invariant.last;
+      last = puts_more cells ps (get nat_cmp l.last) (get nat_cmp c.enter.new.last) k l.at _ c.loop-record-test.true l.invariant.at
+          c.requires.within c.in_ok-enter.ensures l.invariant.last;
       at = ap (λ n. n + 1) l.invariant.at;
     }

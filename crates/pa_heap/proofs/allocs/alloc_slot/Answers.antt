@@ -75,7 +75,8 @@ issue-requires-clause-budget g c =
 
 pub returns-in-Some-clause-does : goal.returns-in-Some-clause-does
 returns-in-Some-clause-does g c =
-    front_does c.counted_steps_leave.ensures c.args.line c.args.size c.args.partition c.args.class c.args.reg c.in-Some.title c.args.stock.now c.pop.new.self c.issue.new.self c.issue.result
+    front_does c.counted_steps_leave.ensures c.args.line c.args.size c.args.partition c.args.class c.args.reg c.in-Some.title
+    c.args.stock.now c.pop.new.self c.issue.new.self c.issue.result
     c.in-Some.ensures c.requires.partition (record {
       stock = c.kept.ensures.stock;
       aware = c.kept.ensures.aware;
@@ -90,7 +91,8 @@ returns-in-Some-clause-does g c =
 pub returns-in-Some-clause-budget : goal.returns-in-Some-clause-budget
 returns-in-Some-clause-budget g c =
     let low : c.args.partition < 4 = let few = c.kept.ensures.stock.partitions in let here = c.requires.partition in omega arith in
-    issued_budget (listed_slot c.args.partition c.args.class c.in-Some.title) c.args.reg c.args.stock.now.view.budget c.issue.result c.pop.new.self c.issue.new.self c.issue.ensures
+    issued_budget (listed_slot c.args.partition c.args.class c.in-Some.title) c.args.reg c.args.stock.now.view.budget c.issue.result
+    c.pop.new.self c.issue.new.self c.issue.ensures
     (front_issues c.args.partition c.args.class c.args.reg c.in-Some.title c.args.stock.now c.pop.new.self c.in-Some.ensures low
     (record {
       stock = c.kept.ensures.stock;
@@ -109,18 +111,22 @@ pub alloc_filled-requires-clause-budget : goal.alloc_filled-requires-clause-budg
 alloc_filled-requires-clause-budget g c = subst (λ (z : StockValue). 0 < z.view.budget) (sym c.in-None.ensures.0) c.requires.budget
 
 pub alloc_filled-requires-clause-partition : goal.alloc_filled-requires-clause-partition
-alloc_filled-requires-clause-partition g c = subst (λ (z : StockValue). c.args.partition < z.partitions) (sym c.in-None.ensures.0) c.requires.partition
+alloc_filled-requires-clause-partition g c =
+    subst (λ (z : StockValue). c.args.partition < z.partitions) (sym c.in-None.ensures.0) c.requires.partition
 
 pub alloc_filled-requires-clause-none : goal.alloc_filled-requires-clause-none
-alloc_filled-requires-clause-none g c = subst (λ (z : StockValue). HasNoHandle (register_in z.registers c.args.reg)) (sym c.in-None.ensures.0) c.requires.none
+alloc_filled-requires-clause-none g c =
+    subst (λ (z : StockValue). HasNoHandle (register_in z.registers c.args.reg)) (sym c.in-None.ensures.0) c.requires.none
 
 pub alloc_filled-requires-clause-class : goal.alloc_filled-requires-clause-class
 alloc_filled-requires-clause-class g c =
-    subst (λ (z : StockValue). (c.args.size ≤ greatest_size) × IsClassIn z.caches.version (max c.args.size 1 + 8) c.args.class) (sym c.in-None.ensures.0)
+    subst (λ (z : StockValue). (c.args.size ≤ greatest_size) × IsClassIn z.caches.version (max c.args.size 1 + 8) c.args.class)
+    (sym c.in-None.ensures.0)
     c.requires.class
 
 pub alloc_filled-requires-clause-empty : goal.alloc_filled-requires-clause-empty
-alloc_filled-requires-clause-empty g c = subst (λ (z : StockValue). titles_in z.caches c.args.partition c.args.class ≡ []) (sym c.in-None.ensures.0) c.in-None.ensures.1
+alloc_filled-requires-clause-empty g c =
+    subst (λ (z : StockValue). titles_in z.caches c.args.partition c.args.class ≡ []) (sym c.in-None.ensures.0) c.in-None.ensures.1
 
 pub returns-in-None-clause-does : goal.returns-in-None-clause-does
 returns-in-None-clause-does g c =
@@ -137,8 +143,10 @@ returns-in-None-clause-same g c =
 
 pub returns-in-Some-clause-made : goal.returns-in-Some-clause-made
 returns-in-Some-clause-made g c =
-    issued_made (listed_slot c.args.partition c.args.class c.in-Some.title) c.args.reg c.issue.result c.pop.new.self c.issue.new.self c.issue.ensures c.kept-in-Some.ensures.stock c.requires.reg
+    issued_made (listed_slot c.args.partition c.args.class c.in-Some.title) c.args.reg c.issue.result c.pop.new.self c.issue.new.self
+    c.issue.ensures c.kept-in-Some.ensures.stock c.requires.reg
 
 pub returns-in-None-clause-asks : goal.returns-in-None-clause-asks
 returns-in-None-clause-asks g c =
-    subst (λ (z : StockValue). OnErr c.alloc_filled.result (AsksRoot c.args.reg c.args.partition c.args.size z)) c.in-None.ensures.0 c.alloc_filled.ensures.asks
+    subst (λ (z : StockValue). OnErr c.alloc_filled.result (AsksRoot c.args.reg c.args.partition c.args.size z)) c.in-None.ensures.0
+    c.alloc_filled.ensures.asks

@@ -8,7 +8,8 @@ use Rattle.pa_heap.proofs.allocs.request.Goals as goal
 
 pub returns-then-size-gt-GREATEST_SIZE-clause-does : goal.returns-then-size-gt-GREATEST_SIZE-clause-does
 returns-then-size-gt-GREATEST_SIZE-clause-does g c =
-    too_large c.args.stock.now c.args.reg c.args.partition c.args.size c.kept.ensures.stock c.requires.none c.if-size-gt-GREATEST_SIZE.true c.args.line
+    too_large c.args.stock.now c.args.reg c.args.partition c.args.size c.kept.ensures.stock c.requires.none
+    c.if-size-gt-GREATEST_SIZE.true c.args.line
 
 -- the version is the lists'
 pub alloc_slot-requires-clause-class : goal.alloc_slot-requires-clause-class

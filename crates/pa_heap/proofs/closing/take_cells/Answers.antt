@@ -7,7 +7,8 @@ use Rattle.pa_heap.proofs.closing.take_cells.Goals as goal
 pub loop-waiting-preserved : goal.loop-waiting-preserved
 loop-waiting-preserved g c = (
   c.take_parked.ensures.region ∙ c.loop-waiting.invariant.0,
-  takes_on c.take_in.new.seat.view c.loop-waiting.seat.view c.take_parked.new.seat.view c.loop-waiting.invariant.1 c.take_parked.ensures.takes,
+  takes_on c.take_in.new.seat.view c.loop-waiting.seat.view c.take_parked.new.seat.view c.loop-waiting.invariant.1
+      c.take_parked.ensures.takes,
 )
 
 pub returns-clause-takes : goal.returns-clause-takes

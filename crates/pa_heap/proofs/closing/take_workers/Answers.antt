@@ -10,6 +10,7 @@ loop-worker-preserved g c = (
   takes_on c.args.seat.now.view c.loop-worker.seat.view c.take_worker.new.seat.view c.loop-worker.invariant.1 c.take_worker.ensures.takes,
   All-push (LeavesWorker c.take_worker.new.seat.view) c.loop-worker.yielded c.in-Some.worker
       (All-weaker (LeavesWorker c.loop-worker.seat.view) (LeavesWorker c.take_worker.new.seat.view)
-      (λ w there. worker_on c.loop-worker.seat.view c.take_worker.new.seat.view there c.take_worker.ensures.takes.within) c.loop-worker.yielded c.loop-worker.invariant.2)
+      (λ w there. worker_on c.loop-worker.seat.view c.take_worker.new.seat.view there c.take_worker.ensures.takes.within)
+      c.loop-worker.yielded c.loop-worker.invariant.2)
       c.take_worker.ensures.leaves,
 )

@@ -14,7 +14,9 @@ returns-then-refs-gt0-clause-does g c line =
 
 pub fill-seen-requires-clause-stake : goal.fill-seen-requires-clause-stake
 fill-seen-requires-clause-stake g c =
-    subst HasItsStake (sym c.look-seen.ensures.after_is) (looked_stake c.looks_leave.ensures c.args.stock.now c.look-seen.result.found.0 c.args.handle.now c.kept.ensures.stock c.requires.stake)
+    subst HasItsStake (sym c.look-seen.ensures.after_is)
+    (looked_stake c.looks_leave.ensures c.args.stock.now c.look-seen.result.found.0 c.args.handle.now c.kept.ensures.stock
+    c.requires.stake)
 
 pub fill-seen-requires-clause-can : goal.fill-seen-requires-clause-can
 fill-seen-requires-clause-can g c =

@@ -20,7 +20,8 @@ pub returns-in-Err-clause-refused : goal.returns-in-Err-clause-refused
 returns-in-Err-clause-refused c =
     let same = c.in-Err.ensures.same in
     let event = get_or c.args.events.now c.loop-index.index no_event in
-    let why = refused_at c.in-Err.fault event c.loop-index.core (λ e. c.in-Err.ensures.refused (ap Err e)) (λ e. c.in-Err.ensures.enabled (ap Err e))
+    let why = refused_at c.in-Err.fault event c.loop-index.core (λ e. c.in-Err.ensures.refused (ap Err e))
+    (λ e. c.in-Err.ensures.enabled (ap Err e))
     (λ e. c.in-Err.ensures.asks (ap Err e)) in (
       c.loop-index-test.true,
       subst (λ (s : State). IsRunTo c.args.core.now (take c.loop-index.index c.args.events.now) s) (sym same) c.loop-index.invariant.0,
@@ -31,7 +32,8 @@ pub loop-index-preserved : goal.loop-index-preserved
 loop-index-preserved c =
     let h = c.in_default.ensures.happens in (
       rw (take_more c.args.events.now c.loop-index.index no_event c.loop-index-test.true)
-          (run_more c.args.core.now c.loop-index.core c.step.new.self (take c.loop-index.index c.args.events.now) (get_or c.args.events.now c.loop-index.index no_event)
+          (run_more c.args.core.now c.loop-index.core c.step.new.self (take c.loop-index.index c.args.events.now)
+          (get_or c.args.events.now c.loop-index.index no_event)
           c.known_good.ensures c.loop-index.invariant.0 h.0 h.1),
       c.in_default.ensures.good,
     )

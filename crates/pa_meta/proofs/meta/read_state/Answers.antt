@@ -6,7 +6,8 @@ use Rattle.pa_meta.proofs.meta.read_state.Goals as goal
 
 pub load_word-counts-requires-clause-able : goal.load_word-counts-requires-clause-able
 load_word-counts-requires-clause-able c =
-    raw_word c.args.at 0 c.record_start-start.result c.args.seat.now.view c.requires.raw (omega arith) (let s = c.record_start-start.ensures in omega arith)
+    raw_word c.args.at 0 c.record_start-start.result c.args.seat.now.view c.requires.raw (omega arith)
+    (let s = c.record_start-start.ensures in omega arith)
 
 pub returns-clause-state : goal.returns-clause-state
 returns-clause-state c s is =

@@ -10,7 +10,8 @@ use Rattle.pa_model.proofs.whole.play_input.Goals as goal
 
 pub loop-player-init : goal.loop-player-init
 loop-player-init c =
-    input_begins last_version c.args.bytes.now c.in_ok-reader.reader c.in_ok-player.player c.head-head.result c.head-head.ensures c.in_ok-reader.ensures.head c.in_ok-player.ensures
+    input_begins last_version c.args.bytes.now c.in_ok-reader.reader c.in_ok-player.player c.head-head.result c.head-head.ensures
+    c.in_ok-reader.ensures.head c.in_ok-player.ensures
 
 pub line-requires : goal.line-requires
 line-requires c =
@@ -44,7 +45,8 @@ returns-clause-text c =
     let v : Unread = c.next.new.self in
     let end = subst (λ found. MatchOption found (IsEndRead u v) (λ l. IsLineRead u l v)) c.in_default.is c.in_ok-line.ensures.line in
     let text = c.in_ok-text.text.items in
-    input_played last_version c.args.bytes.now u c.loop-player.player c.loop-player.invariant v text end (subst (λ (t : Lists). IsToldText t text) c.in_ok-finish.ensures c.in_ok-text.ensures)
+    input_played last_version c.args.bytes.now u c.loop-player.player c.loop-player.invariant v text end
+    (subst (λ (t : Lists). IsToldText t text) c.in_ok-finish.ensures c.in_ok-text.ensures)
 
 pub returns-in_err-line-clause-fault : goal.returns-in_err-line-clause-fault
 returns-in_err-line-clause-fault c =

@@ -26,7 +26,8 @@ line-requires c =
     let size = ap (λ (z : List Line). length z) c.as_slice-lines.ensures in
     let is = ap (λ (z : List Line). get_or z i Phase) c.as_slice-lines.ensures in
     let lt : i < length t.lines = omega (arith, size, c.loop-line-test.true) in
-    line_ready t i c.loop-line.player (get_or c.as_slice-lines.result.now i Phase) Phase c.loop-line.invariant.1 c.requires.within lt is c.loop-line.invariant.0
+    line_ready t i c.loop-line.player (get_or c.as_slice-lines.result.now i Phase) Phase c.loop-line.invariant.1 c.requires.within lt is
+    c.loop-line.invariant.0
 
 pub loop-line-preserved : goal.loop-line-preserved
 loop-line-preserved c =
@@ -35,7 +36,8 @@ loop-line-preserved c =
     let size = ap (λ (z : List Line). length z) c.as_slice-lines.ensures in
     let is = ap (λ (z : List Line). get_or z i Phase) c.as_slice-lines.ensures in
     let lt : i < length t.lines = omega (arith, size, c.loop-line-test.true) in
-    line_more t i c.loop-line.player c.line.new.self (get_or c.as_slice-lines.result.now i Phase) Phase c.loop-line.invariant.1 c.requires.within lt is c.loop-line.invariant.0
+    line_more t i c.loop-line.player c.line.new.self
+    (get_or c.as_slice-lines.result.now i Phase) Phase c.loop-line.invariant.1 c.requires.within lt is c.loop-line.invariant.0
     (goes_on c.loop-line.player (get_or c.as_slice-lines.result.now i Phase) _ c.line.new.self c.in_ok-line.ensures.played)
 
 pub finish-requires : goal.finish-requires
@@ -44,7 +46,8 @@ finish-requires c =
     let size = ap (λ (z : List Line). length z) c.as_slice-lines.ensures in
     let past : length t.lines ≤ c.loop-line.line-index = omega (arith, size, c.loop-line-test.false) in
     let few = c.requires.within.few in
-    end_ready t.region t.partitions t.threads t.lines c.loop-line.player (omega arith) (all_played t c.loop-line.line-index c.loop-line.player past c.loop-line.invariant.0)
+    end_ready t.region t.partitions t.threads t.lines c.loop-line.player (omega arith)
+    (all_played t c.loop-line.line-index c.loop-line.player past c.loop-line.invariant.0)
 
 pub returns : goal.returns
 returns c =

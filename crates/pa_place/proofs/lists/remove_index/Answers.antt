@@ -26,7 +26,8 @@ returns-else-place-len-clause-removed c =
     let same = rw c.deref.ensures.value at c.deref.ensures.len in
     let len = c.len.ensures in
     let (s, e) = element_at ss c.args.at c.requires.there in
-    let cut : IsTurnCut ss s.turn ids count = rw (sym (c.turn_at.ensures s e)) (rw c.deref.ensures.value at c.count_before-place.ensures.cut) in
+    let cut : IsTurnCut ss s.turn ids count =
+    rw (sym (c.turn_at.ensures s e)) (rw c.deref.ensures.value at c.count_before-place.ensures.cut) in
     none_at_cut ss ids c.args.at count s c.requires.order cut e (λ here. elim c.else-place-len.branch [
       | else-place-len-via-then-place-len+else-index-at w ↦
           let within = slice_get_within ids count c.args.at here in

@@ -23,7 +23,8 @@ returns-in-Some-clause-asks c = (
 pub returns-in-Some-clause-step : goal.returns-in-Some-clause-step
 returns-in-Some-clause-step c =
     let n = c.entries-entry.ensures in
-    let m : c.entries-entry.result + 1 ≡ c.take.new.self.entries = ap (λ k. k + 1) n ∙ sym (ap (λ (p : PoolState). p.entries) c.in-Some.ensures.after) in
+    let m : c.entries-entry.result + 1 ≡ c.take.new.self.entries = ap (λ k. k + 1) n ∙
+    sym (ap (λ (p : PoolState). p.entries) c.in-Some.ensures.after) in
     subst (λ k. IsStep k c.take.new.self.entries c.args.root.now.root c.«open».new.self.root) n
     (subst (λ k. IsStep c.entries-entry.result k c.args.root.now.root c.«open».new.self.root) m c.«open».ensures.step)
 

@@ -19,17 +19,20 @@ poison_next-requires-clause-able c =
 pub loop-word-preserved : goal.loop-word-preserved
 loop-word-preserved c = record {
   region = c.poison_next.ensures.region ∙ c.loop-word.invariant.region;
-  view = poison_more c.args.title c.loop-word.word c.args.seat.now.view c.loop-word.seat.view c.poison_next.new.seat.view c.loop-word.invariant.view c.poison_next.ensures.view;
+  view = poison_more c.args.title c.loop-word.word c.args.seat.now.view c.loop-word.seat.view c.poison_next.new.seat.view
+      c.loop-word.invariant.view c.poison_next.ensures.view;
 }
 
 pub returns-clause-view : goal.returns-clause-view
 returns-clause-view c =
     let long = c.placed.ensures.well.long in
-    poison_end c.args.title c.loop-word.word c.args.seat.now.view c.loop-word.seat.view (omega arith) (omega arith) c.loop-word.invariant.view
+    poison_end c.args.title c.loop-word.word c.args.seat.now.view c.loop-word.seat.view (omega arith)
+    (omega arith) c.loop-word.invariant.view
 
 pub returns-clause-ready : goal.returns-clause-ready
 returns-clause-ready c =
     let long = c.placed.ensures.well.long in
     subst (λ (v : View). HasHandle Free c.args.title v)
-    (sym (poison_end c.args.title c.loop-word.word c.args.seat.now.view c.loop-word.seat.view (omega arith) (omega arith) c.loop-word.invariant.view))
+    (sym (poison_end c.args.title c.loop-word.word c.args.seat.now.view c.loop-word.seat.view (omega arith)
+    (omega arith) c.loop-word.invariant.view))
     (poison_ready c.states_are_owns.ensures c.owns_change.ensures c.args.title c.args.seat.now.view c.requires.able.0)

@@ -25,8 +25,10 @@ loop-word-preserved c =
     c.placed.ensures.well refl (omega arith) c.requires.own c.loop-word.invariant.view in
     record {
       region = c.store.ensures.region ∙ c.loop-word.invariant.region;
-      view = write_next (byte_word_count c.args.seat.now.region) c.args.title c.args.value c.loop-word.word (c.args.title.start + 8 * c.loop-word.word) c.args.seat.now.view c.loop-word.seat.view
-          c.store.new.seat.view c.placed.ensures.well refl c.loop-word.invariant.view c.store.ensures.view (c.store.ensures.owns.own c.args.title own.0 own.1);
+      view = write_next (byte_word_count c.args.seat.now.region) c.args.title c.args.value c.loop-word.word
+          (c.args.title.start + 8 * c.loop-word.word) c.args.seat.now.view c.loop-word.seat.view
+          c.store.new.seat.view c.placed.ensures.well refl c.loop-word.invariant.view c.store.ensures.view
+          (c.store.ensures.owns.own c.args.title own.0 own.1);
     }
 
 pub wrote-requires-clause-able : goal.wrote-requires-clause-able
@@ -36,12 +38,15 @@ wrote-requires-clause-able c =
     (byte_word_count c.args.seat.now.region) c.args.title c.args.value c.args.seat.now.view c.loop-word.seat.view
     c.placed.ensures.well c.placed.ensures.long
     c.requires.own c.requires.able.0 c.requires.able.1
-    (write_end c.args.title c.args.value c.loop-word.word c.args.seat.now.view c.loop-word.seat.view (omega arith) (omega arith) c.loop-word.invariant.view)
+    (write_end c.args.title c.args.value c.loop-word.word c.args.seat.now.view c.loop-word.seat.view (omega arith)
+    (omega arith) c.loop-word.invariant.view)
 
 pub returns : goal.returns
 returns c =
     let long = c.placed.ensures.well.long in
-    let view = write_end c.args.title c.args.value c.loop-word.word c.args.seat.now.view c.loop-word.seat.view (omega arith) (omega arith) c.loop-word.invariant.view in
+    let view = write_end c.args.title c.args.value c.loop-word.word c.args.seat.now.view c.loop-word.seat.view (omega arith)
+    (omega arith) c.loop-word.invariant.view in
     let same : c.loop-word.seat ≡ filled_share c.args.title c.args.value c.args.seat.now =
-    ap (λ r. record { region = r; view = c.loop-word.seat.view }) c.loop-word.invariant.region ∙ ap (λ v. record { region = c.args.seat.now.region; view = v }) view in
+    ap (λ r. record { region = r; view = c.loop-word.seat.view }) c.loop-word.invariant.region ∙
+    ap (λ v. record { region = c.args.seat.now.region; view = v }) view in
     subst (λ (s : Share). IsStepMade Write c.args.title c.wrote.result.0 s c.wrote.new.seat) same c.wrote.ensures

@@ -7,5 +7,9 @@ use Rattle.pa_quarantine.proofs.leave.free_owned.Goals as goal
 
 pub free-requires-clause-able : goal.free-requires-clause-able
 free-requires-clause-able c =
-    subst (λ (v : View). CanCount Free c.args.title v) (sym c.poison.ensures.view)
-    (poison_ready c.states_are_owns.ensures c.owns_change.ensures c.args.title c.args.seat.now.view c.requires.able.0, c.requires.able.1, c.requires.able.2, refl)
+    subst (λ (v : View). CanCount Free c.args.title v) (sym c.poison.ensures.view) (
+      poison_ready c.states_are_owns.ensures c.owns_change.ensures c.args.title c.args.seat.now.view c.requires.able.0,
+      c.requires.able.1,
+      c.requires.able.2,
+      refl,
+    )

@@ -6,5 +6,6 @@ use Rattle.pa_record.proofs.root_lines.push_journal.Given as goal
 abbrev pub invariant-loop-entry : goal.invariant-loop-entry
 invariant-loop-entry l = record {
   place : l.index ≡ l.entry-index;
-  whole : l.out ++ lines_from (root_text l.partition) l.index (drop l.index l.entries) ≡ l.fn.out ++ lines_from (root_text l.partition) 0 l.entries;
+  whole : l.out ++ lines_from (root_text l.partition) l.index (drop l.index l.entries) ≡ l.fn.out ++
+      lines_from (root_text l.partition) 0 l.entries;
 }

@@ -3,4 +3,5 @@ use Rattle.std.specs.Prelude.{slice_index_or}
 use Rattle.pa_region.proofs.marks.both.Given as goal
 
 abbrev pub invariant-loop-k : goal.invariant-loop-k
-invariant-loop-k l = (length l.has ≡ 16) × ((j : ℕ) → j < l.k → slice_index_or l.has j false ≡ (slice_index_or l.stakes j false || slice_index_or l.others j false))
+invariant-loop-k l = (length l.has ≡ 16) ×
+    ((j : ℕ) → j < l.k → slice_index_or l.has j false ≡ (slice_index_or l.stakes j false || slice_index_or l.others j false))

@@ -7,7 +7,8 @@ use Rattle.pa_resize.proofs.sizes.slot_size_for.Goals as goal
 
 pub returns-in-Some : goal.returns-in-Some
 returns-in-Some c =
-    let of : IsClassOf (max c.args.size 1 + 8) c.in-Some.class = subst (λ n. IsClassOf n c.in-Some.class) c.raw_of.ensures c.in-Some.ensures.least in
+    let of : IsClassOf (max c.args.size 1 + 8) c.in-Some.class =
+    subst (λ n. IsClassOf n c.in-Some.class) c.raw_of.ensures c.in-Some.ensures.least in
     c.slot_size.ensures.size ∙ sym (sizes_fit.class 1 c.args.size c.in-Some.class of)
 
 pub returns-in-Some-shape : goal.returns-in-Some-shape

@@ -9,7 +9,8 @@ use Rattle.pa_resize.proofs.whole.expand_input.Goals as goal
 
 pub loop-player-init : goal.loop-player-init
 loop-player-init c =
-    input_begins c.args.bytes.now c.in_ok-reader.reader c.in_ok-player.player c.head.result c.head.ensures c.in_ok-reader.ensures.head c.in_ok-player.ensures
+    input_begins c.args.bytes.now c.in_ok-reader.reader c.in_ok-player.player c.head.result c.head.ensures c.in_ok-reader.ensures.head
+    c.in_ok-player.ensures
 
 pub play_line-requires : goal.play_line-requires
 play_line-requires c =
@@ -18,7 +19,8 @@ play_line-requires c =
     let p = c.loop-player.player in
     let so_far = c.loop-player.invariant in
     let l = c.in-Some.line in
-    let line = subst (λ found. MatchOption found (IsScriptEndRead u v) (λ l. IsScriptLineRead u l v)) c.in-Some.is c.in_ok-line.ensures.line in
+    let line = subst (λ found. MatchOption found (IsScriptEndRead u v) (λ l. IsScriptLineRead u l v)) c.in-Some.is
+    c.in_ok-line.ensures.line in
     record {
       going = so_far.played.going;
       first = ap (λ (k : Head). k.version) so_far.played.head ∙ so_far.read.version;
@@ -30,8 +32,10 @@ pub loop-player-preserved : goal.loop-player-preserved
 loop-player-preserved c =
     let u : Unread = c.loop-player.reader in
     let v : Unread = c.next.new.self in
-    let line = subst (λ found. MatchOption found (IsScriptEndRead u v) (λ l. IsScriptLineRead u l v)) c.in-Some.is c.in_ok-line.ensures.line in
-    input_more c.args.bytes.now u c.loop-player.player c.loop-player.invariant c.in-Some.line v line c.play_line.new.player c.in_ok-play_line.field-0 c.in_ok-play_line.ensures
+    let line = subst (λ found. MatchOption found (IsScriptEndRead u v) (λ l. IsScriptLineRead u l v)) c.in-Some.is
+    c.in_ok-line.ensures.line in
+    input_more c.args.bytes.now u c.loop-player.player c.loop-player.invariant c.in-Some.line v line c.play_line.new.player
+    c.in_ok-play_line.field-0 c.in_ok-play_line.ensures
 
 pub finish_printed-requires : goal.finish_printed-requires
 finish_printed-requires c = c.loop-player.invariant.played.going
@@ -40,8 +44,10 @@ pub returns-clause-expanded : goal.returns-clause-expanded
 returns-clause-expanded c =
     let u : Unread = c.loop-player.reader in
     let v : Unread = c.next.new.self in
-    let end = subst (λ found. MatchOption found (IsScriptEndRead u v) (λ l. IsScriptLineRead u l v)) c.in_default.is c.in_ok-line.ensures.line in
-    input_expanded c.args.bytes.now u c.loop-player.player c.loop-player.invariant v c.in_ok-trace.trace.items c.in_ok-trace.run'.items end c.in_ok-trace.ensures
+    let end = subst (λ found. MatchOption found (IsScriptEndRead u v) (λ l. IsScriptLineRead u l v)) c.in_default.is
+    c.in_ok-line.ensures.line in
+    input_expanded c.args.bytes.now u c.loop-player.player c.loop-player.invariant v c.in_ok-trace.trace.items c.in_ok-trace.run'.items end
+    c.in_ok-trace.ensures
 
 pub returns-in_err-line-clause-fault : goal.returns-in_err-line-clause-fault
 returns-in_err-line-clause-fault c =

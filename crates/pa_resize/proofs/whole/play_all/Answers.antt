@@ -12,7 +12,8 @@ loop-line-init g c =
     let s = c.args.script.now in
     let p = c.args.player.now in
     record {
-      played = subst (λ vs. IsScriptPlayed (script_head s) [] p vs) (sym c.new-verdicts.ensures.items) (script_begins (script_head s) p c.requires.new);
+      played = subst (λ vs. IsScriptPlayed (script_head s) [] p vs) (sym c.new-verdicts.ensures.items)
+          (script_begins (script_head s) p c.requires.new);
       number = refl;
     }
 
@@ -22,7 +23,8 @@ play_line-requires g c =
     let i = c.loop-line.line-index in
     let line = get_or c.as_slice-line-items.result.now i (Plain Phase) in
     let is = ap (λ (z : List ScriptLine). get_or z i (Plain Phase)) c.as_slice-line-items.ensures in
-    let lt : i < length s.lines = omega (arith, ap (λ (z : List ScriptLine). length z) c.as_slice-line-items.ensures, c.loop-line-test.true) in
+    let lt : i < length s.lines =
+    omega (arith, ap (λ (z : List ScriptLine). length z) c.as_slice-line-items.ensures, c.loop-line-test.true) in
     let h = c.loop-line.invariant.played in
     record {
       going = h.going;
@@ -37,10 +39,12 @@ loop-line-preserved g c =
     let i = c.loop-line.line-index in
     let line = get_or c.as_slice-line-items.result.now i (Plain Phase) in
     let is = ap (λ (z : List ScriptLine). get_or z i (Plain Phase)) c.as_slice-line-items.ensures in
-    let lt : i < length s.lines = omega (arith, ap (λ (z : List ScriptLine). length z) c.as_slice-line-items.ensures, c.loop-line-test.true) in
+    let lt : i < length s.lines =
+    omega (arith, ap (λ (z : List ScriptLine). length z) c.as_slice-line-items.ensures, c.loop-line-test.true) in
     let h = c.loop-line.invariant in
     record {
-      played = next_played s i c.loop-line.player line (Plain Phase) c.loop-line.verdicts.items c.requires.within lt is h.played c.play_line.new.player c.note.new.verdicts.items c.loop-line.number
+      played = next_played s i c.loop-line.player line (Plain Phase) c.loop-line.verdicts.items c.requires.within lt is h.played
+          c.play_line.new.player c.note.new.verdicts.items c.loop-line.number
           c.in_ok-verdict.verdict c.in_ok-verdict.ensures h.number c.in_ok-note.ensures;
       number = omega (arith, h.number);
     }

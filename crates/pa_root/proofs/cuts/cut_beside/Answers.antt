@@ -7,7 +7,9 @@ use Rattle.pa_root.proofs.cuts.cut_beside.Goals as goal
 pub cut-requires-clause-able : goal.cut-requires-clause-able
 cut-requires-clause-able c =
     let i = c.loop-done.invariant in
-    subst (λ t. CanCut t c.loop-done.seat.view) (sym i.next) (next_can c.args.first c.args.count c.loop-done.done c.args.seat.now.view c.loop-done.seat.view (omega arith) c.requires.able i.view)
+    subst (λ t. CanCut t c.loop-done.seat.view) (sym i.next)
+    (next_can c.args.first c.args.count c.loop-done.done c.args.seat.now.view c.loop-done.seat.view
+    (omega arith) c.requires.able i.view)
 
 pub loop-done-preserved : goal.loop-done-preserved
 loop-done-preserved c =
@@ -21,7 +23,8 @@ loop-done-preserved c =
       view = next_view first n c.args.seat.now.view c.loop-done.seat.view c.cut.new.seat.view i.view cut;
       new =
           next_new first n c.args.seat.now.view c.loop-done.seat.view i.view i.new
-          (subst (λ t. seen_of (after_cut t c.loop-done.seat.view) t ≡ 0) i.next (ap (λ v. seen_of v c.loop-done.next) (sym c.cut.ensures.view) ∙ c.cut.ensures.new));
+          (subst (λ t. seen_of (after_cut t c.loop-done.seat.view) t ≡ 0) i.next
+          (ap (λ v. seen_of v c.loop-done.next) (sym c.cut.ensures.view) ∙ c.cut.ensures.new));
     }
 
 pub returns-clause-new : goal.returns-clause-new

@@ -13,5 +13,6 @@ take-requires-clause-able c k t has =
 pub returns-clause-shown : goal.returns-clause-shown
 returns-clause-shown c =
     let long = c.aware-2.ensures.long ∙ (ap byte_word_count (c.requires.regions.1 ∙ sym c.requires.regions.0) ∙ sym c.aware.ensures.long) in
-    shown_by c.args.from.now.view c.hand-note.new.seat.view c.hand-note.result.view c.args.to.now.view c.take.new.seat.view c.hand-note.ensures.left c.hand-note.ensures.given
+    shown_by c.args.from.now.view c.hand-note.new.seat.view c.hand-note.result.view c.args.to.now.view c.take.new.seat.view
+    c.hand-note.ensures.left c.hand-note.ensures.given
     c.take.ensures.view c.aware-2.ensures.aware c.aware-3.ensures.aware long

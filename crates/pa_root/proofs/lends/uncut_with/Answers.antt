@@ -18,7 +18,8 @@ uncut-requires-clause-able c =
     let both = c.take.ensures.view ∙ ap (λ (x : View). united c.args.host.now.view x) c.lend_stake-lent.ensures.given in
     let long = c.aware-2.ensures.long ∙ (ap byte_word_count (c.requires.regions.1 ∙ sym c.requires.regions.0) ∙ sym c.aware.ensures.long) in
     subst (λ (v : View). CanUncut c.args.title v) (sym both)
-    (uncut_can c.args.lender.now.view c.args.host.now.view c.args.title c.requires.lender c.requires.host c.requires.free c.aware.ensures.aware c.aware-2.ensures.aware long
+    (uncut_can c.args.lender.now.view c.args.host.now.view c.args.title c.requires.lender c.requires.host c.requires.free
+    c.aware.ensures.aware c.aware-2.ensures.aware long
     (subst IsAware both c.aware-3.ensures.aware))
 
 pub lend_stake-back-requires-clause-able : goal.lend_stake-back-requires-clause-able
@@ -26,7 +27,8 @@ lend_stake-back-requires-clause-able c =
     let both = c.take.ensures.view ∙ ap (λ (x : View). united c.args.host.now.view x) c.lend_stake-lent.ensures.given in
     let long = c.aware-2.ensures.long ∙ (ap byte_word_count (c.requires.regions.1 ∙ sym c.requires.regions.0) ∙ sym c.aware.ensures.long) in
     subst (λ (v : View). CanLend v) (sym (c.uncut.ensures.view ∙ ap (λ (x : View). after_uncut c.args.title x) both))
-    (uncut_lends c.args.lender.now.view c.args.host.now.view c.args.title c.requires.lender c.requires.host c.requires.free c.aware.ensures.aware c.aware-2.ensures.aware long
+    (uncut_lends c.args.lender.now.view c.args.host.now.view c.args.title c.requires.lender c.requires.host c.requires.free
+    c.aware.ensures.aware c.aware-2.ensures.aware long
     (subst IsAware both c.aware-3.ensures.aware))
 
 pub take-requires-2-clause-able : goal.take-requires-2-clause-able
@@ -36,7 +38,10 @@ take-requires-2-clause-able c k t has =
 pub returns-clause-uncut : goal.returns-clause-uncut
 returns-clause-uncut c =
     let long = c.aware-2.ensures.long ∙ (ap byte_word_count (c.requires.regions.1 ∙ sym c.requires.regions.0) ∙ sym c.aware.ensures.long) in
-    uncut_by c.args.lender.now.view c.args.host.now.view c.lend_stake-lent.new.seat.view c.lend_stake-lent.result.view c.take.new.seat.view c.uncut.new.seat.view
-    c.lend_stake-back.new.seat.view c.lend_stake-back.result.view c.take-2.new.seat.view c.args.title c.lend_stake-lent.ensures.left c.lend_stake-lent.ensures.given
-    c.take.ensures.view c.uncut.ensures.view c.lend_stake-back.ensures.left c.lend_stake-back.ensures.given c.take-2.ensures.view c.requires.lender c.requires.host c.requires.free
+    uncut_by c.args.lender.now.view c.args.host.now.view c.lend_stake-lent.new.seat.view c.lend_stake-lent.result.view c.take.new.seat.view
+    c.uncut.new.seat.view
+    c.lend_stake-back.new.seat.view c.lend_stake-back.result.view c.take-2.new.seat.view c.args.title c.lend_stake-lent.ensures.left
+    c.lend_stake-lent.ensures.given
+    c.take.ensures.view c.uncut.ensures.view c.lend_stake-back.ensures.left c.lend_stake-back.ensures.given c.take-2.ensures.view
+    c.requires.lender c.requires.host c.requires.free
     c.aware.ensures.aware c.aware-2.ensures.aware long c.aware-3.ensures.aware c.aware-4.ensures.aware

@@ -39,7 +39,8 @@ take_at-requires-clause-able c =
     let h = found_by class v l r w m at can c.number.ensures.bound c.span_for.ensures.rest
     (sym c.in-Some.is ∙ c.span_for.ensures.start r can.sound can.shown) (c.span_for.ensures.shown r can.sound can.shown) in
     let cut = c.to_cut-new.ensures.cut h.found.root h.found.span (slot_there class v l r w m at h) in
-    let x_is = cut_view c.to_cut-new.result h.found.span c.to_cut-new.new.own c.span_for.new.own c.cut_beside.new.seat.view cut c.to_cut-new.ensures.seat
+    let x_is = cut_view c.to_cut-new.result h.found.span c.to_cut-new.new.own c.span_for.new.own c.cut_beside.new.seat.view cut
+    c.to_cut-new.ensures.seat
     c.cut_beside.ensures.view in (
       h.found.root,
       h.found.span,
@@ -75,4 +76,5 @@ returns-in-Some-clause-taken c r can =
 pub returns-clause-taken : goal.returns-clause-taken
 returns-clause-taken c r can =
     none_taken c.args.class c.args.own.now.view c.span_for.new.own.view c.span_for.new.self r
-    (sym c.in_default.is ∙ c.span_for.ensures.start r can.sound can.shown) (c.span_for.ensures.shown r can.sound can.shown) c.span_for.ensures.rest
+    (sym c.in_default.is ∙ c.span_for.ensures.start r can.sound can.shown)
+    (c.span_for.ensures.shown r can.sound can.shown) c.span_for.ensures.rest

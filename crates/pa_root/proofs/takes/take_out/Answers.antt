@@ -27,7 +27,8 @@ take_slots-titles-requires-clause-able c =
 pub numbers_seen-slots-requires-clause-free : goal.numbers_seen-slots-requires-clause-free
 numbers_seen-slots-requires-clause-free c =
     let (p, asked, s, ready, shown) = c.requires.ready in
-    let class = c.args.class in let u = c.args.own.now.view in let v = c.take_slots-titles.new.own.view in let l = c.take_slots-titles.new.shelf in
+    let class = c.args.class in let u = c.args.own.now.view in let v = c.take_slots-titles.new.own.view in
+    let l = c.take_slots-titles.new.shelf in
     let titles = c.take_slots-titles.result.items in
     let r = ready_root asked s u in
     let h : HasTakenSlots p class asked s u v l titles = record {
@@ -41,7 +42,8 @@ numbers_seen-slots-requires-clause-free c =
 pub hand-note-requires-clause-able : goal.hand-note-requires-clause-able
 hand-note-requires-clause-able c =
     let (p, asked, s, ready, shown) = c.requires.ready in
-    let class = c.args.class in let u = c.args.own.now.view in let v = c.take_slots-titles.new.own.view in let l = c.take_slots-titles.new.shelf in
+    let class = c.args.class in let u = c.args.own.now.view in let v = c.take_slots-titles.new.own.view in
+    let l = c.take_slots-titles.new.shelf in
     let titles = c.take_slots-titles.result.items in
     let r = ready_root asked s u in
     let h : HasTakenSlots p class asked s u v l titles = record {
@@ -59,7 +61,8 @@ hand-note-requires-clause-able c =
 
 pub returns-clause-out : goal.returns-clause-out
 returns-clause-out c p asked s ready shown =
-    let class = c.args.class in let u = c.args.own.now.view in let v = c.take_slots-titles.new.own.view in let l = c.take_slots-titles.new.shelf in
+    let class = c.args.class in let u = c.args.own.now.view in let v = c.take_slots-titles.new.own.view in
+    let l = c.take_slots-titles.new.shelf in
     let titles = c.take_slots-titles.result.items in
     let r = ready_root asked s u in
     let h : HasTakenSlots p class asked s u v l titles = record {
@@ -80,7 +83,8 @@ returns-clause-out c p asked s ready shown =
 
 pub returns-clause-shown : goal.returns-clause-shown
 returns-clause-shown c p asked s ready shown =
-    let class = c.args.class in let u = c.args.own.now.view in let v = c.take_slots-titles.new.own.view in let l = c.take_slots-titles.new.shelf in
+    let class = c.args.class in let u = c.args.own.now.view in let v = c.take_slots-titles.new.own.view in
+    let l = c.take_slots-titles.new.shelf in
     let titles = c.take_slots-titles.result.items in
     let r = ready_root asked s u in
     let h : HasTakenSlots p class asked s u v l titles = record {

@@ -4,7 +4,8 @@ use Rattle.pa_run_reader.proofs.digits.digits.Goals as goal
 
 pub loop-digit-preserved : goal.loop-digit-preserved
 loop-digit-preserved c =
-    goes_on c.loop-digit.value c.in-Some.digit c.args.first c.loop-digit.rest.now c.in-Some.after.now c.args.bytes.now c.in-Some.ensures.read c.loop-digit.invariant
+    goes_on c.loop-digit.value c.in-Some.digit c.args.first c.loop-digit.rest.now c.in-Some.after.now c.args.bytes.now
+    c.in-Some.ensures.read c.loop-digit.invariant
 
 pub returns-then-value-digit : goal.returns-then-value-digit
 returns-then-value-digit c =
@@ -14,4 +15,8 @@ returns-then-value-digit c =
     }
 
 pub returns : goal.returns
-returns c = record { read = all_read c.loop-digit.value c.args.first c.loop-digit.rest.now c.args.bytes.now c.in_default.ensures.read c.loop-digit.invariant (omega arith) }
+returns c = record {
+  read =
+      all_read c.loop-digit.value c.args.first c.loop-digit.rest.now c.args.bytes.now c.in_default.ensures.read c.loop-digit.invariant
+      (omega arith);
+}

@@ -7,15 +7,21 @@ pub loop-init : goal.loop-init
 loop-init c = hexes_first c.args.bytes.now
 
 pub overflow_mul-value : goal.overflow_mul-value
-overflow_mul-value c = omega (arith, hexes_small c.loop.counter c.loop.value c.args.bytes.now c.loop.rest.now c.loop.invariant (omega arith))
+overflow_mul-value c = omega
+    (arith, hexes_small c.loop.counter c.loop.value c.args.bytes.now c.loop.rest.now c.loop.invariant (omega arith))
 
 pub overflow_add-value : goal.overflow_add-value
 overflow_add-value c =
-    omega (arith, c.in-Some.ensures.small, hexes_small c.loop.counter c.loop.value c.args.bytes.now c.loop.rest.now c.loop.invariant (omega arith))
+    omega (
+      arith,
+      c.in-Some.ensures.small,
+      hexes_small c.loop.counter c.loop.value c.args.bytes.now c.loop.rest.now c.loop.invariant (omega arith),
+    )
 
 pub loop-preserved : goal.loop-preserved
 loop-preserved c =
-    hexes_more c.loop.counter c.loop.value c.in-Some.digit c.args.bytes.now c.loop.rest.now c.in-Some.after.now c.loop.invariant c.in-Some.ensures.read
+    hexes_more c.loop.counter c.loop.value c.in-Some.digit c.args.bytes.now c.loop.rest.now c.in-Some.after.now c.loop.invariant
+    c.in-Some.ensures.read
 
 pub returns-clause-read : goal.returns-clause-read
 returns-clause-read c = hexes_all c.args.count c.loop.counter c.loop.value c.args.bytes.now c.loop.rest.now c.loop.invariant (omega arith)
@@ -27,4 +33,5 @@ returns-clause-small c =
 
 pub returns-in_default-clause-read : goal.returns-in_default-clause-read
 returns-in_default-clause-read c =
-    hexes_end c.args.count c.loop.counter c.loop.value c.args.bytes.now c.loop.rest.now c.loop.invariant c.in_default.ensures.read (omega arith)
+    hexes_end c.args.count c.loop.counter c.loop.value c.args.bytes.now c.loop.rest.now c.loop.invariant c.in_default.ensures.read
+    (omega arith)

@@ -31,6 +31,8 @@ returns-clause-read c =
 pub returns-clause-found : goal.returns-clause-found
 returns-clause-found c =
     subst (λ (l : ReportLine). codes "s " ++ c.args.bytes.now ≡ report_text l ++ c.in-Some.rest.now) (sym c.line_of.ensures)
-    (line_spelled c.in_ok-places.places c.in_ok-committed.committed c.in_ok-reserved.reserved c.in_ok-states.states c.args.bytes.now c.in_ok-places.rest.now
+    (line_spelled c.in_ok-places.places c.in_ok-committed.committed c.in_ok-reserved.reserved c.in_ok-states.states c.args.bytes.now
+    c.in_ok-places.rest.now
     c.in_ok-committed.rest.now c.in_ok-reserved.rest.now c.in_ok-states.rest.now c.in-Some.rest.now
-    c.in_ok-places.ensures.found c.in_ok-committed.ensures.found c.in_ok-reserved.ensures.found c.in_ok-states.ensures.found c.in-Some.ensures.found)
+    c.in_ok-places.ensures.found c.in_ok-committed.ensures.found c.in_ok-reserved.ensures.found c.in_ok-states.ensures.found
+    c.in-Some.ensures.found)

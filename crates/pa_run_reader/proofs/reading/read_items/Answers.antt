@@ -12,7 +12,8 @@ loop-item-init c = reads_first c.in_ok-draft.draft c.args.bytes.now c.in_ok-draf
 pub returns-then-not-stands_behind-clause-fault : goal.returns-then-not-stands_behind-clause-fault
 returns-then-not-stands_behind-clause-fault c =
     let s = c.loop-item in
-    reads_misplaced s.last s.n s.draft c.in-Some.item s.rest.now c.in-Some.after.now c.args.bytes.now c.requires s.invariant c.in-Some.ensures.fits c.in-Some.ensures.found
+    reads_misplaced s.last s.n s.draft c.in-Some.item s.rest.now c.in-Some.after.now c.args.bytes.now c.requires s.invariant
+    c.in-Some.ensures.fits c.in-Some.ensures.found
     (λ h. false≢true (c.if-not-stands_behind.ensures.1 (subst (λ (p : Place). StandsBehind s.last p) (sym c.place_of-place.ensures) h)))
 
 pub overflow_add-n : goal.overflow_add-n
@@ -23,8 +24,10 @@ overflow_add-n c =
 pub loop-item-preserved : goal.loop-item-preserved
 loop-item-preserved c =
     let s = c.loop-item in
-    let behind : StandsBehind s.last (item_place c.in-Some.item) = subst (λ (p : Place). StandsBehind s.last p) c.place_of-place.ensures (c.if-not-stands_behind.ensures.0 refl) in
-    let next = reads_next s.last s.n s.draft c.in-Some.item s.rest.now c.in-Some.after.now c.args.bytes.now s.invariant c.in-Some.ensures.fits behind c.in-Some.ensures.found in
+    let behind : StandsBehind s.last (item_place c.in-Some.item) =
+    subst (λ (p : Place). StandsBehind s.last p) c.place_of-place.ensures (c.if-not-stands_behind.ensures.0 refl) in
+    let next = reads_next s.last s.n s.draft c.in-Some.item s.rest.now c.in-Some.after.now c.args.bytes.now s.invariant
+    c.in-Some.ensures.fits behind c.in-Some.ensures.found in
     rw (c.place_of-place.ensures, c.in_ok-put.ensures.gathered) next
 
 pub returns-then-is_whole-clause-found : goal.returns-then-is_whole-clause-found

@@ -21,7 +21,8 @@ returns c =
     (c.in_ok-push_report.ensures.pushed ∙ ap (λ z. c.push_cells.new.out ++ flat_map report_text z) c.deref-6.ensures.value)
     (c.into_vec.ensures.bytes ∙ c.in_ok-push_bytes.ensures.pushed) in
     record {
-      text = told_whole whole.alloc c.args.records c.args.journals pool cells report out whole.items c.requires c.into_text-out.ensures.text small c.in_ok-push_all.ensures.few
+      text = told_whole whole.alloc c.args.records c.args.journals pool cells report out whole.items c.requires c.into_text-out.ensures.text
+          small c.in_ok-push_all.ensures.few
           c.in_ok-push_all.ensures.fits (subst (AllByRecursion PoolInBits) c.deref.ensures.value c.pool_fits.ensures)
           (subst (AllByRecursion (AllByRecursion CellInBits)) c.deref-2.ensures.value c.histories_fit.ensures)
           (subst (AllByRecursion ReportInBits) c.deref-3.ensures.value c.report_fits.ensures) text;

@@ -15,8 +15,13 @@ use Rattle.pa_runner.proofs.opening.open_workers.Goals as goal
 
 pub count_lines-counts-requires-clause-within : goal.count_lines-counts-requires-clause-within
 count_lines-counts-requires-clause-within g c =
-    let t = c.args.trace.now in
-    (t.partitions, t.threads, c.requires.limits.head.2.1, subst (λ (ls : List Line). AllByRecursion (IsLineWithin t.partitions t.threads) ls) (sym c.as_slice.ensures) c.requires.limits.lines)
+    let t = c.args.trace.now in (
+      t.partitions,
+      t.threads,
+      c.requires.limits.head.2.1,
+      subst (λ (ls : List Line). AllByRecursion (IsLineWithin t.partitions t.threads) ls)
+          (sym c.as_slice.ensures) c.requires.limits.lines,
+    )
 
 pub loop-k-init : goal.loop-k-init
 loop-k-init g c =
@@ -24,7 +29,8 @@ loop-k-init g c =
     record {
       region = refl;
       low = omega arith;
-      opening = subst (λ (ws : List WorkerValue). IsOpening c.args.trace.now 0 ws c.args.seat.now.view c.args.seat.now.view) (sym c.new-workers.ensures.items)
+      opening = subst (λ (ws : List WorkerValue). IsOpening c.args.trace.now 0 ws c.args.seat.now.view c.args.seat.now.view)
+          (sym c.new-workers.ensures.items)
           (open_start c.args.trace.now budget c.args.seat.now.view fits all);
     }
 
@@ -34,7 +40,8 @@ open_worker-requires-clause-budget g c =
     let k = c.loop-k.k in
     let most = c.requires.limits.head.2.1 in
     let below = c.loop-k-test.true in
-    let e : slice_index_or c.count_lines-counts.result k 0 ≡ lines_by k t.lines = c.count_lines-counts.ensures k (omega arith) ∙ ap (lines_by k) c.as_slice.ensures in
+    let e : slice_index_or c.count_lines-counts.result k 0 ≡ lines_by k t.lines = c.count_lines-counts.ensures k (omega arith) ∙
+    ap (lines_by k) c.as_slice.ensures in
     let b = open_budget t k c.loop-k.workers.items c.args.seat.now.view c.loop-k.seat.view c.loop-k.invariant.opening below in
     omega arith
 
@@ -44,15 +51,18 @@ loop-k-preserved g c =
     let k = c.loop-k.k in
     let most = c.requires.limits.head.2.1 in
     let below = c.loop-k-test.true in
-    let e : slice_index_or c.count_lines-counts.result k 0 ≡ lines_by k t.lines = c.count_lines-counts.ensures k (omega arith) ∙ ap (lines_by k) c.as_slice.ensures in
+    let e : slice_index_or c.count_lines-counts.result k 0 ≡ lines_by k t.lines = c.count_lines-counts.ensures k (omega arith) ∙
+    ap (lines_by k) c.as_slice.ensures in
     let w = c.in_ok-open_worker.field-0 in
     let left : c.open_worker.new.seat.view ≡ left_after (parcel_of [] (lines_by k t.lines) (Stake k ∷ [])) c.loop-k.seat.view =
     c.open_worker.ensures.left ∙ ap (λ n. left_after (parcel_of [] n (Stake k ∷ [])) c.loop-k.seat.view) e in
     record {
       region = c.open_worker.ensures.region ∙ sym c.requires.region;
       low = omega arith;
-      opening = subst (λ (ws : List WorkerValue). IsOpening t (k + 1) ws c.args.seat.now.view c.open_worker.new.seat.view) (sym c.in_ok-push.ensures.items)
-          (open_next t k c.loop-k.workers.items c.args.seat.now.view c.loop-k.seat.view c.loop-k.invariant.opening below c.open_worker.new.seat.view w left
+      opening = subst (λ (ws : List WorkerValue). IsOpening t (k + 1) ws c.args.seat.now.view c.open_worker.new.seat.view)
+          (sym c.in_ok-push.ensures.items)
+          (open_next t k c.loop-k.workers.items c.args.seat.now.view c.loop-k.seat.view c.loop-k.invariant.opening below
+          c.open_worker.new.seat.view w left
           (subst (λ n. IsNewFor k t.partitions t.version n w) e c.in_ok-open_worker.ensures.new));
     }
 
@@ -62,11 +72,13 @@ returns-in_err-open_worker-clause-stops g c =
     let k = c.loop-k.k in
     let most = c.requires.limits.head.2.1 in
     let below = c.loop-k-test.true in
-    let e : slice_index_or c.count_lines-counts.result k 0 ≡ lines_by k t.lines = c.count_lines-counts.ensures k (omega arith) ∙ ap (lines_by k) c.as_slice.ensures in
+    let e : slice_index_or c.count_lines-counts.result k 0 ≡ lines_by k t.lines = c.count_lines-counts.ensures k (omega arith) ∙
+    ap (lines_by k) c.as_slice.ensures in
     let left : c.open_worker.new.seat.view ≡ left_after (parcel_of [] (lines_by k t.lines) (Stake k ∷ [])) c.loop-k.seat.view =
     c.open_worker.ensures.left ∙ ap (λ n. left_after (parcel_of [] n (Stake k ∷ [])) c.loop-k.seat.view) e in
     let handed =
-    open_handed t k c.loop-k.workers.items c.args.seat.now.view c.loop-k.seat.view c.loop-k.invariant.opening below c.open_worker.new.seat.view left in
+    open_handed t k c.loop-k.workers.items c.args.seat.now.view c.loop-k.seat.view c.loop-k.invariant.opening below
+    c.open_worker.new.seat.view left in
     any_err c.from_residual.result _ (k + 1, omega arith, handed)
 
 pub returns-in_err-push-clause-stops : goal.returns-in_err-push-clause-stops
@@ -75,11 +87,13 @@ returns-in_err-push-clause-stops g c =
     let k = c.loop-k.k in
     let most = c.requires.limits.head.2.1 in
     let below = c.loop-k-test.true in
-    let e : slice_index_or c.count_lines-counts.result k 0 ≡ lines_by k t.lines = c.count_lines-counts.ensures k (omega arith) ∙ ap (lines_by k) c.as_slice.ensures in
+    let e : slice_index_or c.count_lines-counts.result k 0 ≡ lines_by k t.lines = c.count_lines-counts.ensures k (omega arith) ∙
+    ap (lines_by k) c.as_slice.ensures in
     let left : c.open_worker.new.seat.view ≡ left_after (parcel_of [] (lines_by k t.lines) (Stake k ∷ [])) c.loop-k.seat.view =
     c.open_worker.ensures.left ∙ ap (λ n. left_after (parcel_of [] n (Stake k ∷ [])) c.loop-k.seat.view) e in
     let handed =
-    open_handed t k c.loop-k.workers.items c.args.seat.now.view c.loop-k.seat.view c.loop-k.invariant.opening below c.open_worker.new.seat.view left in
+    open_handed t k c.loop-k.workers.items c.args.seat.now.view c.loop-k.seat.view c.loop-k.invariant.opening below
+    c.open_worker.new.seat.view left in
     any_err c.from_residual-in_err-push.result _ (k + 1, omega arith, handed)
 
 pub returns-clause-handed : goal.returns-clause-handed

@@ -15,7 +15,8 @@ hear-requires-clause-thread g c =
     let long = c.loop-k.invariant.hearing.count in
     let small = c.requires.few in
     let low : c.loop-k.k < length c.args.workers.now = omega arith in
-    let ready = hear_ready c.loop-k.k c.args.workers.now c.loop-k.workers c.args.seat.now.view c.loop-k.seat.view _ c.loop-k.invariant.hearing low c.requires.few c.requires.every c.requires.none in
+    let ready = hear_ready c.loop-k.k c.args.workers.now c.loop-k.workers c.args.seat.now.view c.loop-k.seat.view _
+    c.loop-k.invariant.hearing low c.requires.few c.requires.every c.requires.none in
     (ready.0, omega arith)
 
 pub hear-requires-clause-clean : goal.hear-requires-clause-clean
@@ -34,13 +35,15 @@ pub hear-requires-clause-none : goal.hear-requires-clause-none
 hear-requires-clause-none g c =
     let long = c.loop-k.invariant.hearing.count in
     let low : c.loop-k.k < length c.args.workers.now = omega arith in
-    (hear_ready c.loop-k.k c.args.workers.now c.loop-k.workers c.args.seat.now.view c.loop-k.seat.view _ c.loop-k.invariant.hearing low c.requires.few c.requires.every c.requires.none).2
+    (hear_ready c.loop-k.k c.args.workers.now c.loop-k.workers c.args.seat.now.view c.loop-k.seat.view _ c.loop-k.invariant.hearing low
+    c.requires.few c.requires.every c.requires.none).2
 
 pub hear-requires-clause-settled : goal.hear-requires-clause-settled
 hear-requires-clause-settled g c =
     let long = c.loop-k.invariant.hearing.count in
     let low : c.loop-k.k < length c.args.workers.now = omega arith in
-    (hear_ready c.loop-k.k c.args.workers.now c.loop-k.workers c.args.seat.now.view c.loop-k.seat.view _ c.loop-k.invariant.hearing low c.requires.few c.requires.every c.requires.none).3
+    (hear_ready c.loop-k.k c.args.workers.now c.loop-k.workers c.args.seat.now.view c.loop-k.seat.view _ c.loop-k.invariant.hearing low
+    c.requires.few c.requires.every c.requires.none).3
 
 pub loop-k-preserved : goal.loop-k-preserved
 loop-k-preserved g c =
@@ -49,7 +52,8 @@ loop-k-preserved g c =
     record {
       region = c.hear.ensures.region ∙ sym c.requires.region;
       few = omega arith;
-      hearing = hear_more c.loop-k.k c.args.workers.now c.loop-k.workers c.args.seat.now.view c.loop-k.seat.view c.hear.new.seat.view _ c.hear.new.worker c.loop-k.invariant.hearing low
+      hearing = hear_more c.loop-k.k c.args.workers.now c.loop-k.workers c.args.seat.now.view c.loop-k.seat.view c.hear.new.seat.view _
+          c.hear.new.worker c.loop-k.invariant.hearing low
           c.hear.ensures.heard c.hear.ensures.lists c.hear.ensures.left;
     }
 
@@ -69,4 +73,5 @@ pub returns-clause-heard : goal.returns-clause-heard
 returns-clause-heard g c =
     let few = c.loop-k.invariant.few in
     let all : c.loop-k.k ≡ length c.args.workers.now = omega arith in
-    subst (λ n. HaveHeard (length c.args.workers.now) n c.args.seat.now.view c.args.workers.now c.loop-k.workers) all c.loop-k.invariant.hearing.heard
+    subst (λ n. HaveHeard (length c.args.workers.now) n c.args.seat.now.view c.args.workers.now c.loop-k.workers) all
+    c.loop-k.invariant.hearing.heard

@@ -17,7 +17,8 @@ pub tell-requires-clause-stake : goal.tell-requires-clause-stake
 tell-requires-clause-stake g c =
     let long = c.loop-k.invariant.telling.count in
     let low : c.loop-k.k < length c.args.workers.now = omega arith in
-    tell_ready c.loop-k.k c.args.workers.now c.loop-k.workers c.args.seat.now.view c.loop-k.seat.view _ c.loop-k.invariant.telling low c.requires.stakes
+    tell_ready c.loop-k.k c.args.workers.now c.loop-k.workers c.args.seat.now.view c.loop-k.seat.view _ c.loop-k.invariant.telling low
+    c.requires.stakes
 
 pub loop-k-preserved : goal.loop-k-preserved
 loop-k-preserved g c =
@@ -42,7 +43,8 @@ returns-clause-heard g c =
     let few = c.loop-k.invariant.few in
     let long = c.loop-k.invariant.telling.count in
     let all : c.loop-k.k ≡ length c.args.workers.now = omega arith in
-    subst (λ n. HasHeardSome (length c.args.workers.now) n (worker_in c.args.workers.now) c.args.seat.now.view c.loop-k.seat.view) all c.loop-k.invariant.telling.heard
+    subst (λ n. HasHeardSome (length c.args.workers.now) n (worker_in c.args.workers.now) c.args.seat.now.view c.loop-k.seat.view) all
+    c.loop-k.invariant.telling.heard
 
 pub returns-clause-told : goal.returns-clause-told
 returns-clause-told g c =

@@ -14,7 +14,8 @@ and-sum-requires-clause-slots g c =
     let below = c.loop-worker-test.true in
     let many = c.requires.many in
     let same = item_in ws i _ c.worker-item.result c.worker-item.is below in
-    (cache_fits p i ws c.loop-worker.sum c.cached.result (worker_at ws i _ c.worker-item.result c.worker-item.is below c.kept.ensures.worker).stock
+    (cache_fits p i ws c.loop-worker.sum c.cached.result
+    (worker_at ws i _ c.worker-item.result c.worker-item.is below c.kept.ensures.worker).stock
     (c.cached.ensures.slots ∙ ap (λ (w : WorkerValue). listed_slots (listed_in w.stock p) 0 170) same)
     (c.cached.ensures.bytes ∙ ap (λ (w : WorkerValue). listed_bytes (λ class. length (listed_in w.stock p class)) 0 170) same)
     c.loop-worker.invariant (omega arith)).0
@@ -27,7 +28,8 @@ and-sum-requires-clause-bytes g c =
     let below = c.loop-worker-test.true in
     let many = c.requires.many in
     let same = item_in ws i _ c.worker-item.result c.worker-item.is below in
-    (cache_fits p i ws c.loop-worker.sum c.cached.result (worker_at ws i _ c.worker-item.result c.worker-item.is below c.kept.ensures.worker).stock
+    (cache_fits p i ws c.loop-worker.sum c.cached.result
+    (worker_at ws i _ c.worker-item.result c.worker-item.is below c.kept.ensures.worker).stock
     (c.cached.ensures.slots ∙ ap (λ (w : WorkerValue). listed_slots (listed_in w.stock p) 0 170) same)
     (c.cached.ensures.bytes ∙ ap (λ (w : WorkerValue). listed_bytes (λ class. length (listed_in w.stock p class)) 0 170) same)
     c.loop-worker.invariant (omega arith)).1
@@ -40,7 +42,8 @@ loop-worker-preserved g c =
     let below = c.loop-worker-test.true in
     let same = item_in ws i _ c.worker-item.result c.worker-item.is below in
     subst (IsCaching p (i + 1) ws) (sym c.and-sum.ensures)
-    (cache_more p i ws c.loop-worker.sum c.cached.result (worker_at ws i _ c.worker-item.result c.worker-item.is below c.kept.ensures.worker).stock
+    (cache_more p i ws c.loop-worker.sum c.cached.result
+    (worker_at ws i _ c.worker-item.result c.worker-item.is below c.kept.ensures.worker).stock
     (c.cached.ensures.slots ∙ ap (λ (w : WorkerValue). listed_slots (listed_in w.stock p) 0 170) same)
     (c.cached.ensures.bytes ∙ ap (λ (w : WorkerValue). listed_bytes (λ class. length (listed_in w.stock p class)) 0 170) same)
     c.loop-worker.invariant)

@@ -12,7 +12,8 @@ returns-clause-right g c seat tells balance =
     record {
       phase_is = refl;
       live = live_by p threads workers seat counted.result c.args.bytes c.left_of.result counted.ensures balance c.left_of.ensures;
-      quarantined = quarantined_by p threads workers seat counted.result c.args.bytes c.left_of-2.result counted.ensures balance c.left_of-2.ensures;
+      quarantined =
+          quarantined_by p threads workers seat counted.result c.args.bytes c.left_of-2.result counted.ensures balance c.left_of-2.ensures;
       cached = c.cached_by.ensures;
       root = tells;
     }

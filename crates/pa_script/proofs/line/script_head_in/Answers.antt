@@ -6,4 +6,6 @@ use Rattle.pa_script.proofs.line.script_head_in.Goals as goal
 
 pub returns : goal.returns
 unfolding script_head_in
-returns c = c.head_of.ensures ∙ sym (ap (λ (r : Result (Option ℕ × Option ℕ × Option ℕ) LineFault). r >>= λ numbers. head_of 1 numbers.0 numbers.1 numbers.2) c.in_ok-region.ensures)
+returns c = c.head_of.ensures ∙
+    sym (ap (λ (r : Result (Option ℕ × Option ℕ × Option ℕ) LineFault). r >>= λ numbers. head_of 1 numbers.0 numbers.1 numbers.2)
+    c.in_ok-region.ensures)

@@ -11,7 +11,9 @@ pub returns-clause-found : goal.returns-clause-found
 returns-clause-found c =
     let u : Unread = c.loop-lines.reader in
     let v : Unread = c.next.new.self in
-    let end : IsScriptEndRead u v = subst (λ found. MatchOption found (IsScriptEndRead u v) (λ l. IsScriptLineRead u l v)) c.in_default.is c.in_ok-line.ensures.line in
+    let end : IsScriptEndRead u v =
+    subst (λ found. MatchOption found (IsScriptEndRead u v) (λ l. IsScriptLineRead u l v)) c.in_default.is
+    c.in_ok-line.ensures.line in
     let head = c.head-region.ensures ∙ ap (λ (w : Unread). w.head) end.stays in
     let input = end.read c.args.bytes.now c.loop-lines.lines.items c.loop-lines.invariant in
     subst (λ (h : Head). IsScriptInput (script_with h c.of-2.result) c.args.bytes.now) (sym head)

@@ -21,12 +21,14 @@ loop-at-preserved c =
     let supers = c.args.supers.now in let i = c.loop-at.at-index in
     let words = c.args.own.now.view.words in
     let inside = c.loop-at-test.true in
-    let more = subst (λ (z : Share). AreAdded (λ f. sum_of_pages f z.view.words (slice_index_or supers i d).number 126) c.loop-at.sums c.with_super_page-sums.result)
+    let more = subst (λ (z : Share). AreAdded
+    (λ f. sum_of_pages f z.view.words (slice_index_or supers i d).number 126) c.loop-at.sums c.with_super_page-sums.result)
     c.loop-at.invariant.seat c.with_super_page-sums.ensures.added in
     record {
       seat = c.with_super_page-sums.ensures.seat ∙ c.loop-at.invariant.seat;
       added = added_on (λ f. sum_of_supers f words (take i supers)) (λ f. sum_of_pages f words (slice_index_or supers i d).number 126)
-          (λ f. sum_of_supers f words (take (i + 1) supers)) no_sums c.loop-at.sums c.with_super_page-sums.result c.loop-at.invariant.added more
+          (λ f. sum_of_supers f words (take (i + 1) supers)) no_sums c.loop-at.sums c.with_super_page-sums.result c.loop-at.invariant.added
+          more
           (λ f. supers_more f words supers i d (omega arith));
       below = sums_more (126 * i + 126) (126 * (i + 1)) c.with_super_page-sums.result (omega arith)
           (c.with_super_page-sums.ensures.below (126 * i) c.loop-at.invariant.below);

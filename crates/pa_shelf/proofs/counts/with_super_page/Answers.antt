@@ -32,7 +32,8 @@ pub read_meta-span-requires-clause-record : goal.read_meta-span-requires-clause-
 read_meta-span-requires-clause-record c =
     let v = c.args.own.now.view in let less = c.loop-page-test.true in
     record_at v c.starts_none.new.own.view c.args.number c.loop-page.page c.page_start-place.result c.requires.pages
-    (ap (λ (z : Share). z.view) (c.starts_none.ensures.seat ∙ c.loop-page.invariant.seat)) c.page_start-place.ensures c.loop-page.invariant.first (omega arith)
+    (ap (λ (z : Share). z.view) (c.starts_none.ensures.seat ∙ c.loop-page.invariant.seat)) c.page_start-place.ensures
+    c.loop-page.invariant.first (omega arith)
 
 pub with_span-sums-requires-clause-small : goal.with_span-sums-requires-clause-small
 with_span-sums-requires-clause-small c =
@@ -42,7 +43,8 @@ with_span-sums-requires-clause-small c =
     (ap (λ (z : Share). z.view) c.loop-page.invariant.seat) c.page_start-place.ensures first (omega arith) c.starts_none.ensures.none in
     let used = is_some (spans_in v.words (page_place c.args.number page)) c.starts_none.result state c.if-starts_none.false in
     let is = read_at v c.starts_none.new.own.view c.args.number page c.page_start-place.result c.read_meta-span.result c.requires.pages
-    (ap (λ (z : Share). z.view) (c.starts_none.ensures.seat ∙ c.loop-page.invariant.seat)) c.page_start-place.ensures first (omega arith) c.read_meta-span.ensures.span in
+    (ap (λ (z : Share). z.view) (c.starts_none.ensures.seat ∙ c.loop-page.invariant.seat)) c.page_start-place.ensures first
+    (omega arith) c.read_meta-span.ensures.span in
     subst IsSmall (sym is) (c.requires.pages.counted page first (omega arith) used)
 
 pub with_span-sums-requires-clause-below : goal.with_span-sums-requires-clause-below
@@ -58,8 +60,10 @@ overflow_add-page-else-starts_none c =
     (ap (λ (z : Share). z.view) c.loop-page.invariant.seat) c.page_start-place.ensures first (omega arith) c.starts_none.ensures.none in
     let used = is_some (spans_in v.words (page_place c.args.number page)) c.starts_none.result state c.if-starts_none.false in
     let is = read_at v c.starts_none.new.own.view c.args.number page c.page_start-place.result c.read_meta-span.result c.requires.pages
-    (ap (λ (z : Share). z.view) (c.starts_none.ensures.seat ∙ c.loop-page.invariant.seat)) c.page_start-place.ensures first (omega arith) c.read_meta-span.ensures.span in
-    let end = span_pages v c.args.number page c.span_of-page.result.pages c.read_meta-span.result c.requires.pages first (omega arith) is used
+    (ap (λ (z : Share). z.view) (c.starts_none.ensures.seat ∙ c.loop-page.invariant.seat)) c.page_start-place.ensures first
+    (omega arith) c.read_meta-span.ensures.span in
+    let end = span_pages v c.args.number page c.span_of-page.result.pages c.read_meta-span.result c.requires.pages first
+    (omega arith) is used
     (ap (λ (s : SpanShape). s.pages) c.span_of-page.ensures.shape) in
     omega arith
 
@@ -71,8 +75,10 @@ loop-page-smaller c =
     (ap (λ (z : Share). z.view) c.loop-page.invariant.seat) c.page_start-place.ensures first (omega arith) c.starts_none.ensures.none in
     let used = is_some (spans_in v.words (page_place c.args.number page)) c.starts_none.result state c.if-starts_none.false in
     let is = read_at v c.starts_none.new.own.view c.args.number page c.page_start-place.result c.read_meta-span.result c.requires.pages
-    (ap (λ (z : Share). z.view) (c.starts_none.ensures.seat ∙ c.loop-page.invariant.seat)) c.page_start-place.ensures first (omega arith) c.read_meta-span.ensures.span in
-    let past = step_span v c.args.number page c.span_of-page.result.pages c.read_meta-span.result c.args.sums c.loop-page.sums c.with_span-sums.result
+    (ap (λ (z : Share). z.view) (c.starts_none.ensures.seat ∙ c.loop-page.invariant.seat)) c.page_start-place.ensures first
+    (omega arith) c.read_meta-span.ensures.span in
+    let past = step_span v c.args.number page c.span_of-page.result.pages c.read_meta-span.result c.args.sums c.loop-page.sums
+    c.with_span-sums.result
     c.requires.pages first (omega arith) is used c.span_of-page.ensures.bound (ap (λ (s : SpanShape). s.pages) c.span_of-page.ensures.shape)
     c.loop-page.invariant.added c.with_span-sums.ensures.added in
     let some = past.some in let end = past.ends in
@@ -87,7 +93,8 @@ loop-page-preserved c =
     (ap (λ (z : Share). z.view) c.loop-page.invariant.seat) c.page_start-place.ensures first (omega arith) c.starts_none.ensures.none in
     let used = is_some (spans_in v.words (page_place c.args.number page)) c.starts_none.result state c.if-starts_none.false in
     let is = read_at v c.starts_none.new.own.view c.args.number page c.page_start-place.result c.read_meta-span.result c.requires.pages
-    (ap (λ (z : Share). z.view) (c.starts_none.ensures.seat ∙ c.loop-page.invariant.seat)) c.page_start-place.ensures first (omega arith) c.read_meta-span.ensures.span in
+    (ap (λ (z : Share). z.view) (c.starts_none.ensures.seat ∙ c.loop-page.invariant.seat)) c.page_start-place.ensures first
+    (omega arith) c.read_meta-span.ensures.span in
     let past = step_span v c.args.number page pages c.read_meta-span.result c.args.sums c.loop-page.sums c.with_span-sums.result
     c.requires.pages first (omega arith) is used c.span_of-page.ensures.bound (ap (λ (s : SpanShape). s.pages) c.span_of-page.ensures.shape)
     c.loop-page.invariant.added c.with_span-sums.ensures.added in
@@ -105,7 +112,8 @@ pub returns-clause-added : goal.returns-clause-added
 returns-clause-added c =
     let not = c.loop-page-test.false in let most = c.loop-page.invariant.last in
     let e : c.loop-page.page ≡ 127 = omega arith in
-    subst (λ k. AreAdded (λ f. sum_of_pages f c.args.own.now.view.words c.args.number (k - 1)) c.args.sums c.loop-page.sums) e c.loop-page.invariant.added
+    subst (λ k. AreAdded (λ f. sum_of_pages f c.args.own.now.view.words c.args.number (k - 1)) c.args.sums c.loop-page.sums) e
+    c.loop-page.invariant.added
 
 pub returns-clause-below : goal.returns-clause-below
 returns-clause-below c n are =

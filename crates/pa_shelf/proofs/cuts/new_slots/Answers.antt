@@ -17,7 +17,8 @@ overflow_add-start c =
     omega arith
 
 pub returns-then-has_list : goal.returns-then-has_list
-returns-then-has_list c v l r s b = cut_listed v l c.args.span c.args.first r s b (ltb-true _ _ (sym c.has_list.ensures ∙ c.if-has_list.true))
+returns-then-has_list c v l r s b =
+    cut_listed v l c.args.span c.args.first r s b (ltb-true _ _ (sym c.has_list.ensures ∙ c.if-has_list.true))
 
 pub with_more-more-requires-clause-committed : goal.with_more-more-requires-clause-committed
 with_more-more-requires-clause-committed c =
@@ -32,7 +33,8 @@ with_more-more-requires-clause-more c =
 pub with_more-more-requires-clause-inside : goal.with_more-more-requires-clause-inside
 with_more-more-requires-clause-inside c =
     let (v, l, r, s, b) = c.requires in
-    let inside = (room_for v l c.args.span c.args.first r s b (ltb-false _ _ (sym c.has_list.ensures ∙ c.if-has_list.false)) (omega arith)).inside in
+    let inside = (room_for v l c.args.span c.args.first r s b (ltb-false _ _ (sym c.has_list.ensures ∙ c.if-has_list.false))
+    (omega arith)).inside in
     omega arith
 
 pub returns : goal.returns

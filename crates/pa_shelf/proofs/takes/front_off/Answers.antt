@@ -12,13 +12,16 @@ use Rattle.pa_shelf.proofs.takes.front_off.Goals as goal
 pub pop-title-requires-clause-chain : goal.pop-title-requires-clause-chain
 pop-title-requires-clause-chain c =
     let (ts, is) = c.requires.chain in
-    let same : c.of_parts-chain.result ≡ parts_of_record c.args.span.now c.args.first = c.of_parts-chain.ensures ∙ c.parts_in.ensures.same in
+    let same : c.of_parts-chain.result ≡ parts_of_record c.args.span.now c.args.first = c.of_parts-chain.ensures ∙
+    c.parts_in.ensures.same in
     (ts, subst (λ (d : ChainParts). IsChain c.args.own.now.view d ts) (sym same) is)
 
 pub returns-clause-front : goal.returns-clause-front
 returns-clause-front c t ts is =
-    let same : c.of_parts-chain.result ≡ parts_of_record c.args.span.now c.args.first = c.of_parts-chain.ensures ∙ c.parts_in.ensures.same in
-    let (rest, parts, chain) = c.pop-title.ensures.chain (t ∷ ts) (subst (λ (d : ChainParts). IsChain c.args.own.now.view d (t ∷ ts)) (sym same) is) in
+    let same : c.of_parts-chain.result ≡ parts_of_record c.args.span.now c.args.first = c.of_parts-chain.ensures ∙
+    c.parts_in.ensures.same in
+    let (rest, parts, chain) =
+    c.pop-title.ensures.chain (t ∷ ts) (subst (λ (d : ChainParts). IsChain c.args.own.now.view d (t ∷ ts)) (sym same) is) in
     let many : length (t ∷ ts) ≡ c.of_parts-chain.result.len = is.many ∙ ap (λ (d : ChainParts). d.len) (sym same) in
     let some : IsNone c.pop-title.result → ⊥ = λ none. let zero = c.pop-title.ensures.none.0 none in omega arith in
     let both = first_off c.pop-title.result t ts rest some parts in (

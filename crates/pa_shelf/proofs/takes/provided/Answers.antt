@@ -11,18 +11,21 @@ returns-then-has_list-clause-ready c l r s b =
 pub with_more-more-requires-clause-committed : goal.with_more-more-requires-clause-committed
 with_more-more-requires-clause-committed c =
     let (l, r, s, b) = c.requires.able in
-    (room_for c.args.own.now.view l c.args.span c.args.first r s b.slot (ltb-false _ _ (sym c.has_list.ensures ∙ c.if-has_list.false)) (omega arith)).committed
+    (room_for c.args.own.now.view l c.args.span c.args.first r s b.slot (ltb-false _ _ (sym c.has_list.ensures ∙ c.if-has_list.false))
+    (omega arith)).committed
 
 pub with_more-more-requires-clause-more : goal.with_more-more-requires-clause-more
 with_more-more-requires-clause-more c =
     let (l, r, s, b) = c.requires.able in
-    (room_for c.args.own.now.view l c.args.span c.args.first r s b.slot (ltb-false _ _ (sym c.has_list.ensures ∙ c.if-has_list.false)) (omega arith)).more
+    (room_for c.args.own.now.view l c.args.span c.args.first r s b.slot (ltb-false _ _ (sym c.has_list.ensures ∙ c.if-has_list.false))
+    (omega arith)).more
 
 pub with_more-more-requires-clause-inside : goal.with_more-more-requires-clause-inside
 with_more-more-requires-clause-inside c =
     let (l, r, s, b) = c.requires.able in
     let inside =
-    (room_for c.args.own.now.view l c.args.span c.args.first r s b.slot (ltb-false _ _ (sym c.has_list.ensures ∙ c.if-has_list.false)) (omega arith)).inside in
+    (room_for c.args.own.now.view l c.args.span c.args.first r s b.slot (ltb-false _ _ (sym c.has_list.ensures ∙ c.if-has_list.false))
+    (omega arith)).inside in
     omega arith
 
 pub overflow_sub-count : goal.overflow_sub-count
@@ -40,7 +43,8 @@ push_all-requires-clause-able c =
     let all = ltb-false _ _ (sym c.has_list.ensures ∙ c.if-has_list.false) in
     let more = more_left v l x y t r s b all c.with_more-more.ensures in
     let e = c.from-from.ensures in let f = c.from.ensures in
-    (can_push v l x y t r s c.from-from.result (c.from.result - c.from-from.result) b all c.with_more-more.ensures (omega arith) (omega arith)
+    (can_push v l x y t r s c.from-from.result (c.from.result - c.from-from.result) b all c.with_more-more.ensures (omega arith)
+    (omega arith)
     (omega arith)).able
 
 pub push_all-requires-clause-some : goal.push_all-requires-clause-some
@@ -50,7 +54,8 @@ push_all-requires-clause-some c =
     let all = ltb-false _ _ (sym c.has_list.ensures ∙ c.if-has_list.false) in
     let more = more_left v l x y t r s b all c.with_more-more.ensures in
     let e = c.from-from.ensures in let f = c.from.ensures in
-    (can_push v l x y t r s c.from-from.result (c.from.result - c.from-from.result) b all c.with_more-more.ensures (omega arith) (omega arith)
+    (can_push v l x y t r s c.from-from.result (c.from.result - c.from-from.result) b all c.with_more-more.ensures (omega arith)
+    (omega arith)
     (omega arith)).some
 
 pub push_all-requires-clause-inside : goal.push_all-requires-clause-inside
@@ -60,7 +65,8 @@ push_all-requires-clause-inside c =
     let all = ltb-false _ _ (sym c.has_list.ensures ∙ c.if-has_list.false) in
     let more = more_left v l x y t r s b all c.with_more-more.ensures in
     let e = c.from-from.ensures in let f = c.from.ensures in
-    let inside = (can_push v l x y t r s c.from-from.result (c.from.result - c.from-from.result) b all c.with_more-more.ensures (omega arith) (omega arith)
+    let inside = (can_push v l x y t r s c.from-from.result (c.from.result - c.from-from.result) b all c.with_more-more.ensures
+    (omega arith) (omega arith)
     (omega arith)).inside in
     omega arith
 

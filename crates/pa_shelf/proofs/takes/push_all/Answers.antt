@@ -22,7 +22,8 @@ loop-done-preserved c =
     let same = free_same v w p.relinked (slot_beside first number) in
     record {
       region = c.push.ensures.region ∙ l.invariant.region;
-      pushed = pushed_one v w c.push.new.seat.view first (slot_beside first number) from count done l.chain c.push.new.self (link_to l.chain.head) less p
+      pushed = pushed_one v w c.push.new.seat.view first (slot_beside first number) from count done l.chain c.push.new.self
+          (link_to l.chain.head) less p
           (omega arith) c.push.ensures.view refl c.push.ensures.slot_len c.push.ensures.len
           (c.push.ensures.chain (slots_beside first (from + count - done) done) p.chain
           (not_beside first number (from + count - done) done c.requires.some (omega arith)));

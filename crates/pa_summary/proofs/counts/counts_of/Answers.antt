@@ -10,6 +10,7 @@ loop-entry-preserved c =
     let place = c.place_of.result in
     record {
       long = length-set l.counts place _ ∙ l.invariant.long;
-      whole = counted_more c.args.entries.now i place _ l.counts l.invariant.long c.place_of.ensures.place c.loop-entry-test.true c.place_of.ensures.number l.invariant.whole;
+      whole = counted_more c.args.entries.now i place _ l.counts l.invariant.long c.place_of.ensures.place c.loop-entry-test.true
+          c.place_of.ensures.number l.invariant.whole;
       small = small_more l.counts i place l.invariant.long c.place_of.ensures.place l.invariant.small;
     }

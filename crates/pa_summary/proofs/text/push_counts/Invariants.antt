@@ -5,4 +5,5 @@ use Rattle.pa_summary.proofs.text.push_counts.Given as goal
 
 -- with the lines that are left the text is whole
 abbrev pub invariant-loop-place : goal.invariant-loop-place
-invariant-loop-place l = l.out ++ lines_from (answer_line l.entries) (l.place + 1) (drop l.place answer_names) ≡ l.fn.out ++ lines_from (answer_line l.entries) 1 answer_names
+invariant-loop-place l = l.out ++ lines_from (answer_line l.entries) (l.place + 1) (drop l.place answer_names) ≡ l.fn.out ++
+    lines_from (answer_line l.entries) 1 answer_names

@@ -14,10 +14,13 @@ pub loop-slot-preserved : goal.loop-slot-preserved
 loop-slot-preserved c = λ s among.
     let slots = c.args.slots.now in
     let i = c.loop-slot.slot-index in
-    elim (Contains-push_cases (names (take i slots)) _ s (subst (λ (xs : List SlotName). Contains xs s) (names_more slots i _ c.loop-slot-test.true) among)) [
+    elim (Contains-push_cases (names (take i slots)) _ s
+    (subst (λ (xs : List SlotName). Contains xs s) (names_more slots i _ c.loop-slot-test.true) among)) [
       | inl before ↦ c.loop-slot.invariant s before
       | inr same ↦ subst (λ (z : SlotName). value_at c.args.homes.now (name_key z) ≡ Some c.args.home) same (c.if-not-is_homed.ensures refl)
     ]
 
 pub returns : goal.returns
-returns c = λ yes s among. c.loop-slot.invariant s (subst (λ (xs : List Numbered). Contains (names xs) s) (sym (take_all c.loop-slot.slot-index c.args.slots.now c.loop-slot-test.false)) among)
+returns c = λ yes s among. c.loop-slot.invariant s
+    (subst (λ (xs : List Numbered). Contains (names xs) s)
+    (sym (take_all c.loop-slot.slot-index c.args.slots.now c.loop-slot-test.false)) among)

@@ -4,4 +4,4 @@ use Rattle.pa_audit_holders.specs.Rows.{IsOfThreads}
 use Rattle.pa_test_audit.proofs.caches.are_within.Given as goal
 
 abbrev pub invariant-loop-found : goal.invariant-loop-found
-invariant-loop-found l = All (IsOfThreads 1) (take l.found-index l.records)
+invariant-loop-found l = All (IsOfThreads l.version) (take l.found-index l.records)

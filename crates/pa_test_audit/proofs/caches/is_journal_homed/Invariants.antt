@@ -10,5 +10,6 @@ use Rattle.pa_audit_holders.specs.Homes.{home_by}
 use Rattle.pa_test_audit.proofs.caches.is_journal_homed.Given as goal
 
 abbrev pub invariant-loop-entry : goal.invariant-loop-entry
-invariant-loop-entry l = (i : ℕ) (e : RootEntry) (s : SlotName) → i < l.entry-index → IsEntry (journal_at l.roots) l.partition i e → Contains (leaves_by e.act) s
+invariant-loop-entry l = (i : ℕ) (e : RootEntry) (s : SlotName) → i < l.entry-index →
+    IsEntry (journal_at l.roots) l.partition i e → Contains (leaves_by e.act) s
     → value_at l.homes (name_key s) ≡ Some (home_by l.partition e.act)

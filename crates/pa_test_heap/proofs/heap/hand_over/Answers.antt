@@ -19,13 +19,19 @@ abbrev for_two : Parcel
 for_two = parcel_of [] 3 (mark.Stake 2 ∷ [])
 
 can_hand : {v : View} → HasAllStakes 3 v → CanHand for_two v
-can_hand all = record { items = tt; budget = subst (λ (n : ℕ). 3 ≤ n) (sym all.budget_is) (omega arith); leases = tt; clean = λ k is. all.clean }
+can_hand all = record {
+  items = tt;
+  budget = subst (λ (n : ℕ). 3 ≤ n) (sym all.budget_is) (omega arith);
+  leases = tt;
+  clean = λ k is. all.clean;
+}
 
 -- of the stakes that are handed over this one alone is left
 count_two : (v : View) (k : ℕ) → HasAllStakes 3 v → stake_of (given_after for_two v) k ≡ one (2 == k)
 count_two v k all =
     let f : Stake → ℕ = λ (s : Stake). one (s.number == k) in
-    let left : (given_after for_two v).stakes ≡ record { number = 2; log = [] } ∷ [] = ap (filter (λ (s : Stake). for_two.stakes s.number)) all.all in
+    let left : (given_after for_two v).stakes ≡ record { number = 2; log = [] } ∷ [] =
+    ap (filter (λ (s : Stake). for_two.stakes s.number)) all.all in
     let c = sum_by-cons f (record { number = 2; log = [] }) [] in
     let e = ap (sum_by f) left in
     omega arith
@@ -34,7 +40,8 @@ is_for_two : {v : View} → HasAllStakes 3 v → IsForThread 2 (given_after for_
 is_for_two {v} all = record {
   stake = record {
     small = omega arith;
-    only = λ k other. (let c = count_two v k all in elim (one_eq 2 k) [ inl y ↦ absurd (other (sym y.1)) | inr n ↦ let z = n.0 in omega arith ]);
+    only = λ k other. (let c = count_two v k all in
+        elim (one_eq 2 k) [ inl y ↦ absurd (other (sym y.1)) | inr n ↦ let z = n.0 in omega arith ]);
   };
   has = (let c = count_two v 2 all in subst (λ (n : ℕ). 0 < n) (sym c) (omega arith));
   unused = λ t. refl;

@@ -19,13 +19,19 @@ abbrev for_first : Parcel
 for_first = parcel_of [] 7 (mark.Stake 0 ∷ [])
 
 can_hand : {v : View} → HasAllStakes 7 v → CanHand for_first v
-can_hand all = record { items = tt; budget = subst (λ (n : ℕ). 7 ≤ n) (sym all.budget_is) (omega arith); leases = tt; clean = λ k is. all.clean }
+can_hand all = record {
+  items = tt;
+  budget = subst (λ (n : ℕ). 7 ≤ n) (sym all.budget_is) (omega arith);
+  leases = tt;
+  clean = λ k is. all.clean;
+}
 
 -- of the stakes that are handed over this one alone is left
 count_first : (v : View) (k : ℕ) → HasAllStakes 7 v → stake_of (given_after for_first v) k ≡ one (0 == k)
 count_first v k all =
     let f : Stake → ℕ = λ (s : Stake). one (s.number == k) in
-    let left : (given_after for_first v).stakes ≡ record { number = 0; log = [] } ∷ [] = ap (filter (λ (s : Stake). for_first.stakes s.number)) all.all in
+    let left : (given_after for_first v).stakes ≡ record { number = 0; log = [] } ∷ [] =
+    ap (filter (λ (s : Stake). for_first.stakes s.number)) all.all in
     let c = sum_by-cons f (record { number = 0; log = [] }) [] in
     let e = ap (sum_by f) left in
     omega arith
@@ -34,7 +40,8 @@ is_for_first : {v : View} → HasAllStakes 7 v → IsForThread 0 (given_after fo
 is_for_first {v} all = record {
   stake = record {
     small = omega arith;
-    only = λ k other. (let c = count_first v k all in elim (one_eq 0 k) [ inl y ↦ absurd (other (sym y.1)) | inr n ↦ let z = n.0 in omega arith ]);
+    only = λ k other. (let c = count_first v k all in
+        elim (one_eq 0 k) [ inl y ↦ absurd (other (sym y.1)) | inr n ↦ let z = n.0 in omega arith ]);
   };
   has = (let c = count_first v 0 all in subst (λ (n : ℕ). 0 < n) (sym c) (omega arith));
   unused = λ t. refl;

@@ -34,7 +34,8 @@ free-requires-clause-ready g c =
     record {
       going = op3.going;
       stake = op3.stake;
-      room = (let d = new.room in let a1 = op1.count in let b1 = op1.room in let a2 = op2.count in let b2 = op2.room in let a3 = op3.count in let b3 = op3.room in omega arith);
+      room = (let d = new.room in let a1 = op1.count in let b1 = op1.room in let a2 = op2.count in let b2 = op2.room in
+          let a3 = op3.count in let b3 = op3.room in omega arith);
     }
 
 pub deref-read-requires-clause-ready : goal.deref-read-requires-clause-ready

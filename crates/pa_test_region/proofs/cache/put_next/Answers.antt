@@ -21,5 +21,6 @@ push-requires-clause-new c = row_new c.args.number c.args.seat.now.view c.args.c
 
 pub returns-clause-row : goal.returns-clause-row
 returns-clause-row c =
-    row_next c.args.number c.args.seat.now.view c.push.new.seat.view c.args.cache.now c.push.new.self c.slot.result c.requires.row c.slot.ensures
+    row_next c.args.number c.args.seat.now.view c.push.new.seat.view c.args.cache.now c.push.new.self c.slot.result
+    c.requires.row c.slot.ensures
     c.push.ensures.relinked c.push.ensures.list c.push.ensures.class c.push.ensures.front

@@ -11,5 +11,7 @@ pub invariant_of-result : goal.invariant_of-result
 invariant_of-result c =
     let view : c.hand-note.result.view ≡ given_after (parcel_of (handle_item c.args.own test_slot ∷ []) 0 []) c.args.seat.now.view = cc in
     subst (λ (h : Handle). IsParked (record { handle = h; own = c.args.own; note = c.hand-note.result })) (sym c.handle.ensures)
-    (subst (λ (v : View). IsParked (record { handle = test_handle; own = c.args.own; note = record { region = c.hand-note.result.region; view = v } })) (sym view)
-    (c.what_was_handed_can_wait.ensures test_handle c.args.own c.hand-note.result.region 0 c.args.seat.now.view c.requires.made))
+    (subst (λ (v : View). IsParked
+    (record { handle = test_handle; own = c.args.own; note = record { region = c.hand-note.result.region; view = v } })) (sym view)
+    (c.what_was_handed_can_wait.ensures test_handle c.args.own c.hand-note.result.region 0 c.args.seat.now.view c.requires.made
+    c.requires.sealed))

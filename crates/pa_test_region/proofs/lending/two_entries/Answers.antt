@@ -17,14 +17,16 @@ same_here : (i : ℕ) (more : List Entry) → (if i == i then more else []) ≡ 
 same_here i more = elim (eqb_tells i i) [ inl y ↦ rw y.0 refl | inr n ↦ absurd (n.1 refl) ]
 
 -- two entries, one after the other
-two : (r : ℕ) (a b c h k l : View) (m n : Made) (first second : List ℕ) → CanLend a → r ≡ least_stake a.stakes → IsNoted r 4 first a b h k m → IsNoted (least_stake b.stakes) 4 second b c k l n →
+two : (r : ℕ) (a b c h k l : View) (m n : Made) (first second : List ℕ) → CanLend a → r ≡ least_stake a.stakes →
+    IsNoted r 4 first a b h k m → IsNoted (least_stake b.stakes) 4 second b c k l n →
     (list_of 4 l ≡ list_of 4 h ++ m ∷ n ∷ []) × (log_of r c ≡ log_of r a ++ Entered 4 m ∷ Entered 4 n ∷ [])
 two r a b c h k l m n first second can is x y =
     let again : least_stake b.stakes ≡ r = (lends_again a b x.lends.keeps can).1 ∙ sym is in
     let z : IsNoted r 4 second b c k l n = subst (λ (i : ℕ). IsNoted i 4 second b c k l n) again y in (
       y.list ∙ (ap (λ (xs : List Made). xs ++ n ∷ []) x.list ∙ append_assoc (list_of 4 h) (m ∷ []) (n ∷ [])),
       z.lends.logs r ∙ (ap (λ (log : List Entry). log_of r b ++ log) (same_here r (Entered 4 n ∷ []))
-          ∙ (ap (λ (log : List Entry). log ++ Entered 4 n ∷ []) (x.lends.logs r ∙ ap (λ (log : List Entry). log_of r a ++ log) (same_here r (Entered 4 m ∷ [])))
+          ∙ (ap (λ (log : List Entry). log ++ Entered 4 n ∷ [])
+          (x.lends.logs r ∙ ap (λ (log : List Entry). log_of r a ++ log) (same_here r (Entered 4 m ∷ [])))
           ∙ append_assoc (log_of r a) (Entered 4 m ∷ []) (Entered 4 n ∷ []))),
     )
 
@@ -43,4 +45,5 @@ returns-clause-entries c =
 
 pub returns-clause-lender : goal.returns-clause-lender
 returns-clause-lender c =
-    keeps_on c.args.lender.now.view c.enter_with.new.lender.view c.enter_with-2.new.lender.view c.enter_with.ensures.noted.1.lends.keeps c.enter_with-2.ensures.noted.1.lends.keeps
+    keeps_on c.args.lender.now.view c.enter_with.new.lender.view c.enter_with-2.new.lender.view c.enter_with.ensures.noted.1.lends.keeps
+    c.enter_with-2.ensures.noted.1.lends.keeps

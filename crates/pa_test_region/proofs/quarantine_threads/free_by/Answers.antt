@@ -4,7 +4,8 @@ use Rattle.pa_test_region.proofs.Sharing.{has_stake, freed_stays}
 use Rattle.pa_test_region.proofs.quarantine_threads.free_by.Goals as goal
 
 pub free_owned-fate-requires-clause-able : goal.free_owned-fate-requires-clause-able
-free_owned-fate-requires-clause-able c = (c.requires.able.0, has_stake c.args.seat.view 0 (omega arith) c.requires.lending.0, c.requires.able.1)
+free_owned-fate-requires-clause-able c =
+    (c.requires.able.0, has_stake c.args.seat.view 0 (omega arith) c.requires.lending.0, c.requires.able.1)
 
 pub free_owned-fate-requires-clause-begins : goal.free_owned-fate-requires-clause-begins
 free_owned-fate-requires-clause-begins c = poisoned_owns_unclean c.args.seat.view c.requires.lending.1

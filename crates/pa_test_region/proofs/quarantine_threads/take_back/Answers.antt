@@ -10,4 +10,5 @@ take-requires-clause-able c k t has = let few = poisoned_unclean c.args.seat.now
 pub returns-clause-together : goal.returns-clause-together
 returns-clause-together c =
     let same = ap (λ (s : Share). s.view) c.note.ensures in
-    are_together c.args.seat.now.view c.args.other.view c.take.new.seat.view (rw (sym same) c.take.ensures.parted) c.requires.clean.0 c.requires.clean.1
+    are_together c.args.seat.now.view c.args.other.view c.take.new.seat.view
+    (rw (sym same) c.take.ensures.parted) c.requires.clean.0 c.requires.clean.1

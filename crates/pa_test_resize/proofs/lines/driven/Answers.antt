@@ -7,7 +7,9 @@ use Rattle.pa_test_resize.proofs.Driving.{driven_none, driven_few, driven_within
 use Rattle.pa_test_resize.proofs.lines.driven.Goals as goal
 
 pub loop-line-init : goal.loop-line-init
-loop-line-init c = driven_none c.args.trace.now c.in_ok-player.player (subst (λ (h : Head). IsNew h c.in_ok-player.player) c.head.ensures c.in_ok-player.ensures)
+loop-line-init c =
+    driven_none c.args.trace.now c.in_ok-player.player
+    (subst (λ (h : Head). IsNew h c.in_ok-player.player) c.head.ensures c.in_ok-player.ensures)
 
 pub play_line-requires : goal.play_line-requires
 play_line-requires c =

@@ -19,5 +19,6 @@ still_lends t v has clean = (subst (λ (ss : List Stake). least_stake ss < 16) (
 pub uncut_with-requires-clause-lender : goal.uncut_with-requires-clause-lender
 uncut_with-requires-clause-lender g c =
     let t = c.cut_map-title.result in
-    let cut = c.hand-note.ensures.left ∙ ap (λ (v : View). left_after (frees_parcel (t ∷ [])) v) (c.cut_map-title.ensures.view ∙ ap (after_cut t) c.in_ok-region.ensures.view) in
+    let cut = c.hand-note.ensures.left ∙ ap (λ (v : View). left_after (frees_parcel (t ∷ [])) v)
+    (c.cut_map-title.ensures.view ∙ ap (after_cut t) c.in_ok-region.ensures.view) in
     subst (λ (v : View). HasStake v × (unclean_of v ≡ 0)) (sym cut) (still_lends t (first_view 262144 0) (omega arith) refl)

@@ -20,4 +20,5 @@ pub numbers_seen-batch-requires-clause-free : goal.numbers_seen-batch-requires-c
 numbers_seen-batch-requires-clause-free g c =
     let a : Title = record { start = 16384; len = 32; born = 0 } in
     let b : Title = record { start = 16416; len = 32; born = 0 } in
-    subst (λ (v : View). All (λ t. 0 < free_of v t) (a ∷ b ∷ [])) (sym (c.number_seen.ensures.view ∙ c.cut_beside.ensures.view)) (both_free a b c.in_ok-region.seat.view)
+    subst (λ (v : View). All (λ t. 0 < free_of v t) (a ∷ b ∷ [])) (sym (c.number_seen.ensures.view ∙ c.cut_beside.ensures.view))
+    (both_free a b c.in_ok-region.seat.view)

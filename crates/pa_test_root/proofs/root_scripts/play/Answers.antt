@@ -17,7 +17,8 @@ play_by-requires-clause-lender g c =
 pub play_by-requires-clause-first : goal.play_by-requires-clause-first
 play_by-requires-clause-first g c =
     let left = c.hand.ensures.left ∙ ap (left_after (parcel_of [] 0 others)) c.in_ok-region.ensures.view in
-    subst (λ (v : View). IsFirstView 0 v) (sym (c.hand-root.ensures.given ∙ ap (given_after root_parcel) left)) (root_part (262144 * c.args.supers))
+    subst (λ (v : View). IsFirstView 0 v) (sym (c.hand-root.ensures.given ∙ ap (given_after root_parcel) left))
+    (root_part (262144 * c.args.supers))
 
 pub play_by-requires-clause-able : goal.play_by-requires-clause-able
 play_by-requires-clause-able g c =

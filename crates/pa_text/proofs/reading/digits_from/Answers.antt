@@ -18,7 +18,9 @@ loop-digit-preserved c =
 pub returns-clause-value : goal.returns-clause-value
 returns-clause-value c =
     c.ok.ensures.value ∙ fit_is c.loop-digit.value c.try_from.result c.try_from.ensures
-    ∙ (reads_all c.loop-digit.value c.args.first c.loop-digit.rest.now c.args.bytes.now (sym c.in_default.ensures.digit) c.loop-digit.invariant).0
+    ∙ (reads_all c.loop-digit.value c.args.first c.loop-digit.rest.now c.args.bytes.now
+    (sym c.in_default.ensures.digit) c.loop-digit.invariant).0
 
 pub returns-clause-rest : goal.returns-clause-rest
-returns-clause-rest c = (reads_all c.loop-digit.value c.args.first c.loop-digit.rest.now c.args.bytes.now (sym c.in_default.ensures.digit) c.loop-digit.invariant).1
+returns-clause-rest c = (reads_all c.loop-digit.value c.args.first c.loop-digit.rest.now c.args.bytes.now
+    (sym c.in_default.ensures.digit) c.loop-digit.invariant).1

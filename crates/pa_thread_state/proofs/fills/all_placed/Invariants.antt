@@ -6,4 +6,5 @@ use Rattle.pa_thread_state.proofs.fills.all_placed.Given as goal
 
 -- those so far lie in the region
 abbrev pub invariant-loop-title : goal.invariant-loop-title
-invariant-loop-title l = (k : ℕ) (d : Title) → k < l.title-index → IsWellFormed (byte_word_count l.seat.region) (slice_index_or l.titles k d)
+invariant-loop-title l = (k : ℕ) (d : Title) → k < l.title-index →
+    IsWellFormed (byte_word_count l.seat.region) (slice_index_or l.titles k d)

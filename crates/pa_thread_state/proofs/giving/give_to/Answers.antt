@@ -88,5 +88,6 @@ returns-in_default-clause-took g c =
     let low = c.requires.partition in
     let last : c.args.partition ≡ 3 = omega arith in
     subst (λ p. OnOk c.give_in-in_default.result
-    (GiveTakes (least_stake c.args.seat.now.view.stakes) p c.args.line c.args.seat.now.view c.give_in-in_default.new.seat.view c.args.note.view c.args.titles.items))
+    (GiveTakes (least_stake c.args.seat.now.view.stakes) p c.args.line c.args.seat.now.view c.give_in-in_default.new.seat.view
+    c.args.note.view c.args.titles.items))
     (sym last) c.give_in-in_default.ensures.took

@@ -30,25 +30,29 @@ part_stakes-workers-requires-clause-clean c =
 
 pub returns-clause-first : goal.returns-clause-first
 returns-clause-first c =
-    subst (λ (v : View). IsFirstView 0 v) (sym (c.part-first.ensures.given ∙ ap (given_after (keeper_parcel 0)) c.requires.first)) (first_root (262144 * c.args.supers) c.args.budget)
+    subst (λ (v : View). IsFirstView 0 v) (sym (c.part-first.ensures.given ∙ ap (given_after (keeper_parcel 0)) c.requires.first))
+    (first_root (262144 * c.args.supers) c.args.budget)
 
 pub returns-clause-second : goal.returns-clause-second
 returns-clause-second c =
     let one = c.part-first.ensures.left ∙ ap (left_after (keeper_parcel 0)) c.requires.first in
-    subst (λ (v : View). IsFirstView 1 v) (sym (c.part-second.ensures.given ∙ ap (given_after (keeper_parcel 1)) one)) (second_root (262144 * c.args.supers) c.args.budget)
+    subst (λ (v : View). IsFirstView 1 v) (sym (c.part-second.ensures.given ∙ ap (given_after (keeper_parcel 1)) one))
+    (second_root (262144 * c.args.supers) c.args.budget)
 
 pub returns-clause-third : goal.returns-clause-third
 returns-clause-third c =
     let one = c.part-first.ensures.left ∙ ap (left_after (keeper_parcel 0)) c.requires.first in
     let two = c.part-second.ensures.left ∙ ap (left_after (keeper_parcel 1)) one in
-    subst (λ (v : View). IsFirstView 2 v) (sym (c.part-third.ensures.given ∙ ap (given_after (keeper_parcel 2)) two)) (third_root (262144 * c.args.supers) c.args.budget)
+    subst (λ (v : View). IsFirstView 2 v) (sym (c.part-third.ensures.given ∙ ap (given_after (keeper_parcel 2)) two))
+    (third_root (262144 * c.args.supers) c.args.budget)
 
 pub returns-clause-fourth : goal.returns-clause-fourth
 returns-clause-fourth c =
     let one = c.part-first.ensures.left ∙ ap (left_after (keeper_parcel 0)) c.requires.first in
     let two = c.part-second.ensures.left ∙ ap (left_after (keeper_parcel 1)) one in
     let three = c.part-third.ensures.left ∙ ap (left_after (keeper_parcel 2)) two in
-    subst (λ (v : View). IsFirstView 3 v) (sym (c.part-fourth.ensures.given ∙ ap (given_after (keeper_parcel 3)) three)) (fourth_root (262144 * c.args.supers) c.args.budget)
+    subst (λ (v : View). IsFirstView 3 v) (sym (c.part-fourth.ensures.given ∙ ap (given_after (keeper_parcel 3)) three))
+    (fourth_root (262144 * c.args.supers) c.args.budget)
 
 pub returns-clause-cells : goal.returns-clause-cells
 returns-clause-cells c =
@@ -56,7 +60,8 @@ returns-clause-cells c =
     let two = c.part-second.ensures.left ∙ ap (left_after (keeper_parcel 1)) one in
     let three = c.part-third.ensures.left ∙ ap (left_after (keeper_parcel 2)) two in
     let four = c.part-fourth.ensures.left ∙ ap (left_after (keeper_parcel 3)) three in
-    subst (λ (v : View). HostsKeeper 5 v × (list_of 5 v ≡ [])) (sym (c.part-cells.ensures.given ∙ ap (given_after (keeper_parcel 5)) four)) (cells_part (262144 * c.args.supers) c.args.budget)
+    subst (λ (v : View). HostsKeeper 5 v × (list_of 5 v ≡ [])) (sym (c.part-cells.ensures.given ∙ ap (given_after (keeper_parcel 5)) four))
+    (cells_part (262144 * c.args.supers) c.args.budget)
 
 pub returns-clause-workers : goal.returns-clause-workers
 returns-clause-workers c =
@@ -76,7 +81,8 @@ returns-clause-pool c =
     let four = c.part-fourth.ensures.left ∙ ap (left_after (keeper_parcel 3)) three in
     let five = c.part-cells.ensures.left ∙ ap (left_after (keeper_parcel 5)) four in
     let six = c.part_stakes-workers.ensures.left ∙ ap (left_after (stakes_parcel c.args.budget)) five in
-    subst (λ (v : View). CanOpen c.args.supers v) (sym six) (pool_opens c.args.supers (262144 * c.args.supers) c.args.budget refl c.requires.supers)
+    subst (λ (v : View). CanOpen c.args.supers v) (sym six)
+    (pool_opens c.args.supers (262144 * c.args.supers) c.args.budget refl c.requires.supers)
 
 pub returns-clause-clean : goal.returns-clause-clean
 returns-clause-clean c =

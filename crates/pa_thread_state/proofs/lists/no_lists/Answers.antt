@@ -21,6 +21,6 @@ loop-place-preserved c =
 pub returns-clause-lists : goal.returns-clause-lists
 returns-clause-lists c v =
     let count : c.loop-place.place ≡ 4 * class_total c.args.version =
-    let all = ap (λ n. 4 * n) c.classes-count.ensures.count in
+    let all = ap (λ n. 4 * n) c.class_total-count.ensures.count in
     omega (arith, all, c.loop-place-test.false, c.loop-place.auto.place-end) in
     subst (λ n. AreNoLists c.args.version n (map (list_in v) c.loop-place.caches.items)) count (c.loop-place.invariant.lists v)

@@ -7,4 +7,5 @@ use Rattle.pa_trace.proofs.generator.draw.Given as goal
 -- the words so far, and those that are still to be drawn
 abbrev pub invariant-loop : goal.invariant-loop
 invariant-loop l =
-    l.words.items ++ first_words pcg32 (l.count - l.counter) (record { state = l.numbers.state; increment = l.numbers.increment }) ≡ drawn_words l.key l.count
+    l.words.items ++ first_words pcg32 (l.count - l.counter)
+    (record { state = l.numbers.state; increment = l.numbers.increment }) ≡ drawn_words l.key l.count

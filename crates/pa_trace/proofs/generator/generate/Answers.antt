@@ -6,13 +6,15 @@ use Rattle.pa_trace.proofs.generator.generate.Goals as goal
 
 pub push_round-requires-clause-drawn : goal.push_round-requires-clause-drawn
 push_round-requires-clause-drawn c =
-    let many : length c.in_ok-words.words.items ≡ 32 * c.args.rounds = ap length c.in_ok-words.ensures ∙ drawn_length (32 * c.args.rounds) _ in
+    let many : length c.in_ok-words.words.items ≡ 32 * c.args.rounds = ap length c.in_ok-words.ensures ∙
+    drawn_length (32 * c.args.rounds) _ in
     let same : length c.as_slice.result.now ≡ length c.in_ok-words.words.items = ap length c.as_slice.ensures.value in
     omega arith
 
 pub loop-round-preserved : goal.loop-round-preserved
 loop-round-preserved c =
-    round_more c.in_ok-words.words.items c.as_slice.result.now c.loop-round.round c.loop-round.lines.items c.push_phase.new.lines.items c.push_round.new.lines.items
+    round_more c.in_ok-words.words.items c.as_slice.result.now c.loop-round.round c.loop-round.lines.items c.push_phase.new.lines.items
+    c.push_round.new.lines.items
     c.as_slice.ensures.value c.loop-round.invariant c.in_ok-push_phase.ensures c.in_ok-push_round.ensures
 
 pub returns-clause-limits : goal.returns-clause-limits

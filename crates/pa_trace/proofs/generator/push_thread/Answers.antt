@@ -7,4 +7,5 @@ use Rattle.pa_lists.proofs.Tests.{on_ok}
 pub returns : goal.returns
 returns c =
     on_ok c.push_pointers.result _ _ c.push_pointers.ensures
-    (behind_parts (drawn_object c.args.words.now c.args.round c.args.thread) c.loop-object.object 4 c.args.lines.now.items c.loop-object.lines.items _ _ (omega arith) c.loop-object.invariant)
+    (behind_parts (drawn_object c.args.words.now c.args.round c.args.thread) c.loop-object.object 4 c.args.lines.now.items
+    c.loop-object.lines.items _ _ (omega arith) c.loop-object.invariant)

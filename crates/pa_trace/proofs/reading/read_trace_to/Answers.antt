@@ -19,7 +19,8 @@ pub returns-clause-found : goal.returns-clause-found
 returns-clause-found c =
     let u : Unread = c.loop-lines.reader in
     let v : Unread = c.next.new.self in
-    let end : IsEndRead u v = subst (λ found. MatchOption found (IsEndRead u v) (λ l. IsLineRead u l v)) c.in_default.is c.in_ok-line.ensures.line in
+    let end : IsEndRead u v =
+    subst (λ found. MatchOption found (IsEndRead u v) (λ l. IsLineRead u l v)) c.in_default.is c.in_ok-line.ensures.line in
     let head = c.head-version.ensures ∙ ap (λ (w : Unread). w.head) end.stays in
     let input = end.read c.args.known c.args.bytes.now c.loop-lines.lines.items c.loop-lines.invariant in
     subst (λ (h : Head). IsInput (trace_with h c.of-2.result) c.args.bytes.now) (sym head)
@@ -29,6 +30,7 @@ pub returns-clause-version : goal.returns-clause-version
 returns-clause-version c =
     let u : Unread = c.loop-lines.reader in
     let v : Unread = c.next.new.self in
-    let end : IsEndRead u v = subst (λ found. MatchOption found (IsEndRead u v) (λ l. IsLineRead u l v)) c.in_default.is c.in_ok-line.ensures.line in
+    let end : IsEndRead u v =
+    subst (λ found. MatchOption found (IsEndRead u v) (λ l. IsLineRead u l v)) c.in_default.is c.in_ok-line.ensures.line in
     let head = c.head-version.ensures ∙ ap (λ (w : Unread). w.head) end.stays in
     subst (λ (h : Head). h.version ≤ c.args.known) (sym head) c.loop-lines.invariant.is_known

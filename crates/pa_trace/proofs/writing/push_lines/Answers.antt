@@ -9,4 +9,6 @@ loop-line-preserved c =
     let lines = c.args.lines.now in
     let i = c.loop-line.line-index in
     let lt : i < length lines = omega arith in
-    rw (take_more lines i Phase lt) (more_written (take i lines) (get_or lines i Phase) c.args.out.now c.loop-line.out c.push_line.new.out c.loop-line.invariant c.in_ok-push_line.ensures.pushed)
+    rw (take_more lines i Phase lt)
+    (more_written (take i lines)
+    (get_or lines i Phase) c.args.out.now c.loop-line.out c.push_line.new.out c.loop-line.invariant c.in_ok-push_line.ensures.pushed)

@@ -12,14 +12,16 @@ push_head-requires c = rw c.head.ensures c.requires.version
 
 pub returns-clause-text : goal.returns-clause-text
 returns-clause-text c =
-    let pushed = subst (λ (h : Head). Appends (IsHeadLine last_version h) c.in_ok-out.out c.push_head.new.out) c.head.ensures c.in_ok-push_head.ensures.pushed in
+    let pushed = subst (λ (h : Head). Appends (IsHeadLine last_version h) c.in_ok-out.out c.push_head.new.out) c.head.ensures
+    c.in_ok-push_head.ensures.pushed in
     rw c.into_vec.ensures.bytes
     (trace_written c.args.trace.now c.as_slice-lines.result.now c.in_ok-out.out c.push_head.new.out c.push_lines.new.out
     c.in_ok-out.ensures.empty c.as_slice-lines.ensures pushed c.in_ok-push_lines.ensures)
 
 pub returns-clause-short : goal.returns-clause-short
 returns-clause-short c =
-    let pushed = subst (λ (h : Head). Appends (IsHeadLine last_version h) c.in_ok-out.out c.push_head.new.out) c.head.ensures c.in_ok-push_head.ensures.pushed in
+    let pushed = subst (λ (h : Head). Appends (IsHeadLine last_version h) c.in_ok-out.out c.push_head.new.out) c.head.ensures
+    c.in_ok-push_head.ensures.pushed in
     rw c.into_vec.ensures.bytes
     (trace_length c.args.trace.now c.push_lines.new.out c.requires
     (trace_written c.args.trace.now c.as_slice-lines.result.now c.in_ok-out.out c.push_head.new.out c.push_lines.new.out

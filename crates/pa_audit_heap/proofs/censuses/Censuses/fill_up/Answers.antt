@@ -10,7 +10,8 @@ returns-in_err-push-clause-some c =
     let now = census c.args.root.now in
     let count = c.loop-phase._phase in
     let kept : AreFilledUp now count c.self.inside.items.items c.push.new.self.items =
-    subst (λ (zs : List Census). AreFilledUp now count c.self.inside.items.items zs) (sym c.in_err-push.ensures.items) c.loop-phase.invariant in
+    subst (λ (zs : List Census). AreFilledUp now count c.self.inside.items.items zs)
+    (sym c.in_err-push.ensures.items) c.loop-phase.invariant in
     let some : (n : ℕ) × (n < c.args.to) × AreFilledUp now n c.args.self.now c.push.new.self.items =
     (count, c.loop-phase-test.true, subst (λ (zs : List Census). AreFilledUp now count zs c.push.new.self.items) c.self.view_is kept) in
     any_err c.from_residual.result _ some

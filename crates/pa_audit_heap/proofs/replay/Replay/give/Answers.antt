@@ -14,7 +14,9 @@ push-requires c =
     (omega arith, omega arith)
 
 pub returns-in-None : goal.returns-in-None
-returns-in-None c = λ fits. c.in-None.ensures.none (all_at (IsOut c.args.self.now.root) c.args.slots.now c.loop-slot.slot-index c.loop-slot-test.true fits.0)
+returns-in-None c =
+    λ fits. c.in-None.ensures.none
+    (all_at (IsOut c.args.self.now.root) c.args.slots.now c.loop-slot.slot-index c.loop-slot-test.true fits.0)
 
 pub loop-slot-preserved : goal.loop-slot-preserved
 loop-slot-preserved c =
@@ -22,7 +24,8 @@ loop-slot-preserved c =
     let found = c.in-Some.ensures.some in
     record {
       count = omega (arith, c.push.ensures.len, l.invariant.count);
-      named = ap (map name_of) c.push.ensures.items ∙ titled_more l.titles.items c.in-Some.title c.args.slots.now l.slot-index c.loop-slot-test.true l.invariant.named found.1;
+      named = ap (map name_of) c.push.ensures.items ∙
+          titled_more l.titles.items c.in-Some.title c.args.slots.now l.slot-index c.loop-slot-test.true l.invariant.named found.1;
       out = all_more (IsOut c.args.self.now.root) c.args.slots.now l.slot-index c.loop-slot-test.true l.invariant.out found.0;
     }
 

@@ -17,8 +17,10 @@ map-requires-clause-entries c =
 pub map-requires-clause-born : goal.map-requires-clause-born
 map-requires-clause-born c =
     let a = pool.Take c.supers_for-supers.result (Some c.in-Some.first) in
-    let at = at_entry c.args.pools.now c.args.self.now.plan.supers c.args.asked a c.play_to.new.self.plan c.requires.pool c.in-Some.ensures.some c.play_to.ensures.plan in
-    ready_at c.args.pools.now c.args.self.now.plan c.play_to.new.self.plan c.args.self.now.root c.play_to.new.self.root c.args.asked a c.requires.step c.requires.ahead at c.play_to.ensures.root
+    let at = at_entry c.args.pools.now c.args.self.now.plan.supers c.args.asked a c.play_to.new.self.plan c.requires.pool
+    c.in-Some.ensures.some c.play_to.ensures.plan in
+    ready_at c.args.pools.now c.args.self.now.plan c.play_to.new.self.plan c.args.self.now.root c.play_to.new.self.root c.args.asked a
+    c.requires.step c.requires.ahead at c.play_to.ensures.root
 
 pub returns-clause-plays : goal.returns-clause-plays
 returns-clause-plays c =
@@ -28,10 +30,14 @@ returns-clause-plays c =
     let plan = c.play_to.new.self.plan in
     let placed = c.in_ok-map.field-0 in
     let first = c.in-Some.first in
-    let found : FoundRun pools c.args.asked (supers_for c.args.len) first = subst (λ n. FoundRun pools c.args.asked n first) c.supers_for-supers.ensures.supers c.in-Some.ensures.some in
-    let at = at_entry pools plan0.supers c.args.asked (pool.Take (supers_for c.args.len) (Some first)) plan c.requires.pool found c.play_to.ensures.plan in
+    let found : FoundRun pools c.args.asked (supers_for c.args.len) first =
+    subst (λ n. FoundRun pools c.args.asked n first) c.supers_for-supers.ensures.supers c.in-Some.ensures.some in
+    let at = at_entry pools plan0.supers c.args.asked
+    (pool.Take (supers_for c.args.len) (Some first)) plan c.requires.pool found c.play_to.ensures.plan in
     let did : MapDid c.args.len plan c.map.new.pool r c.map.new.self placed =
     subst (λ z. MapDid c.args.len plan c.map.new.pool z c.map.new.self placed) c.play_to.ensures.root c.in_ok-map.ensures.mapped in
-    let step : IsStep plan.entries c.map.new.pool.entries r c.map.new.self = subst (λ z. IsStep plan.entries c.map.new.pool.entries z c.map.new.self) c.play_to.ensures.root c.map.ensures.step in
+    let step : IsStep plan.entries c.map.new.pool.entries r c.map.new.self =
+    subst (λ z. IsStep plan.entries c.map.new.pool.entries z c.map.new.self) c.play_to.ensures.root c.map.ensures.step in
     let start : c.args.slot.start ≡ page_place first 1 = omega (arith, c.if-from-start.false, c.from.ensures, c.from-2.ensures) in
-    map_plays pools plan0 plan c.map.new.pool r c.map.new.self c.args.asked first c.args.len c.args.slot placed c.requires.step c.requires.ahead found at start c.if-slot-asked.false did step
+    map_plays pools plan0 plan c.map.new.pool r c.map.new.self c.args.asked first c.args.len c.args.slot placed c.requires.step
+    c.requires.ahead found at start c.if-slot-asked.false did step

@@ -22,6 +22,7 @@ loop-at-preserved c =
     let at = entry_at pools l.at (omega arith) in
     let fits = subst (PoolActFits pools e.partition e.act) (sym l.invariant.plan) (c.requires.pool l.at e at) in
     record {
-      plan = played_next c.args.self.now.plan.supers pools l.at l.self.plan c.act_fits.new.plan e at l.invariant.plan (c.act_fits.ensures.next (c.act_fits.ensures.fits.1 fits));
+      plan = played_next c.args.self.now.plan.supers pools l.at l.self.plan c.act_fits.new.plan e at l.invariant.plan
+          (c.act_fits.ensures.next (c.act_fits.ensures.fits.1 fits));
       root = l.invariant.root;
     }

@@ -36,8 +36,10 @@ play_to-requires-clause-within c =
 pub unmap-requires-clause-one_take : goal.unmap-requires-clause-one_take
 unmap-requires-clause-one_take c =
     let gave = subst (λ n. GaveRun c.args.pools.now c.args.asked (supers_for c.in-Some.title.len) n) c.super_page_of-first.ensures.page
-    (subst (λ n. GaveRun c.args.pools.now c.args.asked n c.super_page_of-first.result) c.supers_for.ensures.supers (c.gave_run.ensures.0 c.if-not-gave_run.false)) in
-    let at = at_entry c.args.pools.now c.args.self.now.plan.supers c.args.asked (pool.Give (supers_for c.in-Some.title.len) (super_page_at c.in-Some.title.start)) c.play_to.new.self.plan
+    (subst (λ n. GaveRun c.args.pools.now c.args.asked n c.super_page_of-first.result) c.supers_for.ensures.supers
+    (c.gave_run.ensures.0 c.if-not-gave_run.false)) in
+    let at = at_entry c.args.pools.now c.args.self.now.plan.supers c.args.asked
+    (pool.Give (supers_for c.in-Some.title.len) (super_page_at c.in-Some.title.start)) c.play_to.new.self.plan
     c.requires.pool gave c.play_to.ensures.plan in
     (at.fits.0, at.fits.1)
 
@@ -45,7 +47,8 @@ pub unmap-requires-clause-entries : goal.unmap-requires-clause-entries
 unmap-requires-clause-entries c =
     let few = c.requires.few in
     let a = pool.Give c.supers_for.result c.super_page_of-first.result in
-    let at = at_entry c.args.pools.now c.args.self.now.plan.supers c.args.asked a c.play_to.new.self.plan c.requires.pool (c.gave_run.ensures.0 c.if-not-gave_run.false) c.play_to.ensures.plan in
+    let at = at_entry c.args.pools.now c.args.self.now.plan.supers c.args.asked a c.play_to.new.self.plan c.requires.pool
+    (c.gave_run.ensures.0 c.if-not-gave_run.false) c.play_to.ensures.plan in
     omega (arith, at.entries, at.within)
 
 pub returns : goal.returns
@@ -57,10 +60,15 @@ returns c =
     let t = c.in-Some.title in
     let found = c.in-Some.ensures.some in
     let gave = subst (λ n. GaveRun pools c.args.asked (supers_for t.len) n) c.super_page_of-first.ensures.page
-    (subst (λ n. GaveRun pools c.args.asked n c.super_page_of-first.result) c.supers_for.ensures.supers (c.gave_run.ensures.0 c.if-not-gave_run.false)) in
-    let at = at_entry pools plan0.supers c.args.asked (pool.Give (supers_for t.len) (super_page_at t.start)) plan c.requires.pool gave c.play_to.ensures.plan in
+    (subst (λ n. GaveRun pools c.args.asked n c.super_page_of-first.result) c.supers_for.ensures.supers
+    (c.gave_run.ensures.0 c.if-not-gave_run.false)) in
+    let at = at_entry pools plan0.supers c.args.asked
+    (pool.Give (supers_for t.len) (super_page_at t.start)) plan c.requires.pool gave c.play_to.ensures.plan in
     let start : t.start ≡ page_place (super_page_at t.start) 1 = omega (arith, c.if-title-ne16384.false) in
-    let after_is = c.unmap.ensures.unmapped ∙ ap (λ name. unmapped name c.play_to.new.self.root) found.1 ∙ ap (unmapped c.args.slot.slot) c.play_to.ensures.root in
+    let after_is =
+    c.unmap.ensures.unmapped ∙ ap (λ name. unmapped name c.play_to.new.self.root) found.1 ∙
+    ap (unmapped c.args.slot.slot) c.play_to.ensures.root in
     let step : IsStep plan.entries c.unmap.new.pool.entries r c.unmap.new.self = subst
     (λ z. IsStep plan.entries c.unmap.new.pool.entries z c.unmap.new.self) c.play_to.ensures.root c.unmap.ensures.step in
-    unmap_plays pools plan0 plan c.unmap.new.pool r c.unmap.new.self c.args.asked c.args.slot t c.requires.step c.requires.ahead found.0 found.1 start gave at c.unmap.ensures.pool after_is step
+    unmap_plays pools plan0 plan c.unmap.new.pool r c.unmap.new.self c.args.asked c.args.slot t c.requires.step c.requires.ahead found.0
+    found.1 start gave at c.unmap.ensures.pool after_is step

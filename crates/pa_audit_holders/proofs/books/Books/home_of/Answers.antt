@@ -12,7 +12,8 @@ returns-in-Some-clause-home c =
     let b = c.self.inside in
     let f = value_at b.homes.now in
     subst (λ (z : RunBooks). TellsHome (journal_at z.roots) c.args.slot (Some c.in-Some.home)) c.self.view_is
-    (home_found (journal_at b.roots.now) f c.args.slot c.in-Some.home c.key.ensures.start c.self.invariant.homes (ap f (sym c.key.ensures.key) ∙ sym c.in-Some.ensures))
+    (home_found (journal_at b.roots.now) f c.args.slot c.in-Some.home c.key.ensures.start c.self.invariant.homes
+    (ap f (sym c.key.ensures.key) ∙ sym c.in-Some.ensures))
 
 pub returns-in-Some-clause-partition : goal.returns-in-Some-clause-partition
 returns-in-Some-clause-partition c =

@@ -14,7 +14,8 @@ offset_bounds-records-at c =
 pub invariant_of-result : goal.invariant_of-result
 invariant_of-result c =
     let below = subst (λ (b : RunBooks). c.args.at < length b.records) (sym c.self.view_is) c.requires in
-    subst (λ (b : RunBooks). IsOnPage b (get_or c.self.inside.records.now c.args.at _)) c.self.view_is (on_page _ _ _ c.args.at _ c.self.invariant below)
+    subst (λ (b : RunBooks). IsOnPage b (get_or c.self.inside.records.now c.args.at _)) c.self.view_is
+    (on_page _ _ _ c.args.at _ c.self.invariant below)
 
 pub returns-clause-page : goal.returns-clause-page
 returns-clause-page c = λ x is.

@@ -15,11 +15,18 @@ loop-journal-preserved c =
     let l = c.loop-journal in
     record {
       at = omega (arith, l.invariant.at);
-      none = none_more c.args.self.now.roots c.args.self.now.told.line c.args.partition l.at l.invariant.none (c.is_quiet_but.ensures.0 c.if-not-is_quiet_but.false);
+      none = none_more c.args.self.now.roots c.args.self.now.told.line c.args.partition l.at l.invariant.none
+          (c.is_quiet_but.ensures.0 c.if-not-is_quiet_but.false);
     }
 
 pub returns : goal.returns
 returns c =
     let l = c.loop-journal in
-    let end : length c.args.self.now.roots ≤ l.at = omega (arith, ap (λ (rs : List (List RootEntry)). length rs) c.roots-journal-items.ensures.roots, l.invariant.at, c.loop-journal-test.false) in
+    let end : length c.args.self.now.roots ≤ l.at =
+    omega (
+      arith,
+      ap (λ (rs : List (List RootEntry)). length rs) c.roots-journal-items.ensures.roots,
+      l.invariant.at,
+      c.loop-journal-test.false,
+    ) in
     (λ yes. none_all c.args.self.now.roots c.args.self.now.told.line c.args.partition l.at l.invariant.none end, λ none. refl)

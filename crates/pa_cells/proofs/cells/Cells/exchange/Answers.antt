@@ -14,11 +14,15 @@ invariant_of-self-2 g c =
     let index = c.in-Some.ensures.index in
     let room = c.in-Some.ensures.room in (
       c.enter_with.ensures.regions.1 ∙ c.self.invariant.0,
-      subst (λ (ps : List (Option ParkedHandle)). (k : ℕ) → IfSome (cell_holds ps k) (λ p. p.note.region ≡ g.N.Name.region)) (sym c.replace-found.ensures.after)
-          (λ k. each_set (λ (o : Option ParkedHandle). IfSome o (λ p. p.note.region ≡ g.N.Name.region)) c.self.inside.parked.items c.args.cell k c.args.given None (let n = kept.held in omega arith)
+      subst (λ (ps : List (Option ParkedHandle)). (k : ℕ) → IfSome (cell_holds ps k) (λ p. p.note.region ≡ g.N.Name.region))
+          (sym c.replace-found.ensures.after)
+          (λ k. each_set (λ (o : Option ParkedHandle). IfSome o (λ p. p.note.region ≡ g.N.Name.region)) c.self.inside.parked.items
+          c.args.cell k c.args.given None (let n = kept.held in omega arith)
           c.requires.given (c.self.invariant.1 k)),
-      cells_more _ c.enter_with.new.host.view c.append.new.histories.items c.replace-found.new.parked.items c.args.line c.args.cell c.args.given c.held_name.result c.held_name-2.result noted.0
-          c.requires.cell kept (omega arith) c.enter_with.ensures.again.1 noted.1.list (noted.1.says ∙ (c.as_slice.ensures.value ∙ c.exchange_numbers-numbers.ensures)) c.held_name.ensures
+      cells_more _ c.enter_with.new.host.view c.append.new.histories.items c.replace-found.new.parked.items c.args.line c.args.cell
+          c.args.given c.held_name.result c.held_name-2.result noted.0
+          c.requires.cell kept (omega arith) c.enter_with.ensures.again.1 noted.1.list
+          (noted.1.says ∙ (c.as_slice.ensures.value ∙ c.exchange_numbers-numbers.ensures)) c.held_name.ensures
           (c.held_name-2.ensures ∙ ap held_as (c.index.ensures
           ∙ get_or_default c.self.inside.parked.items c.args.cell c.index.result.now None (let n = kept.held in omega arith)))
           c.in-Some.ensures.pushed c.replace-found.ensures.after,
@@ -29,4 +33,5 @@ returns-clause-place g c =
     let are = c.self.invariant.2.exchanged in
     c.in-Some.ensures.index
     ∙ (ap length (are.1.cells c.args.cell)
-    ∙ (sym (same_count c.args.cell (list_of 5 c.self.inside.seat.view) are.0 are.1.numbers) ∙ ap (λ (v : CellsHeld). length (made_with_cell c.args.cell (list_of 5 v.view))) c.self.view_is))
+    ∙ (sym (same_count c.args.cell (list_of 5 c.self.inside.seat.view) are.0 are.1.numbers) ∙
+    ap (λ (v : CellsHeld). length (made_with_cell c.args.cell (list_of 5 v.view))) c.self.view_is))

@@ -22,8 +22,11 @@ invariant_of-result g c =
     ) in
     let empty : list_of 5 v ≡ [] = ap (λ (s : Share). list_of 5 s.view) same ∙ c.requires.empty in (
       ap (λ (s : Share). s.region) same ∙ c.requires.region,
-      subst (λ (ps : List (Option ParkedHandle)). (k : ℕ) → IfSome (cell_holds ps k) (λ p. p.note.region ≡ g.N.Name.region)) (sym c.in_ok-parked.ensures)
+      subst (λ (ps : List (Option ParkedHandle)). (k : ℕ) → IfSome (cell_holds ps k) (λ p. p.note.region ≡ g.N.Name.region))
+          (sym c.in_ok-parked.ensures)
           (λ k. subst (λ (o : Option ParkedHandle). IfSome o (λ p. p.note.region ≡ g.N.Name.region)) (sym (always 64 k None)) tt),
-      subst (λ (hs : List (List CellEntry)). IsCells (record { view = v; histories = hs; parked = c.in_ok-parked.parked.items })) (sym c.in_ok-histories.ensures)
-          (subst (λ (ps : List (Option ParkedHandle)). IsCells (record { view = v; histories = replicate 64 []; parked = ps })) (sym c.in_ok-parked.ensures) (starts v hosts empty)),
+      subst (λ (hs : List (List CellEntry)). IsCells (record { view = v; histories = hs; parked = c.in_ok-parked.parked.items }))
+          (sym c.in_ok-histories.ensures)
+          (subst (λ (ps : List (Option ParkedHandle)). IsCells (record { view = v; histories = replicate 64 []; parked = ps }))
+          (sym c.in_ok-parked.ensures) (starts v hosts empty)),
     )

@@ -16,13 +16,17 @@ use Rattle.pa_heap.proofs.worker.Worker.exchange.Goals as goal
 
 pub invariant_of-self : goal.invariant_of-self
 invariant_of-self g c =
-    let long : length c.enter.new.records.items ≡ length c.self.inside.records.items + 1 = ap length c.enter.ensures.items ∙ length-append c.self.inside.records.items (_ ∷ []) in
+    let long : length c.enter.new.records.items ≡ length c.self.inside.records.items + 1 =
+    ap length c.enter.ensures.items ∙ length-append c.self.inside.records.items (_ ∷ []) in
     let stake = (subst (λ (z : WorkerValue). CanPlayOp z) (sym c.self.view_is) c.requires.ready).stake in (
       omega (arith, c.self.invariant.0, c.enter.ensures.room),
       omega (arith, long, c.self.invariant.1, c.exchange.ensures.budget),
-      are_within (length c.self.inside.records.items) (length c.enter.new.records.items) c.self.inside.counts (omega arith) c.self.invariant.2,
-      owed_within (length c.self.inside.records.items) (length c.enter.new.records.items) c.self.inside.owed (omega arith) c.self.invariant.3,
-      covered_still c.args.line (ops.Swap c.args.cell c.args.reg) c.in-Ok.answer c.self.inside.stock c.exchange.new.stock c.self.inside.owed c.in-Ok.ensures.does stake c.self.invariant.4,
+      are_within (length c.self.inside.records.items) (length c.enter.new.records.items) c.self.inside.counts
+          (omega arith) c.self.invariant.2,
+      owed_within (length c.self.inside.records.items) (length c.enter.new.records.items) c.self.inside.owed
+          (omega arith) c.self.invariant.3,
+      covered_still c.args.line (ops.Swap c.args.cell c.args.reg) c.in-Ok.answer c.self.inside.stock c.exchange.new.stock c.self.inside.owed
+          c.in-Ok.ensures.does stake c.self.invariant.4,
     )
 
 pub invariant_of-self-in-Err : goal.invariant_of-self-in-Err
@@ -56,10 +60,13 @@ returns-in-Ok-clause-plays g c =
       owed = c.self.inside.owed;
     }))
     c.self.view_is
-    (worker_plays c.args.line (ops.Swap c.args.cell c.args.reg) c.in-Ok.answer w c.exchange.new.stock c.enter.new.records.items c.self.inside.counts c.self.inside.owed
+    (worker_plays c.args.line
+    (ops.Swap c.args.cell c.args.reg) c.in-Ok.answer w c.exchange.new.stock c.enter.new.records.items c.self.inside.counts
+    c.self.inside.owed
     c.thread.result c.self.inside.room c.self.inside.stopped
     c.enter.ensures.items c.thread.ensures c.in-Ok.ensures.does
-    (swap_counts c.args.line c.in-Ok.answer w.stock c.exchange.new.stock w.counts c.self.invariant.2.count w.owed c.self.invariant.3.count c.args.cell c.args.reg))
+    (swap_counts c.args.line c.in-Ok.answer w.stock c.exchange.new.stock w.counts c.self.invariant.2.count w.owed c.self.invariant.3.count
+    c.args.cell c.args.reg))
 
 pub returns-in-Ok-clause-goes_on : goal.returns-in-Ok-clause-goes_on
 returns-in-Ok-clause-goes_on g c =
@@ -80,14 +87,17 @@ returns-in-Ok-clause-goes_on g c =
       owed = c.self.inside.owed;
     }))
     c.self.view_is
-    (worker_goes_on c.args.line (ops.Swap c.args.cell c.args.reg) c.in-Ok.answer w c.exchange.new.stock c.enter.new.records.items c.self.inside.counts c.self.inside.owed
+    (worker_goes_on c.args.line
+    (ops.Swap c.args.cell c.args.reg) c.in-Ok.answer w c.exchange.new.stock c.enter.new.records.items c.self.inside.counts
+    c.self.inside.owed
     _ c.enter.ensures.items (subst (λ (z : WorkerValue). CanPlayOp z) (sym c.self.view_is) c.requires.ready)
     c.in-Ok.ensures.does)
 
 pub returns-in-Err-clause-stake : goal.returns-in-Err-clause-stake
 returns-in-Err-clause-stake g c =
     subst (λ (z : WorkerValue). KeepsItsStake z.stock c.exchange.new.stock) c.self.view_is
-    (undone_keeps c.self.inside.stock c.exchange.new.stock c.in-Err.ensures.undone (subst (λ (z : WorkerValue). HasItsStake z.stock) (sym c.self.view_is) c.requires.ready.stake))
+    (undone_keeps c.self.inside.stock c.exchange.new.stock c.in-Err.ensures.undone
+    (subst (λ (z : WorkerValue). HasItsStake z.stock) (sym c.self.view_is) c.requires.ready.stake))
 
 pub returns-in-Err-clause-same : goal.returns-in-Err-clause-same
 returns-in-Err-clause-same g c =

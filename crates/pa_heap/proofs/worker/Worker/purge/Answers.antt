@@ -16,13 +16,17 @@ use Rattle.pa_heap.proofs.worker.Worker.purge.Goals as goal
 
 pub invariant_of-self : goal.invariant_of-self
 invariant_of-self g c =
-    let long : length c.enter.new.records.items ≡ length c.self.inside.records.items + 1 = ap length c.enter.ensures.items ∙ length-append c.self.inside.records.items (_ ∷ []) in
+    let long : length c.enter.new.records.items ≡ length c.self.inside.records.items + 1 =
+    ap length c.enter.ensures.items ∙ length-append c.self.inside.records.items (_ ∷ []) in
     let stake = (subst (λ (z : WorkerValue). CanPlayOp z) (sym c.self.view_is) c.requires.ready).stake in (
       omega (arith, c.self.invariant.0, c.enter.ensures.room),
       omega (arith, long, c.self.invariant.1, c.purge.ensures.budget),
-      are_within (length c.self.inside.records.items) (length c.enter.new.records.items) c.self.inside.counts (omega arith) c.self.invariant.2,
-      owed_within (length c.self.inside.records.items) (length c.enter.new.records.items) c.self.inside.owed (omega arith) c.self.invariant.3,
-      covered_still c.args.line ops.Purge c.in-Ok.answer c.self.inside.stock c.purge.new.stock c.self.inside.owed c.in-Ok.ensures.does stake c.self.invariant.4,
+      are_within (length c.self.inside.records.items) (length c.enter.new.records.items) c.self.inside.counts
+          (omega arith) c.self.invariant.2,
+      owed_within (length c.self.inside.records.items) (length c.enter.new.records.items) c.self.inside.owed
+          (omega arith) c.self.invariant.3,
+      covered_still c.args.line ops.Purge c.in-Ok.answer c.self.inside.stock c.purge.new.stock c.self.inside.owed c.in-Ok.ensures.does stake
+          c.self.invariant.4,
     )
 
 pub invariant_of-self-in-Err : goal.invariant_of-self-in-Err
@@ -47,9 +51,17 @@ returns-in-Ok-clause-plays g c =
       owed = c.self.inside.owed;
     } in
     subst (λ (z : WorkerValue). PlaysOp c.args.line ops.Purge c.in-Ok.answer z
-    (record { stock = c.purge.new.stock; records = c.enter.new.records.items; room = c.self.inside.room; stopped = c.self.inside.stopped; counts = c.self.inside.counts; owed = c.self.inside.owed }))
+    (record {
+      stock = c.purge.new.stock;
+      records = c.enter.new.records.items;
+      room = c.self.inside.room;
+      stopped = c.self.inside.stopped;
+      counts = c.self.inside.counts;
+      owed = c.self.inside.owed;
+    }))
     c.self.view_is
-    (worker_plays c.args.line ops.Purge c.in-Ok.answer w c.purge.new.stock c.enter.new.records.items c.self.inside.counts c.self.inside.owed c.thread.result c.self.inside.room c.self.inside.stopped
+    (worker_plays c.args.line ops.Purge c.in-Ok.answer w c.purge.new.stock c.enter.new.records.items c.self.inside.counts c.self.inside.owed
+    c.thread.result c.self.inside.room c.self.inside.stopped
     c.enter.ensures.items c.thread.ensures c.in-Ok.ensures.does
     (purge_counts c.args.line c.in-Ok.answer w.stock c.purge.new.stock w.counts c.self.invariant.2.count w.owed c.self.invariant.3.count))
 
@@ -72,7 +84,8 @@ returns-in-Ok-clause-goes_on g c =
       owed = c.self.inside.owed;
     }))
     c.self.view_is
-    (worker_goes_on c.args.line ops.Purge c.in-Ok.answer w c.purge.new.stock c.enter.new.records.items c.self.inside.counts c.self.inside.owed _ c.enter.ensures.items
+    (worker_goes_on c.args.line ops.Purge c.in-Ok.answer w c.purge.new.stock c.enter.new.records.items c.self.inside.counts
+    c.self.inside.owed _ c.enter.ensures.items
     (subst (λ (z : WorkerValue). CanPlayOp z) (sym c.self.view_is) c.requires.ready)
     c.in-Ok.ensures.does)
 

@@ -19,18 +19,27 @@ use Rattle.pa_heap.proofs.worker.Worker.reset.Goals as goal
 
 pub invariant_of-self : goal.invariant_of-self
 invariant_of-self g c =
-    let long : length c.enter.new.records.items ≡ length c.self.inside.records.items + 1 = ap length c.enter.ensures.items ∙ length-append c.self.inside.records.items (_ ∷ []) in
-    let owes : c.owe_step.new.owed ≡ owed_after steps.Reset (pointed_in (register_in c.self.inside.stock.registers c.args.reg)) (done_seen c.in-Ok.answer) c.self.inside.owed =
-    c.owe_step.ensures.owed ∙ ap (λ h. owed_after steps.Reset h c.done-seen.result c.self.inside.owed) (c.pointed-handle.ensures ∙ ap pointed_in c.register.ensures)
-    ∙ ap (λ s. owed_after steps.Reset (pointed_in (register_in c.self.inside.stock.registers c.args.reg)) s c.self.inside.owed) c.done-seen.ensures in
+    let long : length c.enter.new.records.items ≡ length c.self.inside.records.items + 1 =
+    ap length c.enter.ensures.items ∙ length-append c.self.inside.records.items (_ ∷ []) in
+    let owes : c.owe_step.new.owed ≡ owed_after steps.Reset (pointed_in (register_in c.self.inside.stock.registers c.args.reg))
+    (done_seen c.in-Ok.answer) c.self.inside.owed =
+    c.owe_step.ensures.owed ∙ ap (λ h. owed_after steps.Reset h c.done-seen.result c.self.inside.owed)
+    (c.pointed-handle.ensures ∙ ap pointed_in c.register.ensures)
+    ∙ ap (λ s. owed_after steps.Reset (pointed_in (register_in c.self.inside.stock.registers c.args.reg)) s c.self.inside.owed)
+    c.done-seen.ensures in
     let stake = (subst (λ (z : WorkerValue). CanPlayOp z) (sym c.self.view_is) c.requires.ready).stake in (
       omega (arith, c.self.invariant.0, c.enter.ensures.room),
       omega (arith, long, c.self.invariant.1, c.in-Ok.ensures.budget),
-      subst (λ n. AreOfSteps n c.count_step.new.counts) (sym long) (c.count_step.ensures.small (length c.self.inside.records.items) c.self.invariant.2),
-      subst (λ n. IsOwedBySteps n c.owe_step.new.owed) (sym long) (c.owe_step.ensures.small (length c.self.inside.records.items) c.self.invariant.3),
-      covered_after c.args.line (ops.Reset c.args.reg) c.in-Ok.answer c.self.inside.stock c.play_reset.new.stock c.self.inside.owed c.owe_step.new.owed
-          (owed_after steps.Reset (pointed_in (register_in c.self.inside.stock.registers c.args.reg)) (done_seen c.in-Ok.answer) c.self.inside.owed) c.in-Ok.ensures.does owes
-          (λ q. reset_less q c.args.reg c.in-Ok.answer c.self.inside.owed c.self.invariant.3.count c.requires.reg c.self.inside.stock c.kept.ensures.stock)
+      subst (λ n. AreOfSteps n c.count_step.new.counts) (sym long)
+          (c.count_step.ensures.small (length c.self.inside.records.items) c.self.invariant.2),
+      subst (λ n. IsOwedBySteps n c.owe_step.new.owed) (sym long)
+          (c.owe_step.ensures.small (length c.self.inside.records.items) c.self.invariant.3),
+      covered_after c.args.line (ops.Reset c.args.reg) c.in-Ok.answer c.self.inside.stock c.play_reset.new.stock c.self.inside.owed
+          c.owe_step.new.owed
+          (owed_after steps.Reset (pointed_in (register_in c.self.inside.stock.registers c.args.reg))
+          (done_seen c.in-Ok.answer) c.self.inside.owed) c.in-Ok.ensures.does owes
+          (λ q. reset_less q c.args.reg c.in-Ok.answer c.self.inside.owed c.self.invariant.3.count c.requires.reg c.self.inside.stock
+          c.kept.ensures.stock)
           stake c.self.invariant.4,
     )
 
@@ -55,11 +64,15 @@ returns-in-Ok-clause-plays g c =
       counts = c.self.inside.counts;
       owed = c.self.inside.owed;
     } in
-    let counted : c.count_step.new.counts ≡ counts_after steps.Reset (pointed_in (register_in w.stock.registers c.args.reg)) (done_seen c.in-Ok.answer) w.counts =
-    c.count_step.ensures.counts ∙ ap (λ h. counts_after steps.Reset h c.done-seen.result w.counts) (c.pointed-handle.ensures ∙ ap pointed_in c.register.ensures)
+    let counted : c.count_step.new.counts ≡
+    counts_after steps.Reset (pointed_in (register_in w.stock.registers c.args.reg)) (done_seen c.in-Ok.answer) w.counts =
+    c.count_step.ensures.counts ∙ ap (λ h. counts_after steps.Reset h c.done-seen.result w.counts)
+    (c.pointed-handle.ensures ∙ ap pointed_in c.register.ensures)
     ∙ ap (λ s. counts_after steps.Reset (pointed_in (register_in w.stock.registers c.args.reg)) s w.counts) c.done-seen.ensures in
-    let owes : c.owe_step.new.owed ≡ owed_after steps.Reset (pointed_in (register_in w.stock.registers c.args.reg)) (done_seen c.in-Ok.answer) w.owed =
-    c.owe_step.ensures.owed ∙ ap (λ h. owed_after steps.Reset h c.done-seen.result w.owed) (c.pointed-handle.ensures ∙ ap pointed_in c.register.ensures)
+    let owes : c.owe_step.new.owed ≡
+    owed_after steps.Reset (pointed_in (register_in w.stock.registers c.args.reg)) (done_seen c.in-Ok.answer) w.owed =
+    c.owe_step.ensures.owed ∙ ap (λ h. owed_after steps.Reset h c.done-seen.result w.owed)
+    (c.pointed-handle.ensures ∙ ap pointed_in c.register.ensures)
     ∙ ap (λ s. owed_after steps.Reset (pointed_in (register_in w.stock.registers c.args.reg)) s w.owed) c.done-seen.ensures in
     subst (λ (z : WorkerValue). PlaysOp c.args.line (ops.Reset c.args.reg) c.in-Ok.answer z
     (record {
@@ -71,13 +84,16 @@ returns-in-Ok-clause-plays g c =
       owed = c.owe_step.new.owed;
     }))
     c.self.view_is
-    (worker_plays c.args.line (ops.Reset c.args.reg) c.in-Ok.answer w c.play_reset.new.stock c.enter.new.records.items c.count_step.new.counts c.owe_step.new.owed
+    (worker_plays c.args.line
+    (ops.Reset c.args.reg) c.in-Ok.answer w c.play_reset.new.stock c.enter.new.records.items c.count_step.new.counts c.owe_step.new.owed
     c.thread.result c.self.inside.room c.self.inside.stopped
     c.enter.ensures.items c.thread.ensures c.in-Ok.ensures.does
     (counts_by c.args.line (ops.Reset c.args.reg) c.in-Ok.answer w.stock c.play_reset.new.stock w.counts c.count_step.new.counts
     (counts_after steps.Reset (pointed_in (register_in w.stock.registers c.args.reg)) (done_seen c.in-Ok.answer) w.counts)
-    w.owed c.owe_step.new.owed (owed_after steps.Reset (pointed_in (register_in w.stock.registers c.args.reg)) (done_seen c.in-Ok.answer) w.owed) counted owes
-    (reset_counts c.args.line c.in-Ok.answer w.stock c.play_reset.new.stock w.counts c.self.invariant.2.count w.owed c.self.invariant.3.count c.args.reg c.kept.ensures.stock c.requires.reg)))
+    w.owed c.owe_step.new.owed
+    (owed_after steps.Reset (pointed_in (register_in w.stock.registers c.args.reg)) (done_seen c.in-Ok.answer) w.owed) counted owes
+    (reset_counts c.args.line c.in-Ok.answer w.stock c.play_reset.new.stock w.counts c.self.invariant.2.count w.owed
+    c.self.invariant.3.count c.args.reg c.kept.ensures.stock c.requires.reg)))
 
 pub returns-in-Ok-clause-goes_on : goal.returns-in-Ok-clause-goes_on
 returns-in-Ok-clause-goes_on g c =
@@ -98,7 +114,9 @@ returns-in-Ok-clause-goes_on g c =
       owed = c.owe_step.new.owed;
     }))
     c.self.view_is
-    (worker_goes_on c.args.line (ops.Reset c.args.reg) c.in-Ok.answer w c.play_reset.new.stock c.enter.new.records.items c.count_step.new.counts c.owe_step.new.owed _
+    (worker_goes_on c.args.line
+    (ops.Reset c.args.reg) c.in-Ok.answer w c.play_reset.new.stock c.enter.new.records.items c.count_step.new.counts c.owe_step.new.owed
+    _
     c.enter.ensures.items (subst (λ (z : WorkerValue). CanPlayOp z) (sym c.self.view_is) c.requires.ready)
     c.in-Ok.ensures.does)
 

@@ -17,5 +17,6 @@ returns-clause-settled g c =
       owed = c.self.inside.owed;
     } in
     ap (λ (s : StockValue). record w { stock = s; owed = c.settle_totals.new.owed }) c.settle_totals.ensures.view
-    ∙ (ap (λ (os : List Owed). record w { stock = record w.stock { view = after_settle_all w.owed w.stock.view }; owed = os }) c.settle_totals.ensures.settled
+    ∙ (ap (λ (os : List Owed). record w { stock = record w.stock { view = after_settle_all w.owed w.stock.view }; owed = os })
+    c.settle_totals.ensures.settled
     ∙ ap (λ (z : WorkerValue). settled_worker z) c.self.view_is)

@@ -10,13 +10,17 @@ use Rattle.pa_heap.proofs.worker.Worker.write.Goals as goal
 
 pub invariant_of-self : goal.invariant_of-self
 invariant_of-self g c =
-    let long : length c.enter.new.records.items ≡ length c.self.inside.records.items + 1 = ap length c.enter.ensures.items ∙ length-append c.self.inside.records.items (_ ∷ []) in
+    let long : length c.enter.new.records.items ≡ length c.self.inside.records.items + 1 =
+    ap length c.enter.ensures.items ∙ length-append c.self.inside.records.items (_ ∷ []) in
     let stake = (subst (λ (z : WorkerValue). CanPlayOp z) (sym c.self.view_is) c.requires.ready).stake in (
       omega (arith, c.self.invariant.0, c.enter.ensures.room),
       omega (arith, long, c.self.invariant.1, c.write-answer.ensures.budget),
-      are_within (length c.self.inside.records.items) (length c.enter.new.records.items) c.self.inside.counts (omega arith) c.self.invariant.2,
-      owed_within (length c.self.inside.records.items) (length c.enter.new.records.items) c.self.inside.owed (omega arith) c.self.invariant.3,
-      covered_still c.args.line (ops.Write c.args.reg c.args.value) c.write-answer.result c.self.inside.stock c.write-answer.new.stock c.self.inside.owed
+      are_within (length c.self.inside.records.items) (length c.enter.new.records.items) c.self.inside.counts
+          (omega arith) c.self.invariant.2,
+      owed_within (length c.self.inside.records.items) (length c.enter.new.records.items) c.self.inside.owed
+          (omega arith) c.self.invariant.3,
+      covered_still c.args.line (ops.Write c.args.reg c.args.value) c.write-answer.result c.self.inside.stock c.write-answer.new.stock
+          c.self.inside.owed
           (c.write-answer.ensures.does c.args.line) stake c.self.invariant.4,
     )
 
@@ -40,10 +44,12 @@ returns-clause-plays g c =
       owed = c.self.inside.owed;
     }))
     c.self.view_is
-    (worker_plays c.args.line (ops.Write c.args.reg c.args.value) c.write-answer.result w c.write-answer.new.stock c.enter.new.records.items c.self.inside.counts
+    (worker_plays c.args.line
+    (ops.Write c.args.reg c.args.value) c.write-answer.result w c.write-answer.new.stock c.enter.new.records.items c.self.inside.counts
     c.self.inside.owed c.thread.result c.self.inside.room c.self.inside.stopped
     c.enter.ensures.items c.thread.ensures (c.write-answer.ensures.does c.args.line)
-    (write_counts c.args.line c.write-answer.result w.stock c.write-answer.new.stock w.counts c.self.invariant.2.count w.owed c.self.invariant.3.count c.args.reg c.args.value))
+    (write_counts c.args.line c.write-answer.result w.stock c.write-answer.new.stock w.counts c.self.invariant.2.count w.owed
+    c.self.invariant.3.count c.args.reg c.args.value))
 
 pub returns-clause-goes_on : goal.returns-clause-goes_on
 returns-clause-goes_on g c =
@@ -64,6 +70,7 @@ returns-clause-goes_on g c =
       owed = c.self.inside.owed;
     }))
     c.self.view_is
-    (worker_goes_on c.args.line (ops.Write c.args.reg c.args.value) c.write-answer.result w c.write-answer.new.stock c.enter.new.records.items c.self.inside.counts
+    (worker_goes_on c.args.line
+    (ops.Write c.args.reg c.args.value) c.write-answer.result w c.write-answer.new.stock c.enter.new.records.items c.self.inside.counts
     c.self.inside.owed _ c.enter.ensures.items (subst (λ (z : WorkerValue). CanPlayOp z) (sym c.self.view_is) c.requires.ready)
     (c.write-answer.ensures.does c.args.line))

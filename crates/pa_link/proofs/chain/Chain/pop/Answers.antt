@@ -12,5 +12,6 @@ next_front-head-requires-clause-able c =
 pub returns-in-Some-clause-chain : goal.returns-in-Some-clause-chain
 returns-in-Some-clause-chain c ts is =
     let v = c.args.seat.now.view in
-    popped v c.self.inside.parts c.in-Some.name c.next_front-head.result c.in-Some.is c.next_front-head.ensures.none c.next_front-head.ensures.next ts
+    popped v c.self.inside.parts c.in-Some.name c.next_front-head.result c.in-Some.is c.next_front-head.ensures.none
+    c.next_front-head.ensures.next ts
     (subst (λ d. IsChain v d ts) (sym c.self.view_is) is)

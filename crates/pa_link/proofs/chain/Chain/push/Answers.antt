@@ -10,5 +10,6 @@ returns-clause-chain c ts is new =
     let v = c.args.seat.now.view in
     let size = subst (λ (d : ChainParts). c.args.title.len ≡ d.slot_len) (sym {A = ChainParts} c.self.view_is) c.requires.size in
     let stored = c.store_link.ensures.view ∙ ap (λ l. after_link c.args.title l v) c.link_of.ensures in
-    pushed (byte_word_count c.args.seat.now.region) v c.store_link.new.seat.view c.self.inside.parts c.args.title ts c.aware.ensures.aware c.placed.ensures.well c.placed.ensures.long
+    pushed (byte_word_count c.args.seat.now.region) v c.store_link.new.seat.view c.self.inside.parts c.args.title ts c.aware.ensures.aware
+    c.placed.ensures.well c.placed.ensures.long
     c.requires.able size (omega arith, omega arith) stored (subst (λ d. IsChain v d ts) (sym c.self.view_is) is) new

@@ -85,7 +85,8 @@ returns-clause-chain c ts is = elim c.match-last.branch [
       ∙ ap (λ (p : ChainParts). p.slot_len) c.of_parts-rest.ensures)) in
       let stored = w.store_link.ensures.view ∙ (ap (λ l. after_link last l c.take_front-batch.new.seat.view) w.link_of.ensures
       ∙ ap (λ (s : Share). after_link last (link_to d.head) s.view) seats) in
-      let cut = cut_some (byte_word_count c.take_front-batch.new.seat.region) v w.store_link.new.seat.view c.self.inside.parts d e keep last items ts
+      let cut = cut_some (byte_word_count c.take_front-batch.new.seat.region) v w.store_link.new.seat.view c.self.inside.parts d e keep last
+      items ts
       (subst (λ (s : Share). IsAware s.view) seats w.aware.ensures.aware) w.placed.ensures.well
       (ap (λ (s : Share). length s.view.words) (sym seats) ∙ w.placed.ensures.long)
       (subst (λ p. IsChain v p ts) (sym c.self.view_is) is) so taken size stored in (

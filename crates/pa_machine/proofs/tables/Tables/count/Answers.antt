@@ -13,7 +13,8 @@ count_word-requires c = well_counted c.args.self.now c.args.actor c.args.title c
 
 pub step_at-requires-clause-entry : goal.step_at-requires-clause-entry
 step_at-requires-clause-entry c =
-    rw (c.first_word.ensures, c.deref_mut.ensures.value) (count_entry c.args.self.now c.args.actor c.args.title c.args.step c.requires.sound c.requires.enabled)
+    rw (c.first_word.ensures, c.deref_mut.ensures.value)
+    (count_entry c.args.self.now c.args.actor c.args.title c.args.step c.requires.sound c.requires.enabled)
 
 pub returns-in_err-step_at-clause-sound : goal.returns-in_err-step_at-clause-sound
 returns-in_err-step_at-clause-sound c =
@@ -39,7 +40,10 @@ returns-in_err-step_at-clause-err c =
 pub returns-clause-ok : goal.returns-clause-ok
 returns-clause-ok c =
     let now = c.args.self.now in
-    let after : Tables = record now { words = with_item now.words c.count_place.result c.next-after.result.0; slots = with_items now.slots c.step_at.new.slots } in
+    let after : Tables = record now {
+      words = with_item now.words c.count_place.result c.next-after.result.0;
+      slots = with_items now.slots c.step_at.new.slots;
+    } in
     let h = c.in_ok-step_at.ensures.ok in
     let next = c.next-after.ensures ∙ ap (λ w. stepped c.args.step w) c.count_word.ensures in
     (count_row now after c.args.actor c.args.title c.args.step c.is_free-back.result h.0 h.1 c.requires.sound c.requires.enabled
@@ -52,7 +56,10 @@ returns-clause-ok c =
 pub returns-clause-sound : goal.returns-clause-sound
 returns-clause-sound c =
     let now = c.args.self.now in
-    let after : Tables = record now { words = with_item now.words c.count_place.result c.next-after.result.0; slots = with_items now.slots c.step_at.new.slots } in
+    let after : Tables = record now {
+      words = with_item now.words c.count_place.result c.next-after.result.0;
+      slots = with_items now.slots c.step_at.new.slots;
+    } in
     let h = c.in_ok-step_at.ensures.ok in
     let next = c.next-after.ensures ∙ ap (λ w. stepped c.args.step w) c.count_word.ensures in
     (count_row now after c.args.actor c.args.title c.args.step c.is_free-back.result h.0 h.1 c.requires.sound c.requires.enabled

@@ -49,21 +49,27 @@ returns-clause-ok c =
     } in
     let filled = c.give_bytes.ensures in
     let pointed = c.point_words.ensures in
-    let kept = with_items_is now.holders c.give_bytes.new.holders (filled.len ∙ (ap length c.deref_mut.ensures.value ∙ sym now.holders.ok.0)) in
-    let kept_homes = with_items_is now.homes c.point_words.new.homes (pointed.len ∙ (ap length c.deref_mut-2.ensures.value ∙ sym now.homes.ok.0)) in
+    let kept = with_items_is now.holders c.give_bytes.new.holders
+    (filled.len ∙ (ap length c.deref_mut.ensures.value ∙ sym now.holders.ok.0)) in
+    let kept_homes = with_items_is now.homes c.point_words.new.homes
+    (pointed.len ∙ (ap length c.deref_mut-2.ensures.value ∙ sym now.homes.ok.0)) in
     let entry = c.in_ok-entry.ensures.ok in
     let made = c.cut_out.ensures in
     let first = c.first_word-first.ensures in
     let last = c.count_place.ensures in
-    let on_homes = subst (λ (b : List ℕ). IsFilled 0 b c.first_word-first.result (c.count_place.result + 1) c.first_word-first.result c.point_words.new.homes) c.deref_mut-2.ensures.value pointed in
+    let on_homes = subst (λ (b : List ℕ). IsFilled 0 b c.first_word-first.result
+    (c.count_place.result + 1) c.first_word-first.result c.point_words.new.homes) c.deref_mut-2.ensures.value pointed in
     let from_first = subst (λ (p : ℕ). IsFilled 0 now.homes.items p (c.count_place.result + 1) p c.point_words.new.homes) first on_homes in
-    let at_places = subst (λ (q : ℕ). IsFilled 0 now.homes.items (c.args.title.start / 8) (q + 1) (c.args.title.start / 8) c.point_words.new.homes) last from_first in
+    let at_places = subst (λ (q : ℕ). IsFilled 0 now.homes.items (c.args.title.start / 8) (q + 1)
+    (c.args.title.start / 8) c.point_words.new.homes) last from_first in
     (cut_row now after c.args.actor c.args.title c.in_ok-entry.entry c.requires.sound c.requires.enabled (record {
       words = refl;
       slots = rw first refl;
       actors = refl;
       fresh = subst (λ (o : Slot). IsFreshSlot c.args.actor c.args.title o) (sym entry) (made.title, made.free, made.own, made.refs);
-      holders = rw kept (subst (λ (b : List (Option ℕ)). IsFilled None b c.args.title.start (c.args.title.start + c.args.title.len) None c.give_bytes.new.holders) c.deref_mut.ensures.value filled);
+      holders = rw kept (subst
+          (λ (b : List (Option ℕ)). IsFilled None b c.args.title.start
+          (c.args.title.start + c.args.title.len) None c.give_bytes.new.holders) c.deref_mut.ensures.value filled);
       homes = rw kept_homes at_places;
     })).happens
 
@@ -77,20 +83,26 @@ returns-clause-sound c =
     } in
     let filled = c.give_bytes.ensures in
     let pointed = c.point_words.ensures in
-    let kept = with_items_is now.holders c.give_bytes.new.holders (filled.len ∙ (ap length c.deref_mut.ensures.value ∙ sym now.holders.ok.0)) in
-    let kept_homes = with_items_is now.homes c.point_words.new.homes (pointed.len ∙ (ap length c.deref_mut-2.ensures.value ∙ sym now.homes.ok.0)) in
+    let kept = with_items_is now.holders c.give_bytes.new.holders
+    (filled.len ∙ (ap length c.deref_mut.ensures.value ∙ sym now.holders.ok.0)) in
+    let kept_homes = with_items_is now.homes c.point_words.new.homes
+    (pointed.len ∙ (ap length c.deref_mut-2.ensures.value ∙ sym now.homes.ok.0)) in
     let entry = c.in_ok-entry.ensures.ok in
     let made = c.cut_out.ensures in
     let first = c.first_word-first.ensures in
     let last = c.count_place.ensures in
-    let on_homes = subst (λ (b : List ℕ). IsFilled 0 b c.first_word-first.result (c.count_place.result + 1) c.first_word-first.result c.point_words.new.homes) c.deref_mut-2.ensures.value pointed in
+    let on_homes = subst (λ (b : List ℕ). IsFilled 0 b c.first_word-first.result
+    (c.count_place.result + 1) c.first_word-first.result c.point_words.new.homes) c.deref_mut-2.ensures.value pointed in
     let from_first = subst (λ (p : ℕ). IsFilled 0 now.homes.items p (c.count_place.result + 1) p c.point_words.new.homes) first on_homes in
-    let at_places = subst (λ (q : ℕ). IsFilled 0 now.homes.items (c.args.title.start / 8) (q + 1) (c.args.title.start / 8) c.point_words.new.homes) last from_first in
+    let at_places = subst (λ (q : ℕ). IsFilled 0 now.homes.items (c.args.title.start / 8) (q + 1)
+    (c.args.title.start / 8) c.point_words.new.homes) last from_first in
     (cut_row now after c.args.actor c.args.title c.in_ok-entry.entry c.requires.sound c.requires.enabled (record {
       words = refl;
       slots = rw first refl;
       actors = refl;
       fresh = subst (λ (o : Slot). IsFreshSlot c.args.actor c.args.title o) (sym entry) (made.title, made.free, made.own, made.refs);
-      holders = rw kept (subst (λ (b : List (Option ℕ)). IsFilled None b c.args.title.start (c.args.title.start + c.args.title.len) None c.give_bytes.new.holders) c.deref_mut.ensures.value filled);
+      holders = rw kept (subst
+          (λ (b : List (Option ℕ)). IsFilled None b c.args.title.start
+          (c.args.title.start + c.args.title.len) None c.give_bytes.new.holders) c.deref_mut.ensures.value filled);
       homes = rw kept_homes at_places;
     })).sound

@@ -10,7 +10,8 @@ use Rattle.pa_machine.proofs.tables.Tables.hand_free.Goals as goal
 
 pub hand_free_at-requires-clause-entry : goal.hand_free_at-requires-clause-entry
 hand_free_at-requires-clause-entry c =
-    let r = reads_free c.args.self.now c.args.from c.args.title c.requires.sound (actor_is c.args.self.now c.args.from c.requires.enabled.0) c.requires.enabled.2 in
+    let r = reads_free c.args.self.now c.args.from c.args.title c.requires.sound
+    (actor_is c.args.self.now c.args.from c.requires.enabled.0) c.requires.enabled.2 in
     rw (c.first_word.ensures, c.deref_mut.ensures.value) (entry_there c.args.self.now c.args.title r.0 (λ _. Unit {0}) r.1 tt)
 
 pub returns-clause-happens : goal.returns-clause-happens
@@ -21,7 +22,8 @@ returns-clause-happens c =
     (hand_free_row now after c.args.from c.args.to c.args.title h.0 h.1 c.requires.sound c.requires.enabled
     (changed_row now after (λ o n. IsNextSlot o n (Some c.args.to) o.own o.refs.items) c.deref_mut.result.now c.hand_free_at.new.slots
     c.first_word.result c.args.title c.deref_mut.ensures.value c.first_word.ensures
-    (kept_items now.slots (λ o n. IsNextSlot o n (Some c.args.to) o.own o.refs.items) c.deref_mut.result.now c.hand_free_at.new.slots c.first_word.result c.deref_mut.ensures.value h) refl refl refl h)
+    (kept_items now.slots (λ o n. IsNextSlot o n (Some c.args.to) o.own o.refs.items) c.deref_mut.result.now c.hand_free_at.new.slots
+    c.first_word.result c.deref_mut.ensures.value h) refl refl refl h)
     refl h.4).happens
 
 pub returns-clause-sound : goal.returns-clause-sound
@@ -32,5 +34,6 @@ returns-clause-sound c =
     (hand_free_row now after c.args.from c.args.to c.args.title h.0 h.1 c.requires.sound c.requires.enabled
     (changed_row now after (λ o n. IsNextSlot o n (Some c.args.to) o.own o.refs.items) c.deref_mut.result.now c.hand_free_at.new.slots
     c.first_word.result c.args.title c.deref_mut.ensures.value c.first_word.ensures
-    (kept_items now.slots (λ o n. IsNextSlot o n (Some c.args.to) o.own o.refs.items) c.deref_mut.result.now c.hand_free_at.new.slots c.first_word.result c.deref_mut.ensures.value h) refl refl refl h)
+    (kept_items now.slots (λ o n. IsNextSlot o n (Some c.args.to) o.own o.refs.items) c.deref_mut.result.now c.hand_free_at.new.slots
+    c.first_word.result c.deref_mut.ensures.value h) refl refl refl h)
     refl h.4).sound

@@ -1,8 +1,8 @@
-use Rattle.std.proofs.Common.{refl, ap, Some, arith, length}
+use Rattle.std.proofs.Common.{refl, ap, arith, length}
 use Rattle.std.specs.Vec.{with_items}
 use Rattle.pa_slot.specs.declared.title.OwnState.TheVariants.{Clean}
 use Rattle.pa_machine.specs.declared.tables.Tables.{Tables}
-use Rattle.pa_machine.specs.Tables.{IsNextSlot}
+use Rattle.pa_machine.specs.Tables.{IsRestatedSlot}
 use Rattle.pa_machine.proofs.Enabling.{actor_is, well_own}
 use Rattle.pa_machine.proofs.Reading.{reads_own}
 use Rattle.pa_machine.proofs.Rows.{changed_row, kept_items, entry_there}
@@ -19,7 +19,8 @@ restate_at-requires-clause-inside c =
 
 pub restate_at-requires-clause-entry : goal.restate_at-requires-clause-entry
 restate_at-requires-clause-entry c =
-    let r = reads_own c.args.self.now c.args.from c.args.title Clean c.requires.sound (actor_is c.args.self.now c.args.from c.requires.enabled.0) c.requires.enabled.2 in
+    let r = reads_own c.args.self.now c.args.from c.args.title Clean c.requires.sound
+    (actor_is c.args.self.now c.args.from c.requires.enabled.0) c.requires.enabled.2 in
     rw (c.first_word.ensures, c.deref_mut.ensures.value) (entry_there c.args.self.now c.args.title r.0 (λ _. Unit {0}) r.1 tt)
 
 pub returns-clause-happens : goal.returns-clause-happens
@@ -28,10 +29,10 @@ returns-clause-happens c =
     let after : Tables = record now { slots = with_items now.slots c.restate_at.new.slots } in
     let h = c.restate_at.ensures in
     (hand_own_row now after c.args.from c.args.to c.args.title h.0 h.1 c.requires.sound c.requires.enabled
-    (changed_row now after (λ o n. IsNextSlot o n o.free (Some (record { actor = c.args.to; state = Clean })) o.refs.items)
-    c.deref_mut.result.now c.restate_at.new.slots c.first_word.result c.args.title c.deref_mut.ensures.value c.first_word.ensures
-    (kept_items now.slots (λ o n. IsNextSlot o n o.free (Some (record { actor = c.args.to; state = Clean })) o.refs.items)
-    c.deref_mut.result.now c.restate_at.new.slots c.first_word.result c.deref_mut.ensures.value h) refl refl refl h)
+    (changed_row now after (IsRestatedSlot c.args.to Clean) c.deref_mut.result.now c.restate_at.new.slots c.first_word.result c.args.title
+    c.deref_mut.ensures.value c.first_word.ensures
+    (kept_items now.slots (IsRestatedSlot c.args.to Clean) c.deref_mut.result.now c.restate_at.new.slots c.first_word.result
+    c.deref_mut.ensures.value h) refl refl refl h)
     refl h.4).happens
 
 pub returns-clause-sound : goal.returns-clause-sound
@@ -40,8 +41,8 @@ returns-clause-sound c =
     let after : Tables = record now { slots = with_items now.slots c.restate_at.new.slots } in
     let h = c.restate_at.ensures in
     (hand_own_row now after c.args.from c.args.to c.args.title h.0 h.1 c.requires.sound c.requires.enabled
-    (changed_row now after (λ o n. IsNextSlot o n o.free (Some (record { actor = c.args.to; state = Clean })) o.refs.items)
-    c.deref_mut.result.now c.restate_at.new.slots c.first_word.result c.args.title c.deref_mut.ensures.value c.first_word.ensures
-    (kept_items now.slots (λ o n. IsNextSlot o n o.free (Some (record { actor = c.args.to; state = Clean })) o.refs.items)
-    c.deref_mut.result.now c.restate_at.new.slots c.first_word.result c.deref_mut.ensures.value h) refl refl refl h)
+    (changed_row now after (IsRestatedSlot c.args.to Clean) c.deref_mut.result.now c.restate_at.new.slots c.first_word.result c.args.title
+    c.deref_mut.ensures.value c.first_word.ensures
+    (kept_items now.slots (IsRestatedSlot c.args.to Clean) c.deref_mut.result.now c.restate_at.new.slots c.first_word.result
+    c.deref_mut.ensures.value h) refl refl refl h)
     refl h.4).sound

@@ -20,15 +20,19 @@ returns-then-len-gt0-clause-happens c =
     let now = c.args.self.now in
     let after : Tables = record now { holders = with_items now.holders c.give_bytes.new.holders } in
     let filled = c.give_bytes.ensures in
-    let kept = with_items_is now.holders c.give_bytes.new.holders (filled.len ∙ (ap length c.deref_mut.ensures.value ∙ sym now.holders.ok.0)) in
+    let kept = with_items_is now.holders c.give_bytes.new.holders
+    (filled.len ∙ (ap length c.deref_mut.ensures.value ∙ sym now.holders.ok.0)) in
     (hand_raw_row now after c.args.from c.args.to c.args.start c.args.len c.requires.sound c.requires.enabled refl refl refl refl
-    (rw kept (subst (λ (b : List (Option ℕ)). IsFilled None b c.args.start (c.args.start + c.args.len) (Some c.args.to) c.give_bytes.new.holders) c.deref_mut.ensures.value filled))).happens
+    (rw kept (subst (λ (b : List (Option ℕ)). IsFilled None b c.args.start (c.args.start + c.args.len)
+    (Some c.args.to) c.give_bytes.new.holders) c.deref_mut.ensures.value filled))).happens
 
 pub returns-then-len-gt0-clause-sound : goal.returns-then-len-gt0-clause-sound
 returns-then-len-gt0-clause-sound c =
     let now = c.args.self.now in
     let after : Tables = record now { holders = with_items now.holders c.give_bytes.new.holders } in
     let filled = c.give_bytes.ensures in
-    let kept = with_items_is now.holders c.give_bytes.new.holders (filled.len ∙ (ap length c.deref_mut.ensures.value ∙ sym now.holders.ok.0)) in
+    let kept = with_items_is now.holders c.give_bytes.new.holders
+    (filled.len ∙ (ap length c.deref_mut.ensures.value ∙ sym now.holders.ok.0)) in
     (hand_raw_row now after c.args.from c.args.to c.args.start c.args.len c.requires.sound c.requires.enabled refl refl refl refl
-    (rw kept (subst (λ (b : List (Option ℕ)). IsFilled None b c.args.start (c.args.start + c.args.len) (Some c.args.to) c.give_bytes.new.holders) c.deref_mut.ensures.value filled))).sound
+    (rw kept (subst (λ (b : List (Option ℕ)). IsFilled None b c.args.start (c.args.start + c.args.len)
+    (Some c.args.to) c.give_bytes.new.holders) c.deref_mut.ensures.value filled))).sound

@@ -11,8 +11,10 @@ use Rattle.pa_machine.proofs.tables.Tables.hand_ref.Goals as goal
 
 pub hand_ref_at-requires-clause-entry : goal.hand_ref_at-requires-clause-entry
 hand_ref_at-requires-clause-entry c =
-    let r = reads_ref c.args.self.now c.args.from c.args.title c.requires.sound (actor_is c.args.self.now c.args.from c.requires.enabled.0) c.requires.enabled.2 in
-    rw (c.first_word.ensures, c.deref_mut.ensures.value) (entry_there c.args.self.now c.args.title r.0 (λ o. Contains o.refs.items c.args.from) r.1 r.3)
+    let r = reads_ref c.args.self.now c.args.from c.args.title c.requires.sound
+    (actor_is c.args.self.now c.args.from c.requires.enabled.0) c.requires.enabled.2 in
+    rw (c.first_word.ensures, c.deref_mut.ensures.value)
+    (entry_there c.args.self.now c.args.title r.0 (λ o. Contains o.refs.items c.args.from) r.1 r.3)
 
 pub returns-clause-happens : goal.returns-clause-happens
 returns-clause-happens c =

@@ -5,7 +5,8 @@ use Rattle.pa_machine.proofs.tables.Tables.holds_own.Goals as goal
 
 pub returns-in-Some : goal.returns-in-Some
 returns-in-Some c =
-    let same = own_same c.args.self.now c.args.actor c.args.title c.args.state c.in-Some.slot.now c.requires.sound (actor_is c.args.self.now c.args.actor c.requires.actor) (sym c.in-Some.ensures) in
+    let same = own_same c.args.self.now c.args.actor c.args.title c.args.state c.in-Some.slot.now c.requires.sound
+    (actor_is c.args.self.now c.args.actor c.requires.actor) (sym c.in-Some.ensures) in
     (λ yes. same.0 (c.is_owned_by.ensures.0 yes), λ holds. c.is_owned_by.ensures.1 (same.1 holds))
 
 pub returns-in-None : goal.returns-in-None

@@ -30,6 +30,7 @@ returns-then-not-is_raw_of c = (
 
 pub returns : goal.returns
 returns c = (
-  λ yes. (raw_same c.args.self.now c.args.actor c.args.start c.args.len (actor_is c.args.self.now c.args.actor c.requires)).0 (λ b low high. c.loop-byte.invariant b low (omega arith)),
+  λ yes. (raw_same c.args.self.now c.args.actor c.args.start c.args.len (actor_is c.args.self.now c.args.actor c.requires)).0
+      (λ b low high. c.loop-byte.invariant b low (omega arith)),
   λ holds. refl,
 )

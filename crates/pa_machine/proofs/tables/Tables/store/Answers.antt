@@ -1,8 +1,8 @@
-use Rattle.std.proofs.Common.{◌/◌, refl, Some, arith}
+use Rattle.std.proofs.Common.{◌/◌, refl, arith}
 use Rattle.std.specs.Vec.{with_item, with_items}
 use Rattle.pa_slot.specs.declared.title.OwnState.TheVariants.{Dirty}
 use Rattle.pa_machine.specs.declared.tables.Tables.{Tables}
-use Rattle.pa_machine.specs.Tables.{IsNextSlot}
+use Rattle.pa_machine.specs.Tables.{IsRestatedSlot}
 use Rattle.pa_machine.proofs.Enabling.{over_entry}
 use Rattle.pa_machine.proofs.Handing.{store_own_row, store_plain_row, store_inside}
 use Rattle.pa_machine.proofs.Rows.{changed_row, kept_items, entry_there}
@@ -11,33 +11,39 @@ use Rattle.pa_machine.proofs.tables.Tables.store.Goals as goal
 pub restate_at-requires-clause-entry : goal.restate_at-requires-clause-entry
 restate_at-requires-clause-entry c =
     let f = c.in-Some.ensures.some in
-    let e = over_entry c.args.self.now c.args.at f.0 c.requires.sound f.2 in
-    rw (f.4, c.deref_mut.ensures.value) (entry_there c.args.self.now f.0.title f.0 (λ _. Unit {0}) e.0 tt)
+    let e = over_entry c.args.self.now c.args.at f.0 c.requires.sound f.3 in
+    rw (f.5, c.deref_mut.ensures.value) (entry_there c.args.self.now f.0.title f.0 (λ _. Unit {0}) e.0 tt)
 
 pub returns-in-Some-clause-happens : goal.returns-in-Some-clause-happens
 returns-in-Some-clause-happens c =
     let now = c.args.self.now in
-    let after : Tables = record now { words = with_item now.words (c.args.at / 8) c.args.value; slots = with_items now.slots c.restate_at.new.slots } in
+    let after : Tables = record now {
+      words = with_item now.words (c.args.at / 8) c.args.value;
+      slots = with_items now.slots c.restate_at.new.slots;
+    } in
     let h = c.restate_at.ensures in
     let f = c.in-Some.ensures.some in
-    (store_own_row now after c.args.actor c.args.at c.args.value f.0 f.1 h.0 h.1 c.requires.sound c.requires.enabled f.2 f.3
-    (changed_row now after (λ o n. IsNextSlot o n o.free (Some (record { actor = c.args.actor; state = Dirty })) o.refs.items)
-    c.deref_mut.result.now c.restate_at.new.slots c.in-Some.place f.0.title c.deref_mut.ensures.value f.4
-    (kept_items now.slots (λ o n. IsNextSlot o n o.free (Some (record { actor = c.args.actor; state = Dirty })) o.refs.items)
-    c.deref_mut.result.now c.restate_at.new.slots c.in-Some.place c.deref_mut.ensures.value h) refl refl refl h)
+    (store_own_row now after c.args.actor c.args.at c.args.value f.0 f.1 f.2 h.0 h.1 c.requires.sound c.requires.enabled f.3 f.4
+    (changed_row now after (IsRestatedSlot c.args.actor Dirty) c.deref_mut.result.now c.restate_at.new.slots c.in-Some.place f.0.title
+    c.deref_mut.ensures.value f.5
+    (kept_items now.slots (IsRestatedSlot c.args.actor Dirty) c.deref_mut.result.now c.restate_at.new.slots c.in-Some.place
+    c.deref_mut.ensures.value h) refl refl refl h)
     refl h.4).happens
 
 pub returns-in-Some-clause-sound : goal.returns-in-Some-clause-sound
 returns-in-Some-clause-sound c =
     let now = c.args.self.now in
-    let after : Tables = record now { words = with_item now.words (c.args.at / 8) c.args.value; slots = with_items now.slots c.restate_at.new.slots } in
+    let after : Tables = record now {
+      words = with_item now.words (c.args.at / 8) c.args.value;
+      slots = with_items now.slots c.restate_at.new.slots;
+    } in
     let h = c.restate_at.ensures in
     let f = c.in-Some.ensures.some in
-    (store_own_row now after c.args.actor c.args.at c.args.value f.0 f.1 h.0 h.1 c.requires.sound c.requires.enabled f.2 f.3
-    (changed_row now after (λ o n. IsNextSlot o n o.free (Some (record { actor = c.args.actor; state = Dirty })) o.refs.items)
-    c.deref_mut.result.now c.restate_at.new.slots c.in-Some.place f.0.title c.deref_mut.ensures.value f.4
-    (kept_items now.slots (λ o n. IsNextSlot o n o.free (Some (record { actor = c.args.actor; state = Dirty })) o.refs.items)
-    c.deref_mut.result.now c.restate_at.new.slots c.in-Some.place c.deref_mut.ensures.value h) refl refl refl h)
+    (store_own_row now after c.args.actor c.args.at c.args.value f.0 f.1 f.2 h.0 h.1 c.requires.sound c.requires.enabled f.3 f.4
+    (changed_row now after (IsRestatedSlot c.args.actor Dirty) c.deref_mut.result.now c.restate_at.new.slots c.in-Some.place f.0.title
+    c.deref_mut.ensures.value f.5
+    (kept_items now.slots (IsRestatedSlot c.args.actor Dirty) c.deref_mut.result.now c.restate_at.new.slots c.in-Some.place
+    c.deref_mut.ensures.value h) refl refl refl h)
     refl h.4).sound
 
 pub index_mut-requires-2 : goal.index_mut-requires-2
@@ -50,10 +56,12 @@ pub returns-clause-happens : goal.returns-clause-happens
 returns-clause-happens c =
     let now = c.args.self.now in
     let after : Tables = record now { words = with_item now.words (c.args.at / 8) c.args.value } in
-    (store_plain_row now after c.args.actor c.args.at c.args.value c.requires.sound c.requires.enabled c.in_default.ensures.none refl refl refl refl refl).happens
+    (store_plain_row now after c.args.actor c.args.at c.args.value c.requires.sound c.requires.enabled c.in_default.ensures.none refl refl
+    refl refl refl).happens
 
 pub returns-clause-sound : goal.returns-clause-sound
 returns-clause-sound c =
     let now = c.args.self.now in
     let after : Tables = record now { words = with_item now.words (c.args.at / 8) c.args.value } in
-    (store_plain_row now after c.args.actor c.args.at c.args.value c.requires.sound c.requires.enabled c.in_default.ensures.none refl refl refl refl refl).sound
+    (store_plain_row now after c.args.actor c.args.at c.args.value c.requires.sound c.requires.enabled c.in_default.ensures.none refl refl
+    refl refl refl).sound

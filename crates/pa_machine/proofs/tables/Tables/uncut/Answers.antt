@@ -10,9 +10,13 @@ use Rattle.pa_machine.proofs.tables.Tables.uncut.Goals as goal
 pub returns-clause-happens : goal.returns-clause-happens
 returns-clause-happens c =
     let now = c.args.self.now in
-    let after : Tables = record now { holders = with_items now.holders c.give_bytes.new.holders; slots = with_item now.slots c.first_word.result None } in
+    let after : Tables = record now {
+      holders = with_items now.holders c.give_bytes.new.holders;
+      slots = with_item now.slots c.first_word.result None;
+    } in
     let filled = c.give_bytes.ensures in
-    let kept = with_items_is now.holders c.give_bytes.new.holders (filled.len ∙ (ap length c.deref_mut.ensures.value ∙ sym now.holders.ok.0)) in
+    let kept = with_items_is now.holders c.give_bytes.new.holders
+    (filled.len ∙ (ap length c.deref_mut.ensures.value ∙ sym now.holders.ok.0)) in
     (uncut_row now after c.args.actor c.args.title c.requires.sound c.requires.enabled (record {
       words = refl;
       slots = rw c.first_word.ensures refl;
@@ -25,9 +29,13 @@ returns-clause-happens c =
 pub returns-clause-sound : goal.returns-clause-sound
 returns-clause-sound c =
     let now = c.args.self.now in
-    let after : Tables = record now { holders = with_items now.holders c.give_bytes.new.holders; slots = with_item now.slots c.first_word.result None } in
+    let after : Tables = record now {
+      holders = with_items now.holders c.give_bytes.new.holders;
+      slots = with_item now.slots c.first_word.result None;
+    } in
     let filled = c.give_bytes.ensures in
-    let kept = with_items_is now.holders c.give_bytes.new.holders (filled.len ∙ (ap length c.deref_mut.ensures.value ∙ sym now.holders.ok.0)) in
+    let kept = with_items_is now.holders c.give_bytes.new.holders
+    (filled.len ∙ (ap length c.deref_mut.ensures.value ∙ sym now.holders.ok.0)) in
     (uncut_row now after c.args.actor c.args.title c.requires.sound c.requires.enabled (record {
       words = refl;
       slots = rw c.first_word.ensures refl;

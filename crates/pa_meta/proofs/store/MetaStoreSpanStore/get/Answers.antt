@@ -17,7 +17,8 @@ read_meta-requires-clause-record c = (c.requires.1.span, c.requires.1.recorded)
 pub returns-clause-span : goal.returns-clause-span
 returns-clause-span c =
     let had = c.requires.1 in
-    c.read_meta.ensures.span had.span had.recorded ∙ sym (span_is c.args.self.now.seat.now.view.words c.args.at had.span had.payload.aligned had.recorded)
+    c.read_meta.ensures.span had.span had.recorded ∙
+    sym (span_is c.args.self.now.seat.now.view.words c.args.at had.span had.payload.aligned had.recorded)
 
 pub returns-clause-same : goal.returns-clause-same
 returns-clause-same c u = ap (λ (s : Share). spans_in s.view.words u) c.read_meta.ensures.seat

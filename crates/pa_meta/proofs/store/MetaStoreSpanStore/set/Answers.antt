@@ -34,5 +34,6 @@ returns-clause-follows c =
       refl,
       refl,
       c.write_meta.ensures.region,
-      subst (λ (x : View). Rerecorded supers v x) (sym c.write_meta.ensures.view) (rerecorded v supers c.args.at c.args.span c.requires.1.payload),
+      subst (λ (x : View). Rerecorded supers v x) (sym c.write_meta.ensures.view)
+          (rerecorded v supers c.args.at c.args.span c.requires.1.payload),
     )

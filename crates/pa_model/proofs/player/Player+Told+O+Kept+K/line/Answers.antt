@@ -13,7 +13,8 @@ returns-clause-played g c =
     let p = c.args.self.now in
     let q : Player = record { inner = c.line.new.self; lines = c.push.new.self; alloc = p.alloc } in
     let more = c.in_ok-push.ensures.pushed in
-    plays_line p q c.args.line c.in_ok-answer.answer c.requires.going c.requires.few c.requires.within (ap (λ (l : LinesSoFar). l.head) more)
+    plays_line p q c.args.line c.in_ok-answer.answer c.requires.going c.requires.few c.requires.within
+    (ap (λ (l : LinesSoFar). l.head) more)
     (ap (λ (l : LinesSoFar). l.items) more) c.in_ok-answer.ensures.played
 
 pub returns-clause-owned : goal.returns-clause-owned

@@ -11,7 +11,8 @@ returns c =
     let first : c.number-number.result < length active = let e = c.requires.can.classes.active in omega arith in
     let second : c.number-number.result < length decommitted = let e = c.requires.can.classes.decommitted in omega arith in
     let a = slice_get_read active (length active) c.number-number.result c.index_mut.result.now refl first c.index_mut.ensures.value in
-    let b = slice_get_read decommitted (length decommitted) c.number-number.result c.index_mut-2.result.now refl second c.index_mut-2.ensures.value in
+    let b = slice_get_read decommitted
+    (length decommitted) c.number-number.result c.index_mut-2.result.now refl second c.index_mut-2.ensures.value in
     record {
       empty = c.refile.ensures;
       active = (c.index_mut.result.now, c.refile-2.new.list, rw (sym same) a, c.refile-2.ensures, rw (sym same) refl);

@@ -10,7 +10,8 @@ use Rattle.pa_place.proofs.Rooms.{no_rooms}
 use Rattle.pa_place.proofs.plain_root.PlainRoot.give.Goals as goal
 
 pub give_all-requires-clause-out : goal.give_all-requires-clause-out
-give_all-requires-clause-out c = subst (λ r. All (IsOut r) (map name_of c.args.titles.now)) (sym (ap (λ (z : RoomyRoot). z.root) c.self.view_is)) c.requires.out
+give_all-requires-clause-out c =
+    subst (λ r. All (IsOut r) (map name_of c.args.titles.now)) (sym (ap (λ (z : RoomyRoot). z.root) c.self.view_is)) c.requires.out
 
 pub invariant_of-self : goal.invariant_of-self
 invariant_of-self c =

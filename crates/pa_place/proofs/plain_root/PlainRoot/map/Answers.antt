@@ -24,12 +24,15 @@ invariant_of-self c =
     let k = c.self.invariant.0 in
     let after = c.map.new.self in
     let room = ap (λ (z : RoomyRoot). z.room.map) c.self.view_is ∙ c.requires.room in
-    let a = made_step c.args.first c.args.slot c.args.entry c.map.result (root_of s) (root_of after) (good_of s k) (c.self.invariant.1.map room).few
+    let a = made_step c.args.first c.args.slot c.args.entry c.map.result (root_of s) (root_of after) (good_of s k)
+    (c.self.invariant.1.map room).few
     (subst (λ z. IsBornBelow c.args.entry z) (sym e) c.requires.born) c.map.ensures.title c.map.ensures.mapped in
     let many = c.map.ensures.many in
     let few = k.spans in
-    let spans = ap (λ (r : Root). r.spans) c.map.ensures.mapped in
-    (kept_by after (root_of after) refl a.good (omega arith) (same_filed s after spans c.map.ensures.lists k.filed), rw c.none-self-inside.ensures (no_rooms after c.self.inside.spare.items))
+    let spans = ap (λ (r : Root). r.spans) c.map.ensures.mapped in (
+      kept_by after (root_of after) refl a.good (omega arith) (same_filed s after spans c.map.ensures.lists k.filed),
+      rw c.none-self-inside.ensures (no_rooms after c.self.inside.spare.items),
+    )
 
 pub returns-clause-step : goal.returns-clause-step
 returns-clause-step c =
@@ -38,6 +41,7 @@ returns-clause-step c =
     let k = c.self.invariant.0 in
     let after = c.map.new.self in
     let room = ap (λ (z : RoomyRoot). z.room.map) c.self.view_is ∙ c.requires.room in
-    let a = made_step c.args.first c.args.slot c.args.entry c.map.result (root_of s) (root_of after) (good_of s k) (c.self.invariant.1.map room).few
+    let a = made_step c.args.first c.args.slot c.args.entry c.map.result (root_of s) (root_of after) (good_of s k)
+    (c.self.invariant.1.map room).few
     (subst (λ z. IsBornBelow c.args.entry z) (sym e) c.requires.born) c.map.ensures.title c.map.ensures.mapped in
     subst (λ z. IsStep c.args.entry (c.args.entry + 1) z (root_of after)) e a.step

@@ -14,8 +14,10 @@ invariant_of-self c =
     let k = c.self.invariant.0 in
     let a = purges (root_of s) (root_of c.purge.new.self) (good_of s k) c.purge.ensures.purged c.purge.ensures.ordered in
     let many = c.purge.ensures.many in
-    let few = k.spans in
-    (kept_by c.purge.new.self (root_of c.purge.new.self) refl a.good (omega arith) c.purge.ensures.filed, rw c.none-self-inside.ensures (no_rooms c.purge.new.self c.self.inside.spare.items))
+    let few = k.spans in (
+      kept_by c.purge.new.self (root_of c.purge.new.self) refl a.good (omega arith) c.purge.ensures.filed,
+      rw c.none-self-inside.ensures (no_rooms c.purge.new.self c.self.inside.spare.items),
+    )
 
 pub returns-clause-step : goal.returns-clause-step
 returns-clause-step c = λ n.

@@ -16,12 +16,17 @@ invariant_of-self c =
     let k = c.self.invariant.0 in
     let after = c.takes.new.self in
     let real : c.args.class < 170 = search rules in
-    let b = filled_step c.args.class c.args.want (root_of s) (root_of after) c.takes.new.titles.items (good_of s k) real c.requires.few c.takes.ensures.filled c.takes.ensures.ordered in
-    let takes = subst (λ room. HasTakes c.args.class c.args.want room) (sym (ap (λ (z : RoomyRoot). z.room) c.self.view_is)) c.requires.room in
-    let room = (given_room s c.self.inside.spare.items c.self.inside.room c.args.class c.args.want c.requires.some takes c.self.invariant.1).room in
+    let b = filled_step c.args.class c.args.want (root_of s) (root_of after) c.takes.new.titles.items
+    (good_of s k) real c.requires.few c.takes.ensures.filled c.takes.ensures.ordered in
+    let takes = subst (λ room. HasTakes c.args.class c.args.want room)
+    (sym (ap (λ (z : RoomyRoot). z.room) c.self.view_is)) c.requires.room in
+    let room = (given_room s c.self.inside.spare.items c.self.inside.room c.args.class c.args.want c.requires.some takes
+    c.self.invariant.1).room in
     let many = c.takes.ensures.many in
-    let few = room.few in
-    (kept_by after (root_of after) refl b.good (omega arith) c.takes.ensures.filed, rw c.none-self-inside.ensures (no_rooms after c.replace-blanks.new.dest.items))
+    let few = room.few in (
+      kept_by after (root_of after) refl b.good (omega arith) c.takes.ensures.filed,
+      rw c.none-self-inside.ensures (no_rooms after c.replace-blanks.new.dest.items),
+    )
 
 pub returns-clause-step : goal.returns-clause-step
 returns-clause-step c = λ n.
@@ -30,7 +35,8 @@ returns-clause-step c = λ n.
     let k = c.self.invariant.0 in
     let after = c.takes.new.self in
     let real : c.args.class < 170 = search rules in
-    let b = filled_step c.args.class c.args.want (root_of s) (root_of after) c.takes.new.titles.items (good_of s k) real c.requires.few c.takes.ensures.filled c.takes.ensures.ordered in
+    let b = filled_step c.args.class c.args.want (root_of s) (root_of after) c.takes.new.titles.items
+    (good_of s k) real c.requires.few c.takes.ensures.filled c.takes.ensures.ordered in
     subst (λ z. IsStep n n z (root_of after)) e (in_place n (root_of s) (root_of after) b)
 
 pub returns-clause-maps : goal.returns-clause-maps
@@ -40,7 +46,8 @@ returns-clause-maps c =
     let k = c.self.invariant.0 in
     let after = c.takes.new.self in
     let real : c.args.class < 170 = search rules in
-    let b = filled_step c.args.class c.args.want (root_of s) (root_of after) c.takes.new.titles.items (good_of s k) real c.requires.few c.takes.ensures.filled c.takes.ensures.ordered in
+    let b = filled_step c.args.class c.args.want (root_of s) (root_of after) c.takes.new.titles.items
+    (good_of s k) real c.requires.few c.takes.ensures.filled c.takes.ensures.ordered in
     b.maps ∙ ap (λ (z : Root). z.maps) e
 
 pub returns-clause-made : goal.returns-clause-made
@@ -50,7 +57,8 @@ returns-clause-made c =
     let k = c.self.invariant.0 in
     let after = c.takes.new.self in
     let real : c.args.class < 170 = search rules in
-    let b = filled_step c.args.class c.args.want (root_of s) (root_of after) c.takes.new.titles.items (good_of s k) real c.requires.few c.takes.ensures.filled c.takes.ensures.ordered in
+    let b = filled_step c.args.class c.args.want (root_of s) (root_of after) c.takes.new.titles.items
+    (good_of s k) real c.requires.few c.takes.ensures.filled c.takes.ensures.ordered in
     let m = cuts_made c.args.class c.args.want (root_of s) k.ready real in
     let same = ap (λ (f : Filled). f.root) c.takes.ensures.filled in
     subst (λ z. AreMadeNow c.args.class z (root_of after) c.takes.new.made.items) e

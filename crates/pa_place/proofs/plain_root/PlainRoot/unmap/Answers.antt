@@ -18,8 +18,10 @@ invariant_of-self c =
     let a = unmapped_step (name_of c.args.title) (root_of s) (root_of after) (good_of s k) c.unmap.ensures.unmapped in
     let many = c.unmap.ensures.many in
     let few = k.spans in
-    let spans = ap (λ (r : Root). r.spans) c.unmap.ensures.unmapped in
-    (kept_by after (root_of after) refl a.good (omega arith) (same_filed s after spans c.unmap.ensures.lists k.filed), rw c.none-self-inside.ensures (no_rooms after c.self.inside.spare.items))
+    let spans = ap (λ (r : Root). r.spans) c.unmap.ensures.unmapped in (
+      kept_by after (root_of after) refl a.good (omega arith) (same_filed s after spans c.unmap.ensures.lists k.filed),
+      rw c.none-self-inside.ensures (no_rooms after c.self.inside.spare.items),
+    )
 
 pub returns-clause-step : goal.returns-clause-step
 returns-clause-step c = λ n.

@@ -7,5 +7,7 @@ use Rattle.pa_place.proofs.plain_span.PlainSpan.is_used_up.Goals as goal
 pub returns-else-is_empty : goal.returns-else-is_empty
 returns-else-is_empty c =
     let i = c.self.inside in
-    let free = ap (λ (s : Span). s.free) c.self.view_is in
-    (λ yes. absurd (both_ways _ c.if-is_empty.false yes), λ none. c.is_empty.ensures.1 (none_back i.returned.items i.kept_from i.provisioned (free ∙ none)))
+    let free = ap (λ (s : Span). s.free) c.self.view_is in (
+      λ yes. absurd (both_ways _ c.if-is_empty.false yes),
+      λ none. c.is_empty.ensures.1 (none_back i.returned.items i.kept_from i.provisioned (free ∙ none)),
+    )

@@ -21,10 +21,12 @@ returns-then-number-self-clause-none c = λ n out.
     elim c.then-number-self.branch [
       | then-number-self-via-then-number-self w ↦
           let h = w.if-number-self.true in
-          out.out (subst (λ xs. Contains xs n) q (kept_listed i.returned.items i.kept_from i.provisioned n (omega (arith, h, e, f)) (omega (arith, p, k))))
+          out.out (subst (λ xs. Contains xs n) q
+          (kept_listed i.returned.items i.kept_from i.provisioned n (omega (arith, h, e, f)) (omega (arith, p, k))))
       | then-number-self-via-else-number-self+then-has w ↦
           let among = w.has.ensures.0 w.if-has.true in
-          out.out (subst (λ xs. Contains xs n) q (back_listed i.returned.items i.kept_from i.provisioned n (subst (λ k. Contains i.returned.items k) (f ∙ e) among)))
+          out.out (subst (λ xs. Contains xs n) q
+          (back_listed i.returned.items i.kept_from i.provisioned n (subst (λ k. Contains i.returned.items k) (f ∙ e) among)))
     ]
 
 pub has-requires : goal.has-requires

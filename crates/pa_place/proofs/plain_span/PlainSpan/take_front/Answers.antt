@@ -16,4 +16,5 @@ returns-in-None-clause-front c =
     let back = ap length none in
     let some = c.requires.some in
     let low : from < to = omega (arith, long, back, some) in
-    sym q ∙ ap (λ xs. xs ++ numbers from (to - from)) none ∙ numbers_step from to low ∙ ap (λ xs. from ∷ (xs ++ numbers (from + 1) (to - (from + 1)))) (sym after)
+    sym q ∙ ap (λ xs. xs ++ numbers from (to - from)) none ∙ numbers_step from to low ∙
+    ap (λ xs. from ∷ (xs ++ numbers (from + 1) (to - (from + 1)))) (sym after)

@@ -17,9 +17,11 @@ take_front-number-requires-clause-fits c =
 
 pub title-requires-clause-low : goal.title-requires-clause-low
 title-requires-clause-low c =
-    served_low c.args.self.now c.make_front.new.self c.take_front-number.new.self c.make_front.ensures c.take_front-number.ensures.after c.requires.low
+    served_low c.args.self.now c.make_front.new.self c.take_front-number.new.self c.make_front.ensures c.take_front-number.ensures.after
+    c.requires.low
 
 pub title-requires-clause-number : goal.title-requires-clause-number
 title-requires-clause-number c =
-    served_number c.args.self.now c.make_front.new.self c.take_front-number.new.self c.take_front-number.result c.make_front.ensures c.take_front-number.ensures.front c.take_front-number.ensures.after
+    served_number c.args.self.now c.make_front.new.self c.take_front-number.new.self c.take_front-number.result c.make_front.ensures
+    c.take_front-number.ensures.front c.take_front-number.ensures.after
     c.requires.counted c.requires.some

@@ -28,5 +28,8 @@ invariant_of-self c =
             rw w.push_reserved.ensures.items (took_sound s.supers s.entries (s.entries + 1) s.taken.items t c.self.invariant.1
                 c.requires.some run),
           )
-      | in_default w ↦ rw w.self-inside-is (c.self.invariant.0, entered_sound s.supers s.entries (s.entries + 1) s.taken.items c.self.invariant.1)
+      | in_default w ↦ rw w.self-inside-is (
+        c.self.invariant.0,
+        entered_sound s.supers s.entries (s.entries + 1) s.taken.items c.self.invariant.1,
+      )
     ]

@@ -39,4 +39,5 @@ returns c =
     let mapped = rw c.deref-2.ensures.value at c.mapped_of-mapped.ensures.bytes in
     let supers = rw c.deref-2.ensures.value at c.mapped_of-mapped.ensures.supers in
     let many : c.len.result ≡ length c.args.self.now.supers.items = search rules in
-    census_by (root_of c.args.self.now) _ _ _ _ _ _ _ _ _ _ _ _ slots bytes pages mapped many supers full active empty decommitted c.from.ensures c.from-2.ensures
+    census_by (root_of c.args.self.now) _ _ _ _ _ _ _ _ _ _ _ _ slots bytes pages mapped many supers full active empty decommitted
+    c.from.ensures c.from-2.ensures

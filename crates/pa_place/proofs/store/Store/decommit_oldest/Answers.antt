@@ -18,7 +18,8 @@ use Rattle.pa_place.proofs.store.Store.decommit_oldest.Goals as goal
 pub index_mut-requires : goal.index_mut-requires
 index_mut-requires c =
     let first = rw c.deref.ensures.value at c.in-Some.ensures in
-    let within = ring_there c.args.self.now.spans.items c.args.self.now.lists.empty.items 0 c.in-Some.at c.requires.filed.empty (sym first) in
+    let within = ring_there c.args.self.now.spans.items c.args.self.now.lists.empty.items 0 c.in-Some.at c.requires.filed.empty
+    (sym first) in
     omega arith
 
 pub enter-requires : goal.enter-requires
@@ -55,10 +56,12 @@ returns-in-Some-clause-oldest c =
     let here = slice_get_read ss (length ss) at s refl within c.index_mut.ensures.value in
     let u = c.drop_pages.new.self in
     let (rest, e) = listed_first ids at first in
-    let oldest = first_is_earliest (is_in state.Empty) r at rest s c.requires.sound (empties_used r) (subst (λ xs. IsListing (is_in state.Empty) ss xs) e c.requires.filed.empty) here in
+    let oldest = first_is_earliest (is_in state.Empty) r at rest s c.requires.sound (empties_used r)
+    (subst (λ xs. IsListing (is_in state.Empty) ss xs) e c.requires.filed.empty) here in
     let turn = c.args.self.now.turn in
     entered_after r (root_of c.enter.new.self) at s u state.Decommitted here c.enter.ensures.entered
-    ∙ decommitted_root r at s u (in_state state.Decommitted turn u) (turn_after state.Decommitted turn u) c.requires.sound oldest here c.drop_pages.ensures refl refl
+    ∙ decommitted_root r at s u (in_state state.Decommitted turn u)
+    (turn_after state.Decommitted turn u) c.requires.sound oldest here c.drop_pages.ensures refl refl
 
 pub returns-in-Some-clause-ordered : goal.returns-in-Some-clause-ordered
 returns-in-Some-clause-ordered c =
@@ -74,10 +77,12 @@ returns-in-Some-clause-ordered c =
     let turn = c.args.self.now.turn in
     let like : IsLike u s = rw c.drop_pages.ensures (record { place = refl; born = refl; class = refl }) in
     subst IsOrdered (sym (entered_after r (root_of c.enter.new.self) at s u state.Decommitted here c.enter.ensures.entered))
-    (order_changed r at s u (in_state state.Decommitted turn u) (turn_after state.Decommitted turn u) state.Decommitted c.requires.ordered here like refl)
+    (order_changed r at s u (in_state state.Decommitted turn u)
+    (turn_after state.Decommitted turn u) state.Decommitted c.requires.ordered here like refl)
 
 pub returns-in_default-clause-oldest : goal.returns-in_default-clause-oldest
 returns-in_default-clause-oldest c =
     let r = root_of c.args.self.now in
     let none = listed_none c.args.self.now.lists.empty.items (sym (rw c.deref.ensures.value at c.in_default.ensures)) in
-    sym (ap (λ o. decommitted_span o r) (none_is_earliest (is_in state.Empty) r.spans (subst (λ xs. IsListing (is_in state.Empty) r.spans xs) none c.requires.filed.empty)))
+    sym (ap (λ o. decommitted_span o r)
+    (none_is_earliest (is_in state.Empty) r.spans (subst (λ xs. IsListing (is_in state.Empty) r.spans xs) none c.requires.filed.empty)))

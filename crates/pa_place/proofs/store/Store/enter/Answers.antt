@@ -12,7 +12,8 @@ refile-requires-clause-can c =
     let ss = c.args.self.now.spans.items in
     let s = c.index-span.result.now in
     let here = slice_get_read ss (length ss) c.args.at s refl c.requires.here c.index-span.ensures in
-    rw (c.class-class.ensures, c.state-was.ensures, c.deref.ensures.value) (can_file ss c.args.at s c.args.to c.args.self.now.lists here c.requires.ring c.requires.filed)
+    rw (c.class-class.ensures, c.state-was.ensures, c.deref.ensures.value)
+    (can_file ss c.args.at s c.args.to c.args.self.now.lists here c.requires.ring c.requires.filed)
 
 pub returns-clause-entered : goal.returns-clause-entered
 returns-clause-entered c = λ s e.
@@ -30,9 +31,14 @@ returns-clause-filed c =
     let t = c.index_mut.result.now in
     let there = slice_get_read ss (length ss) c.args.at t refl c.requires.here c.index_mut.ensures.value in
     let same : s ≡ t = of_some s t (sym here ∙ there) in
-    let done : IsFiledAnew s.class s.state c.args.to c.args.at c.args.self.now.lists c.refile.new.self = rw (c.class-class.ensures, c.state-was.ensures) at c.refile.ensures in
-    let next = filed_anew ss c.args.at s c.args.to c.args.self.now.turn c.args.self.now.lists c.refile.new.self here c.requires.turns done c.requires.filed in
-    subst (λ z. AreFiled (slice_set ss c.args.at z) c.refile.new.self) (ap (in_state c.args.to c.args.self.now.turn) same ∙ sym c.enter-self.ensures.state) next
+    let done : IsFiledAnew s.class s.state c.args.to c.args.at c.args.self.now.lists c.refile.new.self =
+    rw (c.class-class.ensures, c.state-was.ensures) at c.refile.ensures in
+    let next = filed_anew ss c.args.at s c.args.to c.args.self.now.turn c.args.self.now.lists c.refile.new.self here c.requires.turns done
+    c.requires.filed in
+    subst (λ z. AreFiled (slice_set ss c.args.at z) c.refile.new.self)
+    (ap (in_state c.args.to c.args.self.now.turn) same ∙ sym c.enter-self.ensures.state) next
 
 pub returns-clause-lists : goal.returns-clause-lists
-returns-clause-lists c = λ class n h. room_anew c.class-class.result n class c.state-was.result c.args.to c.args.at c.args.self.now.lists c.refile.new.self c.refile.ensures h
+returns-clause-lists c =
+    λ class n h. room_anew c.class-class.result n class c.state-was.result c.args.to c.args.at c.args.self.now.lists c.refile.new.self
+    c.refile.ensures h

@@ -7,7 +7,8 @@ use Rattle.pa_place.proofs.store.Store.give.Goals as goal
 
 pub settle-requires-clause-sound : goal.settle-requires-clause-sound
 settle-requires-clause-sound c =
-    subst IsSound (sym c.put_back.ensures.back) (put_back_out (root_of c.args.self.now) c.args.name c.requires.sound c.requires.out).kept.sound
+    subst IsSound (sym c.put_back.ensures.back)
+    (put_back_out (root_of c.args.self.now) c.args.name c.requires.sound c.requires.out).kept.sound
 
 pub settle-requires-clause-turn : goal.settle-requires-clause-turn
 settle-requires-clause-turn c =

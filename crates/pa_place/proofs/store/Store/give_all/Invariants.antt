@@ -9,7 +9,8 @@ use Rattle.pa_place.proofs.store.Store.give_all.Given as goal
 
 abbrev pub invariant-loop-title : goal.invariant-loop-title
 invariant-loop-title l = record {
-  left : all_returned (map name_of (drop l.title-index l.titles)) (root_of l.self) ≡ all_returned (map name_of l.titles) (root_of l.initial.self);
+  left : all_returned (map name_of (drop l.title-index l.titles)) (root_of l.self) ≡ all_returned (map name_of l.titles)
+      (root_of l.initial.self);
   sound : IsSound (root_of l.self);
   ordered : IsOrdered (root_of l.self);
   filed : IsFiled l.self;

@@ -7,6 +7,8 @@ use Rattle.pa_place.proofs.store.Store.latest_active.Goals as goal
 pub returns : goal.returns
 returns c =
     let real : c.args.class < 170 = search rules in
-    let k = class_latest state.Active c.args.class (root_of c.args.self.now) c.args.self.now.lists.active.items c.last_listed.result refl c.requires.sound real c.requires.filed.active
+    let k = class_latest state.Active c.args.class
+    (root_of c.args.self.now) c.args.self.now.lists.active.items c.last_listed.result refl c.requires.sound real
+    c.requires.filed.active
     (rw c.deref.ensures.value at c.last_listed.ensures) in
     record { latest = k.latest; within = k.within }

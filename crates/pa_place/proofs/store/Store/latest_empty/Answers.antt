@@ -30,8 +30,10 @@ returns-then-eq-clause-latest c =
     let here = slice_get_read ss (length ss) c.index-at.result.now c.index.result.now refl within c.index.ensures in
     let step : c.loop-listed.listed ≡ k + 1 = omega arith in
     let others = subst (λ n. OthersFrom n c.args.class ids ss) step c.loop-listed.invariant.others in
-    let hit : is_class c.args.class c.index.result.now ≡ true = sym (ap (λ n. eqb n c.args.class) c.class.ensures) ∙ sym c.eq.ensures ∙ c.if-eq.true in
-    ring_latest c.args.class (root_of c.args.self.now) ids k c.index-at.result.now c.index.result.now c.requires.sound c.requires.filed.empty at here hit others
+    let hit : is_class c.args.class c.index.result.now ≡ true = sym (ap (λ n. eqb n c.args.class) c.class.ensures) ∙ sym c.eq.ensures ∙
+    c.if-eq.true in
+    ring_latest c.args.class
+    (root_of c.args.self.now) ids k c.index-at.result.now c.index.result.now c.requires.sound c.requires.filed.empty at here hit others
 
 pub returns-then-eq-clause-within : goal.returns-then-eq-clause-within
 returns-then-eq-clause-within c =
@@ -57,7 +59,8 @@ loop-listed-preserved c =
     let here = slice_get_read ss (length ss) c.index-at.result.now c.index.result.now refl within c.index.ensures in
     let step : c.loop-listed.listed ≡ k + 1 = omega arith in
     let others = subst (λ n. OthersFrom n c.args.class ids ss) step c.loop-listed.invariant.others in
-    let miss : is_class c.args.class c.index.result.now ≡ false = sym (ap (λ n. eqb n c.args.class) c.class.ensures) ∙ sym c.eq.ensures ∙ c.if-eq.false in
+    let miss : is_class c.args.class c.index.result.now ≡ false = sym (ap (λ n. eqb n c.args.class) c.class.ensures) ∙ sym c.eq.ensures ∙
+    c.if-eq.false in
     record {
       others = others_from c.args.class k c.index-at.result.now ids ss c.index.result.now at here miss others;
       low = omega arith;
@@ -69,4 +72,5 @@ returns-clause-latest c =
     let ids = c.args.self.now.lists.empty.items in
     let over = c.loop-listed-test.false in
     let none : c.loop-listed.listed ≡ 0 = omega arith in
-    sym (ring_none c.args.class ss ids c.requires.filed.empty (subst (λ n. OthersFrom n c.args.class ids ss) none c.loop-listed.invariant.others))
+    sym (ring_none c.args.class ss ids c.requires.filed.empty
+    (subst (λ n. OthersFrom n c.args.class ids ss) none c.loop-listed.invariant.others))

@@ -26,5 +26,7 @@ returns-clause-some c =
     let at = c.in_ok-at.at in
     let found : position (is_named name) r.maps ≡ Some at = sym (rw c.deref.ensures.value at c.in_ok-at.ensures) in
     let (within, passes, first) = position-Some (is_named name) r.maps at t found in
-    let same : t ≡ get_or r.maps at t = c.index.ensures in
-    (subst (λ z. Contains r.maps z) (sym same) (Contains-get_or r.maps at t within), named_tells name t (subst (λ z. is_named name z ≡ true) (sym same) passes))
+    let same : t ≡ get_or r.maps at t = c.index.ensures in (
+      subst (λ z. Contains r.maps z) (sym same) (Contains-get_or r.maps at t within),
+      named_tells name t (subst (λ z. is_named name z ≡ true) (sym same) passes),
+    )

@@ -25,16 +25,20 @@ returns-clause-place c =
     let same = c.listed-listed.ensures in
     let none = unlisted c.args.class r c.listed-listed.result same.listed (sym c.if-is_some.ensures) in
     let many = c.args.self.now.spans.ok in
-    new_place c.args.class r (root_of c.add_span.new.self) c.in_ok-at.at c.len-place.result none (sym c.in_ok-at.ensures) c.add_span.ensures.after (let k = c.len-place.ensures in omega arith)
+    new_place c.args.class r (root_of c.add_span.new.self) c.in_ok-at.at c.len-place.result none
+    (sym c.in_ok-at.ensures) c.add_span.ensures.after (let k = c.len-place.ensures in omega arith)
 
 pub returns-clause-blanks : goal.returns-clause-blanks
-returns-clause-blanks c = λ n h. blanks_popped c.args.class n c.args.blanks.now.items c.pop.new.self.items c.unwrap-span.result (rw c.unwrap-span.ensures at c.pop.ensures.items) h
+returns-clause-blanks c =
+    λ n h. blanks_popped c.args.class n c.args.blanks.now.items c.pop.new.self.items c.unwrap-span.result
+    (rw c.unwrap-span.ensures at c.pop.ensures.items) h
 
 pub returns-clause-ordered : goal.returns-clause-ordered
 returns-clause-ordered c =
     let r = root_of c.args.self.now in
     let room = is_room c.args.class r c.in_ok-at.at (sym c.in_ok-at.ensures) in
-    subst IsOrdered (sym c.add_span.ensures.after) (order_push c.args.class r c.in_ok-at.at c.requires.ready.sound c.requires.ordered room.now)
+    subst IsOrdered (sym c.add_span.ensures.after)
+    (order_push c.args.class r c.in_ok-at.at c.requires.ready.sound c.requires.ordered room.now)
 
 pub returns-clause-filed : goal.returns-clause-filed
 returns-clause-filed c =

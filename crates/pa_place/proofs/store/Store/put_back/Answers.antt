@@ -89,8 +89,10 @@ returns-in-Some-clause-ordered c =
     let turn = c.args.self.now.turn in
     let to = c.state_back-state.result in
     let like : IsLike u s = rw c.put_back.ensures (record { place = refl; born = refl; class = refl }) in
-    subst IsOrdered (sym (entered_after (root_of c.args.self.now) (root_of c.enter.new.self) c.in-Some.at s u to here c.enter.ensures.entered))
-    (order_changed (root_of c.args.self.now) c.in-Some.at s u (in_state to turn u) (turn_after to turn u) to c.requires.ordered here like refl)
+    subst IsOrdered (sym (entered_after (root_of c.args.self.now)
+    (root_of c.enter.new.self) c.in-Some.at s u to here c.enter.ensures.entered))
+    (order_changed (root_of c.args.self.now) c.in-Some.at s u (in_state to turn u)
+    (turn_after to turn u) to c.requires.ordered here like refl)
 
 pub index_holding-requires : goal.index_holding-requires
 index_holding-requires c = rw c.deref.ensures.value (record { order = c.requires.ordered.spans })

@@ -49,7 +49,8 @@ returns-clause-none c =
     let found = rw c.deref.ensures.value at c.in_ok-at.ensures in
     let here = slice_get_read ss (length ss) c.in_ok-at.at s refl found.within c.index.ensures in
     let held : find (holds c.args.name) ss ≡ Some s = sym found.holding ∙ here in
-    by_cases c.out.result (λ e. not_out (root_of c.args.self.now) s c.args.name c.requires.ready held (subst (λ o. IfNone o ((n : ℕ) → IsOutOf s c.args.name n → ⊥)) e c.out.ensures.none))
+    by_cases c.out.result (λ e. not_out (root_of c.args.self.now) s c.args.name c.requires.ready held
+    (subst (λ o. IfNone o ((n : ℕ) → IsOutOf s c.args.name n → ⊥)) e c.out.ensures.none))
   where
     by_cases : {P : Type 0} (o : Option Title) → (o ≡ None → P) → IfNone o P
     by_cases None h = h refl
@@ -63,7 +64,8 @@ returns-clause-some c =
     let here = slice_get_read ss (length ss) c.in_ok-at.at s refl found.within c.index.ensures in
     let held : find (holds c.args.name) ss ≡ Some s = sym found.holding ∙ here in
     let among = (holder_is (root_of c.args.self.now) s c.args.name c.requires.ready held).among in
-    by_title c.out.result c.out.ensures.some (λ t h. slot_is_out (root_of c.args.self.now) s t c.args.name (number_in s c.args.name) among h.0 h.1)
+    by_title c.out.result c.out.ensures.some
+    (λ t h. slot_is_out (root_of c.args.self.now) s t c.args.name (number_in s c.args.name) among h.0 h.1)
   where
     by_title : {P Q : Title → Type 0} (o : Option Title) → IfSome o P → ((t : Title) → P t → Q t) → IfSome o Q
     by_title None p f = tt

@@ -35,7 +35,8 @@ enter-requires c =
     record {
       here = set_within ss c.args.at u within;
       filed = filed_alike ss c.args.at s u c.args.self.now.lists here n.class n.state n.turn c.requires.filed;
-      turns = turns_alike ss c.args.at c.args.self.now.turn s u here n.state n.turn (sound_turns (root_of c.args.self.now) c.requires.ready.sound);
+      turns = turns_alike ss c.args.at c.args.self.now.turn s u here n.state n.turn
+          (sound_turns (root_of c.args.self.now) c.requires.ready.sound);
       ring = λ e. absurd (in_use_other u (sym c.state_in_use-state.ensures ∙ e));
       turn = c.requires.turn;
     }
@@ -48,13 +49,16 @@ returns-clause-took c = λ s e.
     let here = slice_get_read ss (length ss) c.args.at v refl within c.index_mut-span.ensures.value in
     let same : v ≡ s = of_some v s (sym here ∙ e) in
     let u = c.take_slot-title.new.self in
-    let served : IsServed s u c.take_slot-title.result = subst (λ z. IsServed z u c.take_slot-title.result) same c.take_slot-title.ensures in
+    let served : IsServed s u c.take_slot-title.result =
+    subst (λ z. IsServed z u c.take_slot-title.result) same c.take_slot-title.ensures in
     let turn = c.args.self.now.turn in
     let to = c.state_in_use-state.result in
-    served_root (root_of c.args.self.now) c.args.at s u (in_state to turn u) c.take_slot-title.result (turn_after to turn u) c.requires.ready.sound e served
+    served_root (root_of c.args.self.now) c.args.at s u (in_state to turn u) c.take_slot-title.result
+    (turn_after to turn u) c.requires.ready.sound e served
     (ap (λ a. in_state a turn u) c.state_in_use-state.ensures)
     (ap (λ a. turn_after a turn u) c.state_in_use-state.ensures)
-    ∙ ap (λ z. record { root = z; title = Some c.take_slot-title.result }) (sym (entered_after (root_of c.args.self.now) (root_of c.enter.new.self) c.args.at s u to e c.enter.ensures.entered))
+    ∙ ap (λ z. record { root = z; title = Some c.take_slot-title.result })
+    (sym (entered_after (root_of c.args.self.now) (root_of c.enter.new.self) c.args.at s u to e c.enter.ensures.entered))
 
 pub returns-clause-ordered : goal.returns-clause-ordered
 returns-clause-ordered c =
@@ -77,7 +81,8 @@ tell_made-requires-clause-low c =
     let here = slice_get_read ss (length ss) c.args.at s refl within c.index_mut-span.ensures.value in
     let among = at_in ss c.args.at s here in
     let served = c.take_slot-title.ensures in
-    served_low s (with_free s) c.take_slot-title.new.self refl (served_after s c.take_slot-title.new.self c.take_slot-title.result served) (span_low (root_of c.args.self.now) s c.requires.ready among)
+    served_low s (with_free s) c.take_slot-title.new.self refl (served_after s c.take_slot-title.new.self c.take_slot-title.result served)
+    (span_low (root_of c.args.self.now) s c.requires.ready among)
 
 pub tell_made-requires-clause-most : goal.tell_made-requires-clause-most
 tell_made-requires-clause-most c =
@@ -98,7 +103,8 @@ returns-clause-cut c = λ s e.
     let within = slice_get_within ss c.args.at s e in
     let here = slice_get_read ss (length ss) c.args.at v refl within c.index_mut-span.ensures.value in
     let same : v ≡ s = of_some v s (sym here ∙ e) in
-    let served : IsServed s c.take_slot-title.new.self c.take_slot-title.result = subst (λ z. IsServed z c.take_slot-title.new.self c.take_slot-title.result) same c.take_slot-title.ensures in
+    let served : IsServed s c.take_slot-title.new.self c.take_slot-title.result =
+    subst (λ z. IsServed z c.take_slot-title.new.self c.take_slot-title.result) same c.take_slot-title.ensures in
     c.tell_made.ensures.batch
     ∙ ap (λ n. c.args.made.now.items ++ made_from n c.take_slot-title.new.self) (c.made-before.ensures ∙ ap (λ (z : Span). z.made) same)
     ∙ ap (λ xs. c.args.made.now.items ++ xs) (served_cut s.made s c.take_slot-title.new.self c.take_slot-title.result served)

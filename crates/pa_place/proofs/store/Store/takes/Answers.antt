@@ -25,8 +25,10 @@ loop-taken-preserved c =
     let took = c.in-Some.ensures.took in
     let a = take_ready class r next (Some c.in-Some.title) inv.ready c.requires.real took in
     record {
-      filled = rw c.push.ensures.items (inv.filled ∙ ap (λ i. with_taken titles (takes class i r)) step ∙ take_more class k r next titles c.in-Some.title took);
-      cut = inv.cut ∙ ap (λ i. l_made ++ takes_cut class i r) step ∙ cut_more class k r next l_made c.in-Some.title took ∙ ap (λ xs. xs ++ takes_cut class k next) (sym c.in-Some.ensures.cut);
+      filled = rw c.push.ensures.items (inv.filled ∙ ap (λ i. with_taken titles (takes class i r)) step ∙
+          take_more class k r next titles c.in-Some.title took);
+      cut = inv.cut ∙ ap (λ i. l_made ++ takes_cut class i r) step ∙ cut_more class k r next l_made c.in-Some.title took ∙
+          ap (λ xs. xs ++ takes_cut class k next) (sym c.in-Some.ensures.cut);
       told = let p = c.take.ensures.more in let q = inv.told in omega arith;
       ready = a.ready;
       ordered = c.take.ensures.ordered;
@@ -49,7 +51,8 @@ returns-in-None-clause-filled c =
     let k = c.args.want - (c.loop-taken._taken + 1) in
     let step : c.args.want - c.loop-taken._taken ≡ suc k = omega arith in
     let titles = c.loop-taken.titles.items in
-    inv.filled ∙ ap (λ i. with_taken titles (takes class i r)) step ∙ take_none class k r (root_of c.take.new.self) titles c.in-None.ensures.took
+    inv.filled ∙ ap (λ i. with_taken titles (takes class i r)) step ∙
+    take_none class k r (root_of c.take.new.self) titles c.in-None.ensures.took
 
 pub returns-after-loop-taken-clause-filled : goal.returns-after-loop-taken-clause-filled
 returns-after-loop-taken-clause-filled c =
@@ -69,17 +72,20 @@ returns-in-None-clause-blanks c =
     let less = c.loop-taken-test.true in
     let k = c.args.want - (c.loop-taken._taken + 1) in
     let step : c.args.want - c.loop-taken._taken ≡ k + 1 = omega arith in
-    some_blanks c.args.class k c.take.new.blanks.items (c.take.ensures.blanks k (subst (λ i. HasBlanks c.args.class i c.loop-taken.blanks.items) step c.loop-taken.invariant.blanks))
+    some_blanks c.args.class k c.take.new.blanks.items
+    (c.take.ensures.blanks k (subst (λ i. HasBlanks c.args.class i c.loop-taken.blanks.items) step c.loop-taken.invariant.blanks))
 
 pub returns-after-loop-taken-clause-blanks : goal.returns-after-loop-taken-clause-blanks
-returns-after-loop-taken-clause-blanks c = some_blanks c.args.class (c.args.want - c.loop-taken._taken) c.loop-taken.blanks.items c.loop-taken.invariant.blanks
+returns-after-loop-taken-clause-blanks c =
+    some_blanks c.args.class (c.args.want - c.loop-taken._taken) c.loop-taken.blanks.items c.loop-taken.invariant.blanks
 
 pub take-requires-clause-lists : goal.take-requires-clause-lists
 take-requires-clause-lists c =
     let inv = c.loop-taken.invariant in
     let less = c.loop-taken-test.true in
     let many = inv.many in
-    room_less c.args.class (vec_len c.args.self.now.spans + c.args.want) (vec_len c.loop-taken.self.spans + 1) c.loop-taken.self.lists (omega arith) inv.lists
+    room_less c.args.class (vec_len c.args.self.now.spans + c.args.want) (vec_len c.loop-taken.self.spans + 1) c.loop-taken.self.lists
+    (omega arith) inv.lists
 
 pub take-requires-clause-few : goal.take-requires-clause-few
 take-requires-clause-few c =
@@ -97,11 +103,14 @@ returns-in-None-clause-cut c =
     let k = c.args.want - (c.loop-taken._taken + 1) in
     let step : c.args.want - c.loop-taken._taken ≡ suc k = omega arith in
     let made = c.loop-taken.made.items in
-    c.in-None.ensures.same ∙ sym (inv.cut ∙ ap (λ i. made ++ takes_cut class i r) step ∙ cut_none class k r (root_of c.take.new.self) made c.in-None.ensures.took)
+    c.in-None.ensures.same ∙
+    sym (inv.cut ∙ ap (λ i. made ++ takes_cut class i r) step ∙
+    cut_none class k r (root_of c.take.new.self) made c.in-None.ensures.took)
 
 pub returns-after-loop-taken-clause-cut : goal.returns-after-loop-taken-clause-cut
 returns-after-loop-taken-clause-cut c =
     let inv = c.loop-taken.invariant in
     let over = c.loop-taken-test.false in
     let none : c.args.want - c.loop-taken._taken ≡ 0 = omega arith in
-    sym (inv.cut ∙ ap (λ i. c.loop-taken.made.items ++ takes_cut c.args.class i (root_of c.loop-taken.self)) none ∙ append-nil c.loop-taken.made.items)
+    sym (inv.cut ∙ ap (λ i. c.loop-taken.made.items ++ takes_cut c.args.class i (root_of c.loop-taken.self)) none ∙
+    append-nil c.loop-taken.made.items)

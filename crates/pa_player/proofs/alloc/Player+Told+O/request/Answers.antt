@@ -22,23 +22,29 @@ returns-then-size-gt-GREATEST_SIZE-clause-played g c =
 
 pub request_slot-requires : goal.request_slot-requires
 request_slot-requires g c =
-    let of : IsClassIn c.args.self.now.version (max c.args.size 1 + 8) c.in-Some.class = subst (λ n. IsClassIn c.args.self.now.version n c.in-Some.class) c.raw_of.ensures c.in-Some.ensures.least in
+    let of : IsClassIn c.args.self.now.version (max c.args.size 1 + 8) c.in-Some.class =
+    subst (λ n. IsClassIn c.args.self.now.version n c.in-Some.class) c.raw_of.ensures c.in-Some.ensures.least in
     slot_ready c.args.self.now c.args.thread c.args.reg c.args.partition c.args.size c.in-Some.class c.requires.ready of
 
 pub returns-in-Some-clause-played : goal.returns-in-Some-clause-played
 returns-in-Some-clause-played g c =
     let p = c.args.self.now in
     let r = c.request_slot.new.self in
-    let of : IsClassIn c.args.self.now.version (max c.args.size 1 + 8) c.in-Some.class = subst (λ n. IsClassIn c.args.self.now.version n c.in-Some.class) c.raw_of.ensures c.in-Some.ensures.least in
-    if_ok c.request_slot.result (λ a. AllocatesSlot c.args.thread c.args.reg c.args.partition (list_place p.version p.partitions c.args.thread c.args.partition c.in-Some.class) c.in-Some.class p r a)
+    let of : IsClassIn c.args.self.now.version (max c.args.size 1 + 8) c.in-Some.class =
+    subst (λ n. IsClassIn c.args.self.now.version n c.in-Some.class) c.raw_of.ensures c.in-Some.ensures.least in
+    if_ok c.request_slot.result
+    (λ a. AllocatesSlot c.args.thread c.args.reg c.args.partition
+    (list_place p.version p.partitions c.args.thread c.args.partition c.in-Some.class) c.in-Some.class p r a)
     (λ a. Plays p c.args.thread (ops.Alloc c.args.reg c.args.partition c.args.size) r a) c.request_slot.ensures.allocates
-    (λ a did. slot_request_plays p r c.args.thread c.args.reg c.args.partition c.args.size c.in-Some.class a c.requires.none c.if-size-gt-GREATEST_SIZE.false of did)
+    (λ a did. slot_request_plays p r c.args.thread c.args.reg c.args.partition c.args.size c.in-Some.class a c.requires.none
+    c.if-size-gt-GREATEST_SIZE.false of did)
 
 pub request_map-requires : goal.request_map-requires
 request_map-requires g c =
     let large : greatest_raw c.args.self.now.version < c.raw_of.result = grind (arith, c.in-None.ensures.refused) in
     let least = raw_least c.args.self.now.version in
-    let direct : IsMapSize c.args.self.now.version c.args.size = (omega (arith, large, least, c.raw_of.ensures), c.if-size-gt-GREATEST_SIZE.false) in
+    let direct : IsMapSize c.args.self.now.version c.args.size =
+    (omega (arith, large, least, c.raw_of.ensures), c.if-size-gt-GREATEST_SIZE.false) in
     let shape : c.unwrap-shape.result ≡ shape_of c.args.size = grind (arith, c.unwrap-shape.ensures, c.shape.ensures.shape) in
     subst (λ (s : Shape). CanAllocateMap c.args.thread c.args.reg c.args.partition s.slot s.supers c.args.self.now) (sym shape)
     (map_ready c.args.self.now c.args.thread c.args.reg c.args.partition c.args.size c.requires.ready direct)
@@ -49,9 +55,11 @@ returns-in-None-clause-played g c =
     let r = c.request_map.new.self in
     let large : greatest_raw c.args.self.now.version < c.raw_of.result = grind (arith, c.in-None.ensures.refused) in
     let least = raw_least c.args.self.now.version in
-    let direct : IsMapSize c.args.self.now.version c.args.size = (omega (arith, large, least, c.raw_of.ensures), c.if-size-gt-GREATEST_SIZE.false) in
+    let direct : IsMapSize c.args.self.now.version c.args.size =
+    (omega (arith, large, least, c.raw_of.ensures), c.if-size-gt-GREATEST_SIZE.false) in
     let shape : c.unwrap-shape.result ≡ shape_of c.args.size = grind (arith, c.unwrap-shape.ensures, c.shape.ensures.shape) in
-    if_ok c.request_map.result (λ a. AllocatesMap c.args.thread c.args.reg c.args.partition c.unwrap-shape.result.slot c.unwrap-shape.result.supers p r a)
+    if_ok c.request_map.result
+    (λ a. AllocatesMap c.args.thread c.args.reg c.args.partition c.unwrap-shape.result.slot c.unwrap-shape.result.supers p r a)
     (λ a. Plays p c.args.thread (ops.Alloc c.args.reg c.args.partition c.args.size) r a) c.request_map.ensures.allocates
     (λ a did. map_request_plays p r c.args.thread c.args.reg c.args.partition c.args.size a c.requires.none direct
     (subst (λ (s : Shape). AllocatesMap c.args.thread c.args.reg c.args.partition s.slot s.supers p r a) shape did))

@@ -16,11 +16,13 @@ report_line-line-requires-clause-root g c =
 
 pub loop-partition-preserved : goal.loop-partition-preserved
 loop-partition-preserved g c =
-    report_more c.loop-partition.partition c.args.self.now c.loop-partition.self _ c.report_line-line.result c.loop-partition.invariant c.loop-partition-test.true c.report_line-line.ensures
+    report_more c.loop-partition.partition c.args.self.now c.loop-partition.self _ c.report_line-line.result c.loop-partition.invariant
+    c.loop-partition-test.true c.report_line-line.ensures
     (ap (λ (z : Lists). record c.loop-partition.self { told = z }) c.in_ok-report.ensures.reported)
 
 pub returns-clause-ended : goal.returns-clause-ended
 returns-clause-ended g c =
     let past = c.loop-partition-test.false in
     let last = c.loop-partition.auto.partition-end in
-    ap (λ (z : Player). record z { phase = z.phase + 1 }) (report_end c.loop-partition.partition c.args.self.now c.loop-partition.self c.loop-partition.invariant (omega arith))
+    ap (λ (z : Player). record z { phase = z.phase + 1 })
+    (report_end c.loop-partition.partition c.args.self.now c.loop-partition.self c.loop-partition.invariant (omega arith))

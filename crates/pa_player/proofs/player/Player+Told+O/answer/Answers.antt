@@ -4,7 +4,9 @@ use Rattle.pa_player.specs.Plays.{Plays}
 use Rattle.pa_player.proofs.player.Player+Told+O.answer.Goals as goal
 
 pub returns-in-Copy-clause-played : goal.returns-in-Copy-clause-played
-returns-in-Copy-clause-played g c = subst (λ (o : Op). Plays c.args.self.now c.args.thread o c.copy.new.self c.copy.result) (sym c.in-Copy.is) c.copy.ensures
+returns-in-Copy-clause-played g c =
+    subst (λ (o : Op). Plays c.args.self.now c.args.thread o c.copy.new.self c.copy.result) (sym c.in-Copy.is) c.copy.ensures
 
 pub returns-in-Write-clause-played : goal.returns-in-Write-clause-played
-returns-in-Write-clause-played g c = subst (λ (o : Op). Plays c.args.self.now c.args.thread o c.write.new.self c.write.result) (sym c.in-Write.is) c.write.ensures
+returns-in-Write-clause-played g c =
+    subst (λ (o : Op). Plays c.args.self.now c.args.thread o c.write.new.self c.write.result) (sym c.in-Write.is) c.write.ensures

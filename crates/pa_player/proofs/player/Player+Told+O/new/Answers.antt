@@ -1,12 +1,10 @@
-use Rattle.std.proofs.Common.{◌≡◌, ◌-◌, ◌*◌, refl, ap, ◌∙◌}
-use Rattle.pa_rules.specs.Sizes.{class_total}
+use Rattle.std.proofs.Common.{◌*◌, refl, ap, ◌∙◌}
 use Rattle.pa_player.proofs.Empty.{clear_at}
 use Rattle.pa_player.proofs.player.Player+Told+O.new.Goals as goal
 
 pub returns : goal.returns
 returns g c =
     let h = c.args.head in
-    let classes : c.past_class.result - c.first_class.result ≡ class_total h.version = cc (c.past_class.ensures, c.first_class.ensures) in
     record {
       pool = c.in_ok-new.ensures.pool;
       roots = c.in_ok-new.ensures.roots;
@@ -15,7 +13,7 @@ returns g c =
       cells = refl;
       cell = λ k. clear_at 64 k;
       caches = record {
-        count = c.in_ok-new-3.ensures.count ∙ ap (λ n. h.threads * h.partitions * n) classes;
+        count = c.in_ok-new-3.ensures.count ∙ ap (λ n. h.threads * h.partitions * n) c.class_total.ensures.count;
         empty = c.in_ok-new-3.ensures.empty;
       };
       live = c.new-5.ensures;

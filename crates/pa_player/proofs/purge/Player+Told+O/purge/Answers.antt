@@ -30,7 +30,8 @@ overflow_add-slots g c =
 
 pub loop-partition-preserved : goal.loop-partition-preserved
 loop-partition-preserved g c =
-    all_more c.args.thread c.loop-partition.partition c.args.self.now c.loop-partition.self c.purge_one.new.self c.loop-partition.slots c.in_ok-slots.field-0 c.loop-partition.invariant
+    all_more c.args.thread c.loop-partition.partition c.args.self.now c.loop-partition.self c.purge_one.new.self c.loop-partition.slots
+    c.in_ok-slots.field-0 c.loop-partition.invariant
     c.loop-partition-test.true c.in_ok-slots.ensures.slots c.in_ok-slots.ensures.purged
 
 pub returns-clause-played : goal.returns-clause-played
@@ -38,10 +39,14 @@ returns-clause-played g c =
     let p = c.args.self.now in
     let past = c.loop-partition-test.false in
     let last = c.loop-partition.auto.partition-end in
-    let end = all_end c.args.thread c.loop-partition.partition p c.loop-partition.self c.loop-partition.slots c.loop-partition.invariant (omega arith) in
-    plays_as p c.args.thread ops.Purge (purged_from c.args.thread 0 p.partitions p) c.loop-partition.self (answers.Purged (all_listed (caches p c.args.thread) 0 p.partitions))
+    let end = all_end c.args.thread c.loop-partition.partition p c.loop-partition.self c.loop-partition.slots c.loop-partition.invariant
+    (omega arith) in
+    plays_as p c.args.thread ops.Purge (purged_from c.args.thread 0 p.partitions p) c.loop-partition.self
+    (answers.Purged (all_listed (caches p c.args.thread) 0 p.partitions))
     (answers.Purged c.loop-partition.slots) end.0 (ap answers.Purged end.1) (purge_plays p c.args.thread)
 
 pub returns-in_err-slots-clause-same : goal.returns-in_err-slots-clause-same
 returns-in_err-slots-clause-same g c =
-    any_err _ _ (c.in_err-slots.ensures.same ∙ partitions_settled c.args.thread c.loop-partition.partition c.args.self.now c.loop-partition.self c.loop-partition.slots c.loop-partition.invariant)
+    any_err _ _ (c.in_err-slots.ensures.same ∙
+    partitions_settled c.args.thread c.loop-partition.partition c.args.self.now c.loop-partition.self c.loop-partition.slots
+    c.loop-partition.invariant)

@@ -11,7 +11,8 @@ use Rattle.pa_player.proofs.purge.Player+Told+O.purge_one.Goals as goal
 
 pub purge-requires-clause-among : goal.purge-requires-clause-among
 purge-requires-clause-among g c =
-    (subst (CanGive c.args.partition []) (sym c.in_ok-slots.ensures.given) (given_all_can c.args.thread c.args.partition c.args.self.now (grind (arith, c.requires.gives.four)) c.requires.gives)).root
+    (subst (CanGive c.args.partition []) (sym c.in_ok-slots.ensures.given)
+    (given_all_can c.args.thread c.args.partition c.args.self.now (grind (arith, c.requires.gives.four)) c.requires.gives)).root
 
 pub purge-requires-clause-turn : goal.purge-requires-clause-turn
 purge-requires-clause-turn g c =

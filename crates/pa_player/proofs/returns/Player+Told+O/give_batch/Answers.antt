@@ -17,8 +17,10 @@ give-requires-clause-are_out g c =
     let p = c.args.self.now in
     let xs = slice_range (list_in p c.args.at) c.args.from c.args.to in
     let e : c.list_given-bytes.new.titles.items ≡ map (λ (i : ℕ). (slot_at p.table i).title) xs =
-    c.list_given-bytes.ensures.titles ∙ ap (λ z. map (λ (i : ℕ). (slot_at p.table i).title) (slice_range z c.args.from c.args.to)) c.places.ensures.places in
-    let named : map name_of c.as_slice.result.now ≡ names (map (numbered_at p.table) xs) = ap (map name_of) (c.as_slice.ensures.value ∙ e) ∙ titles_named p.table xs in
+    c.list_given-bytes.ensures.titles ∙
+    ap (λ z. map (λ (i : ℕ). (slot_at p.table i).title) (slice_range z c.args.from c.args.to)) c.places.ensures.places in
+    let named : map name_of c.as_slice.result.now ≡ names (map (numbered_at p.table) xs) = ap (map name_of) (c.as_slice.ensures.value ∙ e) ∙
+    titles_named p.table xs in
     subst (λ z. All (IsOut (root_of p c.args.partition)) z) (sym named) c.requires.can.out.0
 
 pub give-requires-clause-once : goal.give-requires-clause-once
@@ -26,8 +28,10 @@ give-requires-clause-once g c =
     let p = c.args.self.now in
     let xs = slice_range (list_in p c.args.at) c.args.from c.args.to in
     let e : c.list_given-bytes.new.titles.items ≡ map (λ (i : ℕ). (slot_at p.table i).title) xs =
-    c.list_given-bytes.ensures.titles ∙ ap (λ z. map (λ (i : ℕ). (slot_at p.table i).title) (slice_range z c.args.from c.args.to)) c.places.ensures.places in
-    let named : map name_of c.as_slice.result.now ≡ names (map (numbered_at p.table) xs) = ap (map name_of) (c.as_slice.ensures.value ∙ e) ∙ titles_named p.table xs in
+    c.list_given-bytes.ensures.titles ∙
+    ap (λ z. map (λ (i : ℕ). (slot_at p.table i).title) (slice_range z c.args.from c.args.to)) c.places.ensures.places in
+    let named : map name_of c.as_slice.result.now ≡ names (map (numbered_at p.table) xs) = ap (map name_of) (c.as_slice.ensures.value ∙ e) ∙
+    titles_named p.table xs in
     subst (λ z. AllPairs ◌≢◌ z) (sym named) c.requires.can.out.1
 
 pub returns-clause-gave : goal.returns-clause-gave
@@ -39,10 +43,13 @@ returns-clause-gave g c =
     let title : ℕ → Title = λ i. (slot_at p.table i).title in
     let e : c.list_given-bytes.new.titles.items ≡ map title xs =
     c.list_given-bytes.ensures.titles ∙ ap (λ z. map title (slice_range z c.args.from c.args.to)) c.places.ensures.places in
-    let named : map name_of c.as_slice.result.now ≡ names (map num xs) = ap (map name_of) (c.as_slice.ensures.value ∙ e) ∙ titles_named p.table xs in
+    let named : map name_of c.as_slice.result.now ≡ names (map num xs) = ap (map name_of) (c.as_slice.ensures.value ∙ e) ∙
+    titles_named p.table xs in
     let slots : c.of-slots.result ≡ map num xs =
-    c.of-slots.ensures.slots ∙ c.items.ensures.items ∙ c.list_given-bytes.ensures.slots ∙ ap (λ z. map num (slice_range z c.args.from c.args.to)) c.places.ensures.places in
-    let bytes : c.list_given-bytes.result ≡ bytes_at p.table xs = c.list_given-bytes.ensures.bytes ∙ ap (λ z. bytes_at p.table (slice_range z c.args.from c.args.to)) c.places.ensures.places in
+    c.of-slots.ensures.slots ∙ c.items.ensures.items ∙ c.list_given-bytes.ensures.slots ∙
+    ap (λ z. map num (slice_range z c.args.from c.args.to)) c.places.ensures.places in
+    let bytes : c.list_given-bytes.result ≡ bytes_at p.table xs = c.list_given-bytes.ensures.bytes ∙
+    ap (λ z. bytes_at p.table (slice_range z c.args.from c.args.to)) c.places.ensures.places in
     let many : c.len.result ≡ length xs = c.len.ensures.value ∙ ap length e ∙ length-map xs title in
     let a = length-take (c.args.to - c.args.from) (drop c.args.from (list_in p c.args.at)) in
     let b = length-drop c.args.from (list_in p c.args.at) in
@@ -52,4 +59,5 @@ returns-clause-gave g c =
     batch_given q xs p c.give.new.self c.root.new.self c.remove.new.self (omega arith) (omega arith)
     (c.give.ensures ∙ ap (λ z. set p.heap.roots q (all_returned z (root_of p q))) named)
     (c.in_ok-root.ensures.after ∙ ap (λ z. with_act q (record { line = p.told.line; act = Give z }) p.told) slots)
-    (c.remove.ensures ∙ ap (λ z. tallied_less q z c.list_given-bytes.result p.cached.of) many ∙ ap (λ z. tallied_less q (length xs) z p.cached.of) bytes)
+    (c.remove.ensures ∙ ap (λ z. tallied_less q z c.list_given-bytes.result p.cached.of) many ∙
+    ap (λ z. tallied_less q (length xs) z p.cached.of) bytes)

@@ -24,4 +24,5 @@ give-requires-clause-can g c =
     subst (λ k. CanGive q (i ∷ list_in p k) (put_front q k i p)) (sym c.list_of-at.ensures) c.requires.can.gives in
     let there : at < length p.caches = subst (λ k. k < length p.caches) (sym c.list_of-at.ensures) c.requires.can.at in
     let cached = c.add.ensures ∙ ap (λ (x : Slot). tallied_more q 1 x.title.len p.cached.of) c.slot-len.ensures.slot in
-    spill_ready q at i (c.cache_limit-limit.result / 2) p _ there can (front_put q at i p c.put.new.self c.add.new.self c.put.ensures cached)
+    spill_ready q at i (c.cache_limit-limit.result / 2) p _ there can
+    (front_put q at i p c.put.new.self c.add.new.self c.put.ensures cached)

@@ -11,5 +11,6 @@ give-requires-clause-out c =
     let lt : c.args.partition < length roots = grind (arith, c.requires.among, c.self.view_is) in
     let old = c.index_mut.result.now in
     let here : old ≡ get_or c.args.self.now c.args.partition new_root =
-    c.index_mut.ensures.value ∙ get_or_default roots c.args.partition old new_root lt ∙ ap (λ (z : List Root). get_or z c.args.partition new_root) c.self.view_is in
+    c.index_mut.ensures.value ∙ get_or_default roots c.args.partition old new_root lt ∙
+    ap (λ (z : List Root). get_or z c.args.partition new_root) c.self.view_is in
     subst (λ (r : Root). All (IsOut r) (map name_of c.args.titles.now)) (sym here) c.requires.are_out

@@ -11,6 +11,8 @@ returns c = are_new c.args.partitions c.loop.of.items (omega (arith, c.loop.inva
 
 pub loop-preserved : goal.loop-preserved
 loop-preserved c = (
-  let p = ap length c.in_ok-push.ensures.items in let q = length_push c.loop.of.items c.in_ok-new.field-0 in let n = c.loop.invariant.0 in omega arith,
-  subst (λ xs. All (λ r. r ≡ new_root) xs) (sym c.in_ok-push.ensures.items) (All-push (λ r. r ≡ new_root) c.loop.of.items c.in_ok-new.field-0 c.loop.invariant.1 c.in_ok-new.ensures.start),
+  let p = ap length c.in_ok-push.ensures.items in let q = length_push c.loop.of.items c.in_ok-new.field-0 in let n = c.loop.invariant.0 in
+      omega arith,
+  subst (λ xs. All (λ r. r ≡ new_root) xs) (sym c.in_ok-push.ensures.items)
+      (All-push (λ r. r ≡ new_root) c.loop.of.items c.in_ok-new.field-0 c.loop.invariant.1 c.in_ok-new.ensures.start),
 )

@@ -23,7 +23,8 @@ free_owned-requires g c =
 
 pub seen-requires : goal.seen-requires
 seen-requires g c =
-    let ref = free_looks _ c.in-Look.place (sym (c.for_free.ensures ∙ ap (λ (r : Register ℕ). free_next r) c.register.ensures) ∙ c.in-Look.is) in
+    let ref = free_looks _ c.in-Look.place (sym (c.for_free.ensures ∙ ap (λ (r : Register ℕ). free_next r) c.register.ensures) ∙
+    c.in-Look.is) in
     record {
       among = place_ready c.args.self.now (Do c.args.thread (ops.Free c.args.reg)) c.args.thread c.args.reg c.in-Look.place c.requires
           (handle_points _ c.in-Look.place (inr ref));
@@ -37,9 +38,11 @@ returns-in-Refused-clause-played g c =
 pub returns-in-Step-clause-played : goal.returns-in-Step-clause-played
 returns-in-Step-clause-played g c =
     let p = c.args.self.now in
-    let is = free_steps _ c.in-Step.place (sym (c.for_free.ensures ∙ ap (λ (r : Register ℕ). free_next r) c.register.ensures) ∙ c.in-Step.is) in
+    let is = free_steps _ c.in-Step.place (sym (c.for_free.ensures ∙ ap (λ (r : Register ℕ). free_next r) c.register.ensures) ∙
+    c.in-Step.is) in
     both_ok c.free_owned.result (λ (a : Answer). a ≡ answers.Done (seen_at p.table c.in-Step.place))
-    (λ a. Plays p c.args.thread (ops.Free c.args.reg) c.free_owned.new.self a) (Frees c.args.thread c.args.reg c.in-Step.place p c.free_owned.new.self)
+    (λ a. Plays p c.args.thread (ops.Free c.args.reg) c.free_owned.new.self a)
+    (Frees c.args.thread c.args.reg c.in-Step.place p c.free_owned.new.self)
     c.free_owned.ensures.answer c.free_owned.ensures.frees
     (λ a says frees. free_plays p c.free_owned.new.self c.args.thread c.args.reg c.in-Step.place a is
     (free_ready p c.args.thread c.args.reg c.in-Step.place c.requires is) says frees)
@@ -48,4 +51,5 @@ pub returns-in-Look-clause-played : goal.returns-in-Look-clause-played
 returns-in-Look-clause-played g c =
     free_looked c.args.self.now c.args.thread c.args.reg c.in-Look.place c.looked_free.result
     (free_looks _ c.in-Look.place (sym (c.for_free.ensures ∙ ap (λ (r : Register ℕ). free_next r) c.register.ensures) ∙ c.in-Look.is))
-    (c.looked_free.ensures ∙ ap looked_free (was_seen c.args.self.now.table c.in-Look.place c.seen.result c.seen.ensures.slot c.seen.ensures.found))
+    (c.looked_free.ensures ∙
+    ap looked_free (was_seen c.args.self.now.table c.in-Look.place c.seen.result c.seen.ensures.slot c.seen.ensures.found))

@@ -21,9 +21,11 @@ clear-requires g c =
 pub returns-in-Ok-clause-played : goal.returns-in-Ok-clause-played
 returns-in-Ok-clause-played g c =
     let p = c.args.self.now in
-    let is = reset_steps _ c.in-Ok.place (sym (c.for_reset.ensures ∙ ap (λ (r : Register ℕ). reset_next r) c.register.ensures) ∙ c.in-Ok.is) in
+    let is = reset_steps _ c.in-Ok.place (sym (c.for_reset.ensures ∙ ap (λ (r : Register ℕ). reset_next r) c.register.ensures) ∙
+    c.in-Ok.is) in
     both_ok c.clear.result (λ (a : Answer). a ≡ answers.Done (seen_at p.table c.in-Ok.place))
-    (λ a. Plays p c.args.thread (ops.Reset c.args.reg) c.clear.new.self a) (Resets c.args.thread c.args.reg c.in-Ok.place p c.clear.new.self)
+    (λ a. Plays p c.args.thread (ops.Reset c.args.reg) c.clear.new.self a)
+    (Resets c.args.thread c.args.reg c.in-Ok.place p c.clear.new.self)
     c.clear.ensures.answer c.clear.ensures.resets
     (λ a says resets. reset_plays p c.clear.new.self c.args.thread c.args.reg c.in-Ok.place a is
     (reset_ready p c.args.thread c.args.reg c.in-Ok.place c.requires is) says resets)

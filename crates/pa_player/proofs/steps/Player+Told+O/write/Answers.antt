@@ -18,9 +18,11 @@ write_owned-requires g c =
 
 pub seen-requires : goal.seen-requires
 seen-requires g c =
-    let ref = write_looks _ c.in-Look.place (sym (c.for_write.ensures ∙ ap (λ (r : Register ℕ). write_next r) c.register.ensures) ∙ c.in-Look.is) in
+    let ref = write_looks _ c.in-Look.place (sym (c.for_write.ensures ∙ ap (λ (r : Register ℕ). write_next r) c.register.ensures) ∙
+    c.in-Look.is) in
     record {
-      among = place_ready c.args.self.now (Do c.args.thread (ops.Write c.args.reg c.args.value)) c.args.thread c.args.reg c.in-Look.place c.requires
+      among = place_ready c.args.self.now
+          (Do c.args.thread (ops.Write c.args.reg c.args.value)) c.args.thread c.args.reg c.in-Look.place c.requires
           (handle_points _ c.in-Look.place (inr ref));
     }
 
@@ -39,4 +41,5 @@ pub returns-in-Look : goal.returns-in-Look
 returns-in-Look g c =
     write_looked c.args.self.now c.args.thread c.args.reg c.args.value c.in-Look.place c.looked_write.result
     (write_looks _ c.in-Look.place (sym (c.for_write.ensures ∙ ap (λ (r : Register ℕ). write_next r) c.register.ensures) ∙ c.in-Look.is))
-    (c.looked_write.ensures ∙ ap looked_write (was_seen c.args.self.now.table c.in-Look.place c.seen.result c.seen.ensures.slot c.seen.ensures.found))
+    (c.looked_write.ensures ∙
+    ap looked_write (was_seen c.args.self.now.table c.in-Look.place c.seen.result c.seen.ensures.slot c.seen.ensures.found))

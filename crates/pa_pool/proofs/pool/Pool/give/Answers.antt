@@ -26,8 +26,12 @@ run_of-first-requires g c =
     let run = c.requires.back.2.run in
     let out = is_out x.plan.supers c.args.taken x.entries.items x.seat.view c.args.note.view c.take.new.seat.view c.self.invariant.2
     c.aware-2.ensures.aware c.take.ensures.parted (run.leases c.args.taken) in
-    let e = at_taken x.plan.supers c.args.taken x.entries.items x.seat.view c.self.invariant.2 out in
-    (out.0.count, out.0.first, ap (λ (y : PoolEntry). y.act) (c.index.ensures ∙ get_or_from_slice_get x.entries.items c.args.taken e.0 c.index.result.now e.1) ∙ e.2)
+    let e = at_taken x.plan.supers c.args.taken x.entries.items x.seat.view c.self.invariant.2 out in (
+      out.0.count,
+      out.0.first,
+      ap (λ (y : PoolEntry). y.act) (c.index.ensures ∙ get_or_from_slice_get x.entries.items c.args.taken e.0 c.index.result.now e.1) ∙
+          e.2,
+    )
 
 pub give-requires-clause-one_take : goal.give-requires-clause-one_take
 give-requires-clause-one_take g c =
@@ -37,8 +41,12 @@ give-requires-clause-one_take g c =
     c.aware-2.ensures.aware c.take.ensures.parted (run.leases c.args.taken) in
     let first = c.run_of-first.result.0 in
     let count = c.run_of-first.result.1 in
-    let found = run_found x.plan.supers c.args.taken first count x.entries.items x.seat.view c.index.result.now c.self.invariant.2 out c.index.ensures c.run_of-first.ensures in
-    (out.0, subst (λ s. IsOneTake s first count out.0) (sym c.self.invariant.1) (out_take x.plan.supers c.args.taken first count x.entries.items x.seat.view c.self.invariant.2 out found))
+    let found = run_found x.plan.supers c.args.taken first count x.entries.items x.seat.view c.index.result.now c.self.invariant.2 out
+    c.index.ensures c.run_of-first.ensures in (
+      out.0,
+      subst (λ s. IsOneTake s first count out.0) (sym c.self.invariant.1)
+          (out_take x.plan.supers c.args.taken first count x.entries.items x.seat.view c.self.invariant.2 out found),
+    )
 
 pub give-requires-clause-entries : goal.give-requires-clause-entries
 give-requires-clause-entries g c =
@@ -55,14 +63,17 @@ invariant_of-self g c =
     c.aware-2.ensures.aware c.take.ensures.parted (run.leases c.args.taken) in
     let first = c.run_of-first.result.0 in
     let count = c.run_of-first.result.1 in
-    let found = run_found x.plan.supers c.args.taken first count x.entries.items x.seat.view c.index.result.now c.self.invariant.2 out c.index.ensures c.run_of-first.ensures in
+    let found = run_found x.plan.supers c.args.taken first count x.entries.items x.seat.view c.index.result.now c.self.invariant.2 out
+    c.index.ensures c.run_of-first.ensures in
     let entry = give_entry c.args.line c.args.partition count first in
     let noted = c.append.ensures.noted in
-    let ends = give_ends c.args.line c.args.partition x.plan.supers c.args.taken first count c.requires.back.0 c.requires.back.1 _ x.entries.items x.seat.view c.args.note.view
+    let ends = give_ends c.args.line c.args.partition x.plan.supers c.args.taken first count c.requires.back.0 c.requires.back.1 _
+    x.entries.items x.seat.view c.args.note.view
     c.take.new.seat.view c.append.new.host.view c.args.seat.now.view c.append.new.lender.view noted.0 c.self.invariant.2
     c.aware.ensures.aware c.aware-2.ensures.aware c.take.ensures.view c.take.ensures.parted
     c.requires.back.2 found noted.1 c.append.ensures.again.1 in
-    let plan = plan_follows x.plan c.give.new.self x.entries.items c.append.new.entries.items entry c.append.new.host.view c.self.invariant.1 c.give.ensures c.append.ensures.entries ends.0 in (
+    let plan = plan_follows x.plan c.give.new.self x.entries.items c.append.new.entries.items entry c.append.new.host.view
+    c.self.invariant.1 c.give.ensures c.append.ensures.entries ends.0 in (
       c.append.ensures.regions.1 ∙ (c.take.ensures.region ∙ c.self.invariant.0),
       plan.0,
       plan.1,
@@ -77,13 +88,20 @@ returns-clause-gave g c from of back =
     c.aware-2.ensures.aware c.take.ensures.parted (run.leases c.args.taken) in
     let first = c.run_of-first.result.0 in
     let count = c.run_of-first.result.1 in
-    let found = run_found x.plan.supers c.args.taken first count x.entries.items x.seat.view c.index.result.now c.self.invariant.2 out c.index.ensures c.run_of-first.ensures in
+    let found = run_found x.plan.supers c.args.taken first count x.entries.items x.seat.view c.index.result.now c.self.invariant.2 out
+    c.index.ensures c.run_of-first.ensures in
     let noted = c.append.ensures.noted in
-    let ends = give_ends c.args.line c.args.partition x.plan.supers c.args.taken first count from of _ x.entries.items x.seat.view c.args.note.view
+    let ends = give_ends c.args.line c.args.partition x.plan.supers c.args.taken first count from of _ x.entries.items x.seat.view
+    c.args.note.view
     c.take.new.seat.view c.append.new.host.view c.args.seat.now.view c.append.new.lender.view noted.0 c.self.invariant.2
     c.aware.ensures.aware c.aware-2.ensures.aware c.take.ensures.view c.take.ensures.parted
     back found noted.1 c.append.ensures.again.1 in
-    let was : PoolValue = record { view = x.seat.view; entries = x.entries.items; supers = x.plan.supers; spare = min (vec_capacity x.entries) 2147483647 - length x.entries.items } in
+    let was : PoolValue = record {
+      view = x.seat.view;
+      entries = x.entries.items;
+      supers = x.plan.supers;
+      spare = min (vec_capacity x.entries) 2147483647 - length x.entries.items;
+    } in
     let now : PoolValue = record {
       view = c.append.new.host.view;
       entries = c.append.new.entries.items;
@@ -91,5 +109,7 @@ returns-clause-gave g c from of back =
       spare = min (vec_capacity c.append.new.entries) 2147483647 - length c.append.new.entries.items;
     } in
     let same = subst (λ y. IsAsBefore c.args.self.now y) (sym {A = PoolValue} c.self.view_is) c.room.ensures.same in
-    given_so c.args.line c.args.partition c.args.taken first count from of c.append.result c.take.new.seat.view c.args.seat.now c.append.new.lender c.append.new.host
-    c.args.self.now was now noted.0 same c.append.ensures.index found ends.2.0 ends.2.1 noted.1 ends.1 c.append.ensures.entries (ap (λ (s : PoolState). s.supers) c.give.ensures) refl
+    given_so c.args.line c.args.partition c.args.taken first count from of c.append.result c.take.new.seat.view c.args.seat.now
+    c.append.new.lender c.append.new.host
+    c.args.self.now was now noted.0 same c.append.ensures.index found ends.2.0 ends.2.1 noted.1 ends.1 c.append.ensures.entries
+    (ap (λ (s : PoolState). s.supers) c.give.ensures) refl

@@ -14,7 +14,8 @@ total_as-requires-clause-region c =
     let same = ap (λ (h : Share). h.region) c.seat.view_is ∙ (c.requires.region ∙ sym c.self.view_is) in
     let place = ap (λ (n : ℕ). n - 16 + c.args.word) c.word_count.ensures in (
       same,
-      (total_inside c.seat.inside.seat.table_id c.self.inside.table.shared.table_id c.args.word _ c.seat.inside.seat.me.0 same c.seat.invariant.1 c.self.invariant.1 c.requires.able.0
+      (total_inside c.seat.inside.seat.table_id c.self.inside.table.shared.table_id c.args.word _ c.seat.inside.seat.me.0 same
+          c.seat.invariant.1 c.self.invariant.1 c.requires.able.0
           place).0,
     )
 
@@ -23,7 +24,8 @@ total_as-requires-clause-allowed c =
     let same = ap (λ (h : Share). h.region) c.seat.view_is ∙ (c.requires.region ∙ sym c.self.view_is) in
     let can = subst (λ (h : Share). CanAdd c.args.word c.args.bytes h.view) (sym c.seat.view_is) c.requires.able in
     let place = ap (λ (n : ℕ). n - 16 + c.args.word) c.word_count.ensures in
-    let seen = (total_inside c.seat.inside.seat.table_id c.self.inside.table.shared.table_id c.args.word _ c.seat.inside.seat.me.0 same c.seat.invariant.1 c.self.invariant.1
+    let seen = (total_inside c.seat.inside.seat.table_id c.self.inside.table.shared.table_id c.args.word _ c.seat.inside.seat.me.0 same
+    c.seat.invariant.1 c.self.invariant.1
     c.requires.able.0 place).1 in
     add_allowed c.args.word c.args.bytes c.self.inside.table.shared.table_id.slots c.seat.inside.seat.id _ c.seat.inside.seat.me seen can
 
@@ -34,8 +36,10 @@ invariant_of-seat c =
     let told = c.total_as.ensures.told in (
       told.1 ∙ c.seat.invariant.0,
       subst (λ (z : TableId). IsSeatSound z c.total_as.new.seat.me.0) (sym c.total_as.ensures.seat.0)
-          (subst (λ (u : View). IsSeatSound c.seat.inside.seat.table_id u) (sym told.0) (add_sound c.seat.inside.seat.table_id c.args.word c.args.bytes v c.seat.invariant.1)),
-      stakes_kept c.seat.inside.stakes v c.total_as.new.seat.me.0 (λ k. ap (λ (u : View). stake_of u k) told.0 ∙ add_stakes c.args.word c.args.bytes v can.1 k) c.seat.invariant.2,
+          (subst (λ (u : View). IsSeatSound c.seat.inside.seat.table_id u) (sym told.0)
+          (add_sound c.seat.inside.seat.table_id c.args.word c.args.bytes v c.seat.invariant.1)),
+      stakes_kept c.seat.inside.stakes v c.total_as.new.seat.me.0
+          (λ k. ap (λ (u : View). stake_of u k) told.0 ∙ add_stakes c.args.word c.args.bytes v can.1 k) c.seat.invariant.2,
       c.total_as.ensures.aware,
     )
 

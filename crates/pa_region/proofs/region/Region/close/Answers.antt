@@ -12,4 +12,5 @@ returns-clause-end c =
     let final = c.close_with.ensures.values.2 in
     subst (λ (h : Share). IsEnd c.of.result h.view) c.seat.view_is
     (subst (λ (ws : List ℕ). IsEnd ws c.seat.inside.seat.me.0) (sym c.of.ensures)
-    (ends c.seat.inside.seat.id c.seat.inside.seat.me.0 (slots_items c.close_with.result.words) (slots_items c.close_with.result.slots) every final))
+    (ends c.seat.inside.seat.id c.seat.inside.seat.me.0 (slots_items c.close_with.result.words)
+    (slots_items c.close_with.result.slots) every final))

@@ -23,8 +23,12 @@ pub add_as-requires-clause-region : goal.add_as-requires-clause-region
 add_as-requires-clause-region c =
     let can = subst (λ (h : Share). CanCount c.args.step c.args.title h.view) (sym c.seat.view_is) c.requires.able in
     let same = ap (λ (h : Share). h.region) c.seat.view_is ∙ (c.requires.region ∙ sym c.self.view_is) in
-    let well = c.seat.invariant.1.well c.args.title (held_title c.seat.inside.seat.me.0 c.args.title (handle_held c.args.step c.args.title c.seat.inside.seat.me.0 can.0)) in
-    (same, place_inside c.seat.inside.seat.table_id c.self.inside.table.shared.table_id c.args.title c.count_index-word.result same well c.count_index-word.ensures)
+    let well = c.seat.invariant.1.well c.args.title
+    (held_title c.seat.inside.seat.me.0 c.args.title (handle_held c.args.step c.args.title c.seat.inside.seat.me.0 can.0)) in (
+      same,
+      place_inside c.seat.inside.seat.table_id c.self.inside.table.shared.table_id c.args.title c.count_index-word.result same well
+          c.count_index-word.ensures,
+    )
 
 pub add_as-requires-clause-allowed : goal.add_as-requires-clause-allowed
 add_as-requires-clause-allowed c =

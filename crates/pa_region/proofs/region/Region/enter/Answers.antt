@@ -20,8 +20,10 @@ invariant_of-seat c =
     let told = c.enter_as.ensures.told.1 in (
       told.1 ∙ c.seat.invariant.0,
       subst (λ (z : TableId). IsSeatSound z c.enter_as.new.seat.me.0) (sym c.enter_as.ensures.seat.0)
-          (subst (λ (u : View). IsSeatSound c.seat.inside.seat.table_id u) (sym told.0) (enter_sound c.seat.inside.seat.table_id c.args.keeper c.args.entry.now v c.seat.invariant.1)),
-      stakes_kept c.seat.inside.stakes v c.enter_as.new.seat.me.0 (λ k. ap (λ (u : View). stake_of u k) told.0 ∙ enter_stakes c.args.keeper c.args.entry.now v can.1 k) c.seat.invariant.2,
+          (subst (λ (u : View). IsSeatSound c.seat.inside.seat.table_id u) (sym told.0)
+          (enter_sound c.seat.inside.seat.table_id c.args.keeper c.args.entry.now v c.seat.invariant.1)),
+      stakes_kept c.seat.inside.stakes v c.enter_as.new.seat.me.0
+          (λ k. ap (λ (u : View). stake_of u k) told.0 ∙ enter_stakes c.args.keeper c.args.entry.now v can.1 k) c.seat.invariant.2,
       c.enter_as.ensures.aware,
     )
 

@@ -27,8 +27,10 @@ invariant_of-result c =
     let view = ap (λ m. m.0) other.1 in (
       ap (λ m. m.1) other.1,
       subst (λ (z : TableId). IsSeatSound z c.hand_as-other.result.me.0) (sym other.0)
-          (subst (λ (w : View). IsSeatSound c.seat.inside.seat.table_id w) (sym view) (given_sound c.seat.inside.seat.table_id p v can c.seat.invariant.1)),
-      subst (λ (w : View). AreStakes c.marked-given.result w) (sym view) (given_stakes p v c.seat.inside.stakes c.marked-given.result c.seat.invariant.2 c.marked-given.ensures),
+          (subst (λ (w : View). IsSeatSound c.seat.inside.seat.table_id w) (sym view)
+          (given_sound c.seat.inside.seat.table_id p v can c.seat.invariant.1)),
+      subst (λ (w : View). AreStakes c.marked-given.result w) (sym view)
+          (given_stakes p v c.seat.inside.stakes c.marked-given.result c.seat.invariant.2 c.marked-given.ensures),
       subst (λ (w : View). IsAware w) (sym view) (given_aware p v can c.seat.invariant.3),
     )
 
@@ -41,8 +43,10 @@ invariant_of-seat c =
     let view = ap (λ m. m.0) mine.2 in (
       ap (λ m. m.1) mine.2 ∙ c.seat.invariant.0,
       subst (λ (z : TableId). IsSeatSound z c.hand_as-other.new.seat.me.0) (sym mine.0)
-          (subst (λ (w : View). IsSeatSound c.seat.inside.seat.table_id w) (sym view) (left_sound c.seat.inside.seat.table_id p v can c.seat.invariant.1)),
-      subst (λ (w : View). AreStakes c.unmarked-seat-inside.result w) (sym view) (left_stakes p v c.seat.inside.stakes c.unmarked-seat-inside.result c.seat.invariant.2 c.unmarked-seat-inside.ensures),
+          (subst (λ (w : View). IsSeatSound c.seat.inside.seat.table_id w) (sym view)
+          (left_sound c.seat.inside.seat.table_id p v can c.seat.invariant.1)),
+      subst (λ (w : View). AreStakes c.unmarked-seat-inside.result w) (sym view)
+          (left_stakes p v c.seat.inside.stakes c.unmarked-seat-inside.result c.seat.invariant.2 c.unmarked-seat-inside.ensures),
       subst (λ (w : View). IsAware w) (sym view) (left_aware p v can c.seat.invariant.3),
     )
 

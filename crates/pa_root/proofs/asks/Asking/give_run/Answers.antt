@@ -8,6 +8,8 @@ returns-clause-again g c =
 
 pub returns-clause-gave : goal.returns-clause-gave
 returns-clause-gave g c first count comes =
-    given_is c.args.self.now.line c.args.partition c.args.taken first count c.in-Ok.index c.args.self.now.seat.now c.give.new.seat c.show_seen.new.from.view
-    c.args.root.now.view c.show_seen.new.to.view c.args.pool.now c.give.new.self (c.in-Ok.ensures.gave first count comes) c.requires.lender c.aware.ensures.aware
+    given_is c.args.self.now.line c.args.partition c.args.taken first count c.in-Ok.index c.args.self.now.seat.now c.give.new.seat
+    c.show_seen.new.from.view
+    c.args.root.now.view c.show_seen.new.to.view c.args.pool.now c.give.new.self
+    (c.in-Ok.ensures.gave first count comes) c.requires.lender c.aware.ensures.aware
     c.aware-2.ensures.aware c.kept.ensures c.show_seen.ensures.shown

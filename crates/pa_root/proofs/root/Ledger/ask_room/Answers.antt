@@ -8,7 +8,8 @@ use Rattle.pa_root.proofs.root.Ledger.ask_room.Goals as goal
 
 pub append-requires-clause-lender : goal.append-requires-clause-lender
 append-requires-clause-lender g c =
-    (lends_again c.ask_pool.new.self.seat.now.view c.show_seen.new.from.view (c.show_seen.ensures.shown.giver 0).keeps c.ask_pool.ensures.again).0
+    (lends_again c.ask_pool.new.self.seat.now.view c.show_seen.new.from.view
+    (c.show_seen.ensures.shown.giver 0).keeps c.ask_pool.ensures.again).0
 
 pub append-requires-clause-host : goal.append-requires-clause-host
 append-requires-clause-host g c =
@@ -21,12 +22,15 @@ pub returns-in_default-None-clause-refused : goal.returns-in_default-None-clause
 returns-in_default-None-clause-refused g c =
     let p = g.row.P in let line = c.args.asking.now.line in let count = c.args.count in let class = c.args.class in
     let asked = c.in_ok-asked.field-0.0 in
-    let v = c.args.asking.now.seat.now.view in let a = c.ask_pool.new.self.seat.now.view in let b = c.show_seen.new.from.view in let after = c.append.new.lender.view in
-    let w = c.args.self.now.seat.view in let w1 = c.ask_pool.new.root.view in let w2 = c.show_seen.new.to.view in let x = c.append.new.host.view in
+    let v = c.args.asking.now.seat.now.view in let a = c.ask_pool.new.self.seat.now.view in let b = c.show_seen.new.from.view in
+    let after = c.append.new.lender.view in
+    let w = c.args.self.now.seat.view in let w1 = c.ask_pool.new.root.view in let w2 = c.show_seen.new.to.view in
+    let x = c.append.new.host.view in
     let js = c.args.self.now.journal.items in let js_now = c.append.new.journal.items in
     let (m, noted) = c.append.ensures.noted in
     let asks : IsAskedFor (least_stake v.stakes) line p count None asked v a w1 =
-    subst (λ o. IsAskedFor (least_stake v.stakes) line p count (option_map (λ n. n.0) o) asked v a w1) c.in_default-None.is-1 c.in_ok-asked.ensures.asked in
+    subst (λ o. IsAskedFor (least_stake v.stakes) line p count (option_map (λ n. n.0) o) asked v a w1) c.in_default-None.is-1
+    c.in_ok-asked.ensures.asked in
     let told : ToldNone line p count c.append.result asked class v a b after w w1 w2 x m js js_now = record {
       lender = c.requires.lender;
       host = c.requires.host;

@@ -49,7 +49,8 @@ returns-in-Err-clause-none g c =
     let none : IsNone (span_for class (root_of v0 js)) =
     sym (c.has_room_for.ensures v0 (root_of v0 js) (kept_good p v0 js l kept) kept.shown.kept) ∙ c.if-has_room_for.false in
     (refused_kept (least_stake c.args.asking.now.seat.now.view.stakes) p c.args.asking.now.line 1 (Some class) c.args.asking.now.seat.now
-    c.ask_room-room.new.asking.seat.now c.args.self.now.seat c.ask_room-room.new.self.seat js c.ask_room-room.new.self.journal.items l c.in-Err.fault kept
+    c.ask_room-room.new.asking.seat.now c.args.self.now.seat c.ask_room-room.new.self.seat js c.ask_room-room.new.self.journal.items l
+    c.in-Err.fault kept
     (λ asked found. (none, found)) c.in-Err.ensures.refused).0
 
 pub returns-in-Err-clause-kept : goal.returns-in-Err-clause-kept
@@ -61,7 +62,8 @@ returns-in-Err-clause-kept g c =
     let none : IsNone (span_for class (root_of v0 js)) =
     sym (c.has_room_for.ensures v0 (root_of v0 js) (kept_good p v0 js l kept) kept.shown.kept) ∙ c.if-has_room_for.false in
     (refused_kept (least_stake c.args.asking.now.seat.now.view.stakes) p c.args.asking.now.line 1 (Some class) c.args.asking.now.seat.now
-    c.ask_room-room.new.asking.seat.now c.args.self.now.seat c.ask_room-room.new.self.seat js c.ask_room-room.new.self.journal.items l c.in-Err.fault kept
+    c.ask_room-room.new.asking.seat.now c.args.self.now.seat c.ask_room-room.new.self.seat js c.ask_room-room.new.self.journal.items l
+    c.in-Err.fault kept
     (λ asked found. (none, found)) c.in-Err.ensures.refused).1
 
 pub open-requires-clause-raw : goal.open-requires-clause-raw
@@ -69,7 +71,8 @@ open-requires-clause-raw g c =
     let p = g.row.P in let line = c.args.asking.now.line in
     let (asked, first, came) = c.in-Ok.found in let note = came.view in
     let v0 = c.args.self.now.seat.view in let js = c.args.self.now.journal.items in let l = c.args.shelf.now in
-    let v = c.args.asking.now.seat.now.view in let a = c.ask_room-room.new.asking.seat.now.view in let w = c.ask_room-room.new.self.seat.view in
+    let v = c.args.asking.now.seat.now.view in let a = c.ask_room-room.new.asking.seat.now.view in
+    let w = c.ask_room-room.new.self.seat.view in
     let r = least_stake v.stakes in
     let kept = c.requires.kept in
     let regions = c.in-Ok.ensures.region ∙ sym c.in-Ok.ensures.note.0 in
@@ -91,7 +94,8 @@ open-requires-clause-new g c =
     let p = g.row.P in let line = c.args.asking.now.line in
     let (asked, first, came) = c.in-Ok.found in let note = came.view in
     let v0 = c.args.self.now.seat.view in let js = c.args.self.now.journal.items in let l = c.args.shelf.now in
-    let v = c.args.asking.now.seat.now.view in let a = c.ask_room-room.new.asking.seat.now.view in let w = c.ask_room-room.new.self.seat.view in
+    let v = c.args.asking.now.seat.now.view in let a = c.ask_room-room.new.asking.seat.now.view in
+    let w = c.ask_room-room.new.self.seat.view in
     let r = least_stake v.stakes in
     let kept = c.requires.kept in
     let regions = c.in-Ok.ensures.region ∙ sym c.in-Ok.ensures.note.0 in
@@ -106,7 +110,8 @@ open-requires-clause-new g c =
       own = c.in-Ok.ensures.own;
       same = c.in-Ok.ensures.lists;
     } in
-    new_number p first 1 asked (root_of_parts w js (root_of v0 js)) note (pages_sound p line 1 asked first v0 js l r v a w note kept has) has.both_aware has.run.has
+    new_number p first 1 asked (root_of_parts w js (root_of v0 js)) note
+    (pages_sound p line 1 asked first v0 js l r v a w note kept has) has.both_aware has.run.has
     (omega arith) l (shown_asked p line 1 asked first v0 js l r v a w note kept has)
 
 pub open-requires-clause-few : goal.open-requires-clause-few
@@ -114,7 +119,8 @@ open-requires-clause-few g c =
     let p = g.row.P in let line = c.args.asking.now.line in
     let (asked, first, came) = c.in-Ok.found in let note = came.view in
     let v0 = c.args.self.now.seat.view in let js = c.args.self.now.journal.items in let l = c.args.shelf.now in
-    let v = c.args.asking.now.seat.now.view in let a = c.ask_room-room.new.asking.seat.now.view in let w = c.ask_room-room.new.self.seat.view in
+    let v = c.args.asking.now.seat.now.view in let a = c.ask_room-room.new.asking.seat.now.view in
+    let w = c.ask_room-room.new.self.seat.view in
     let r = least_stake v.stakes in
     let kept = c.requires.kept in
     let regions = c.in-Ok.ensures.region ∙ sym c.in-Ok.ensures.note.0 in
@@ -130,7 +136,8 @@ open-requires-clause-few g c =
       same = c.in-Ok.ensures.lists;
     } in
     let low = c.in-Ok.ensures.low in
-    few_supers p first 1 asked (root_of_parts w js (root_of v0 js)) note (pages_sound p line 1 asked first v0 js l r v a w note kept has) has.both_aware has.run.has
+    few_supers p first 1 asked (root_of_parts w js (root_of v0 js)) note
+    (pages_sound p line 1 asked first v0 js l r v a w note kept has) has.both_aware has.run.has
     (omega arith) l (shown_asked p line 1 asked first v0 js l r v a w note kept has) c.placed.ensures (omega arith)
 
 pub returns-clause-opened : goal.returns-clause-opened
@@ -138,7 +145,8 @@ returns-clause-opened g c =
     let p = g.row.P in let line = c.args.asking.now.line in
     let (asked, first, came) = c.in-Ok.found in let note = came.view in
     let v0 = c.args.self.now.seat.view in let js = c.args.self.now.journal.items in let l = c.args.shelf.now in
-    let v = c.args.asking.now.seat.now.view in let a = c.ask_room-room.new.asking.seat.now.view in let w = c.ask_room-room.new.self.seat.view in
+    let v = c.args.asking.now.seat.now.view in let a = c.ask_room-room.new.asking.seat.now.view in
+    let w = c.ask_room-room.new.self.seat.view in
     let r = least_stake v.stakes in
     let kept = c.requires.kept in
     let regions = c.in-Ok.ensures.region ∙ sym c.in-Ok.ensures.note.0 in
@@ -170,7 +178,8 @@ returns-clause-opened g c =
     ∙ (ap (λ (x : View). ready_root (Some asked) s x) back ∙ sym (ap (λ (x : View). ready_root (Some asked) s x) wrote.rest)) in
     record {
       ready = ready_rewritten p class (Some asked) s u y
-          (subst (λ (x : View). IsReadyFor p class (Some asked) s x) back (page_ready p line asked first class s r v a w note has real none))
+          (subst (λ (x : View). IsReadyFor p class (Some asked) s x) back
+          (page_ready p line asked first class s r v a w note has real none))
           wrote c.aware-5.ensures.aware;
       shown = subst (λ z. ShowsRoot y c.«open».new.self z) is done;
       told = record { first = first; made = has.asks.made; is_made = has.asks.is_made; lends = has.asks.lends };

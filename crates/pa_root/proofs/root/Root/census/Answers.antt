@@ -23,8 +23,12 @@ census-requires-clause-shown g c =
     let x = c.show_seen-2.new.from.view in
     let kept = c.self.invariant.2 in
     let good = kept_good g.row.P v js i.shelf kept in
-    let lends = on 0 [] [] v c.show_seen.new.to.view x (c.show_seen.ensures.shown.taker 0) (c.show_seen-2.ensures.shown.giver 0) in
-    (root_of v js, good, kept_used g.row.P v js i.shelf kept, shown_more v x i.shelf (root_of v js) good (kept_more v x lends.keeps) kept.shown)
+    let lends = on 0 [] [] v c.show_seen.new.to.view x (c.show_seen.ensures.shown.taker 0) (c.show_seen-2.ensures.shown.giver 0) in (
+      root_of v js,
+      good,
+      kept_used g.row.P v js i.shelf kept,
+      shown_more v x i.shelf (root_of v js) good (kept_more v x lends.keeps) kept.shown,
+    )
 
 pub invariant_of-self : goal.invariant_of-self
 invariant_of-self g c =
@@ -40,7 +44,8 @@ invariant_of-self g c =
     let sound = seeing_more_keeps p (state_of v js) x kept.sound c.aware.ensures.aware c.aware-3.ensures.aware lends.keeps
     (own_stays p v c.args.seat.now.view c.show_seen.new.to.view c.show_seen.new.from.view x c.show_seen-2.new.to.view there back has) in
     let shown = shown_more v x i.shelf (root_of v js) good (kept_more v x lends.keeps) kept.shown in (
-      ap (λ (q : Share). q.region) c.census.ensures.seat ∙ (c.show_seen-2.ensures.regions.0 ∙ (c.show_seen.ensures.regions.1 ∙ c.self.invariant.0)),
+      ap (λ (q : Share). q.region) c.census.ensures.seat ∙
+          (c.show_seen-2.ensures.regions.0 ∙ (c.show_seen.ensures.regions.1 ∙ c.self.invariant.0)),
       c.self.invariant.1,
       subst (λ (q : Share). IsKept p q.view js i.shelf) (sym c.census.ensures.seat) (kept_in p v x js i.shelf i.shelf kept sound shown),
     )
@@ -49,12 +54,14 @@ pub returns-clause-keeps : goal.returns-clause-keeps
 returns-clause-keeps g c =
     let v = c.args.seat.now.view in
     let r = least_stake v.stakes in
-    on r [] [] v c.show_seen.new.from.view c.show_seen-2.new.to.view (c.show_seen.ensures.shown.giver r) (c.show_seen-2.ensures.shown.taker r)
+    on r [] [] v c.show_seen.new.from.view c.show_seen-2.new.to.view (c.show_seen.ensures.shown.giver r)
+    (c.show_seen-2.ensures.shown.taker r)
 
 pub returns-clause-kept : goal.returns-clause-kept
 returns-clause-kept g c =
     let v = c.self.inside.ledger.seat.view in
-    let lends = on 0 [] [] v c.show_seen.new.to.view c.show_seen-2.new.from.view (c.show_seen.ensures.shown.taker 0) (c.show_seen-2.ensures.shown.giver 0) in
+    let lends = on 0 [] [] v c.show_seen.new.to.view c.show_seen-2.new.from.view (c.show_seen.ensures.shown.taker 0)
+    (c.show_seen-2.ensures.shown.giver 0) in
     subst (λ (z : RootState). Lends 0 [] z.view c.census.new.own.view) c.self.view_is
     (subst (λ (q : Share). Lends 0 [] v q.view) (sym c.census.ensures.seat) lends)
 
@@ -68,8 +75,10 @@ returns-clause-root g c =
     let kept = c.self.invariant.2 in
     let lends = on 0 [] [] v c.show_seen.new.to.view x (there.taker 0) (back.giver 0) in
     let sound = seeing_more_keeps p (state_of v js) x kept.sound c.aware.ensures.aware c.aware-3.ensures.aware lends.keeps
-    (own_stays p v c.args.seat.now.view c.show_seen.new.to.view c.show_seen.new.from.view x c.show_seen-2.new.to.view there back kept.sound.journal.hosts.1) in
-    ap (λ (q : Share). root_of q.view js) c.census.ensures.seat ∙ (sym sound.journal.replayed ∙ ap (λ (z : RootState). z.root) c.self.view_is)
+    (own_stays p v c.args.seat.now.view c.show_seen.new.to.view c.show_seen.new.from.view x c.show_seen-2.new.to.view there back
+    kept.sound.journal.hosts.1) in
+    ap (λ (q : Share). root_of q.view js) c.census.ensures.seat ∙
+    (sym sound.journal.replayed ∙ ap (λ (z : RootState). z.root) c.self.view_is)
 
 pub returns-clause-census : goal.returns-clause-census
 returns-clause-census g c =
@@ -79,7 +88,8 @@ returns-clause-census g c =
     let kept = c.self.invariant.2 in
     let good = kept_good g.row.P v js i.shelf kept in
     let lends = on 0 [] [] v c.show_seen.new.to.view x (c.show_seen.ensures.shown.taker 0) (c.show_seen-2.ensures.shown.giver 0) in
-    c.census.ensures.census (root_of v js) good (kept_used g.row.P v js i.shelf kept) (shown_more v x i.shelf (root_of v js) good (kept_more v x lends.keeps) kept.shown)
+    c.census.ensures.census (root_of v js) good (kept_used g.row.P v js i.shelf kept)
+    (shown_more v x i.shelf (root_of v js) good (kept_more v x lends.keeps) kept.shown)
     ∙ ap (λ (z : RootState). census z.root) c.self.view_is
 
 pub returns-clause-seen : goal.returns-clause-seen
@@ -93,7 +103,8 @@ returns-clause-listed g c =
     let i = c.self.inside in
     let sound = c.self.invariant.2.sound in
     let there = c.show_seen.ensures.shown in let back = c.show_seen-2.ensures.shown in
-    let whole = both_whole g.row.P i.ledger.seat.view c.args.seat.now.view c.show_seen.new.to.view c.show_seen.new.from.view c.show_seen-2.new.from.view
+    let whole = both_whole g.row.P i.ledger.seat.view c.args.seat.now.view c.show_seen.new.to.view c.show_seen.new.from.view
+    c.show_seen-2.new.from.view
     c.show_seen-2.new.to.view there back sound.journal.hosts.1 in
     ap (map (λ (m : Made). m.numbers)) whole ∙ (sound.journal.listed ∙ ap (λ (z : RootState). map root_numbers z.journal) c.self.view_is)
 

@@ -52,7 +52,8 @@ append-requires-clause-host g c =
     let taken = c.take_out-note in
     let out = taken.ensures.out p asked s opened.ready opened.shown in
     let u = c.open_page.new.self.seat.view in
-    hosts_left p class asked s u taken.new.own.view taken.result.0.view taken.result.1.items taken.result.2 (fill_taken class asked s u).root out
+    hosts_left p class asked s u taken.new.own.view taken.result.0.view taken.result.1.items taken.result.2
+    (fill_taken class asked s u).root out
 
 pub invariant_of-self-2 : goal.invariant_of-self-2
 invariant_of-self-2 g c =
@@ -67,7 +68,8 @@ invariant_of-self-2 g c =
     let root = (fill_taken class asked s u).root in let x = c.append.new.host.view in
     let e : RootEntry = root_entry c.args.line (Fill class asked slots) in
     let (m, noted) = c.append.ensures.noted in
-    let sound = filled_sound p c.args.line class asked s u left note x titles slots root m out taken.ensures.aware c.append.ensures.aware.1 noted.hosts noted.list noted.says in
+    let sound = filled_sound p c.args.line class asked s u left note x titles slots root m out taken.ensures.aware c.append.ensures.aware.1
+    noted.hosts noted.list noted.says in
     let grown : c.append.new.journal.items ≡ s.journal ++ e ∷ [] =
     c.append.ensures.journal ∙ ap (λ (js : Vec RootEntry Global). js.items ++ e ∷ []) c.in_ok-asked.ensures.journal in
     let size : length c.append.new.journal.items ≡ length s.journal + 1 = ap length grown ∙ length-append s.journal (e ∷ []) in
@@ -75,7 +77,8 @@ invariant_of-self-2 g c =
     let same = ap length c.in_ok-make_room.ensures.same in
     let kept = subst (λ es. IsKept p i.ledger.seat.view es i.shelf) (sym c.in_ok-make_room.ensures.same) c.self.invariant.2 in
     let batch : length slots ≤ 16 = search rules in
-    let done = kept_after p i.ledger.seat.view left x s.journal e i.shelf taken.new.shelf root kept batch sound (same_kept left x noted.hosts)
+    let done = kept_after p i.ledger.seat.view left x s.journal e i.shelf taken.new.shelf root kept batch sound
+    (same_kept left x noted.hosts)
     (taken.ensures.shown p asked s opened.ready opened.shown) in (
       c.append.ensures.regions.1 ∙ (taken.ensures.regions.0 ∙ c.in_ok-asked.ensures.region),
       omega arith,

@@ -83,7 +83,8 @@ invariant_of-self-2 g c =
     let (m, noted) = c.append.ensures.noted in
     let wrote : Rewritten (united s.view w) y = subst (λ (h : View). Rewritten h y) both c.give_all.ensures.rest in
     let says : m.numbers ≡ root_numbers e = noted.says ∙ ap (λ ns. root_numbers (root_entry c.args.line (Give ns))) slots in
-    let sound = gives_keep p c.args.line s w y x titles can wrote c.append.ensures.aware.0 c.append.ensures.aware.1 noted.hosts (m, noted.list, says) in
+    let sound = gives_keep p c.args.line s w y x titles can wrote c.append.ensures.aware.0 c.append.ensures.aware.1 noted.hosts
+    (m, noted.list, says) in
     let same = c.make_room.ensures.same in
     let grown : c.append.new.journal.items ≡ js ++ e ∷ [] =
     c.append.ensures.journal ∙ (ap (λ ns. c.make_room.new.journal.items ++ root_entry c.args.line (Give ns) ∷ []) slots
@@ -93,15 +94,18 @@ invariant_of-self-2 g c =
     let few = c.in-Ok.ensures.few in
     let at = ap length same in
     let back = are_back p s w c.numbers_seen-slots.new.seat.view i.shelf titles can (kept_settled p v js i.shelf kept) kept.shown both in
-    let given = c.give_all.ensures.shown s.root (subst (λ ts. AreBack c.numbers_seen-slots.new.seat.view i.shelf ts s.root) (sym c.as_slice-2.ensures.value) back) in
+    let given = c.give_all.ensures.shown s.root
+    (subst (λ ts. AreBack c.numbers_seen-slots.new.seat.view i.shelf ts s.root) (sym c.as_slice-2.ensures.value) back) in
     let named : all_returned (slot_names c.as_slice-2.result.now) s.root ≡ all_returned (names (numbered_by w titles)) s.root =
-    ap (λ ts. all_returned (slot_names ts) s.root) c.as_slice-2.ensures.value ∙ sym (ap (λ ns. all_returned ns s.root) (names_by w titles)) in
+    ap (λ ts. all_returned (slot_names ts) s.root) c.as_slice-2.ensures.value ∙
+    sym (ap (λ ns. all_returned ns s.root) (names_by w titles)) in
     let shown : ShowsRoot y c.give_all.new.self (all_returned (names (numbered_by w titles)) s.root) =
     subst (λ r. ShowsRoot y c.give_all.new.self r) named given in
     let batch : length (numbered_by w titles) ≤ 16 = subst (λ ns. length ns ≤ 16) slots (search rules) in
     let done = kept_after p v y x js e i.shelf c.give_all.new.self (all_returned (names (numbered_by w titles)) s.root) kept batch sound
     (same_kept y x noted.hosts) shown in (
-      c.append.ensures.regions.1 ∙ (c.give_all.ensures.region ∙ (c.numbers_seen-slots.ensures.region ∙ (c.take.ensures.region ∙ c.self.invariant.0))),
+      c.append.ensures.regions.1 ∙
+          (c.give_all.ensures.region ∙ (c.numbers_seen-slots.ensures.region ∙ (c.take.ensures.region ∙ c.self.invariant.0))),
       omega arith,
       subst (λ es. IsKept p x es c.give_all.new.self) (sym grown) done,
     )
@@ -123,8 +127,11 @@ returns-clause-took g c =
     ∙ (ap (λ ts. numbered_by (united s.view w) ts) c.as_slice.ensures.value ∙ numbers_came g.row.P s w titles can)) in
     let (m, noted) = c.append.ensures.noted in
     let told = entries_are_told.one r g.row.P (root_entry c.args.line (Give c.numbers_seen-slots.result)) v c.append.new.lender.view
-    c.give_all.new.own.view c.append.new.host.view m noted in
-    (_, subst (λ ns. EntersOne (length (list_of g.row.P c.give_all.new.own.view)) r g.row.P (root_entry c.args.line (Give ns)) v c.append.new.lender.view) slots told)
+    c.give_all.new.own.view c.append.new.host.view m noted in (
+      _,
+      subst (λ ns. EntersOne (length (list_of g.row.P c.give_all.new.own.view)) r g.row.P
+          (root_entry c.args.line (Give ns)) v c.append.new.lender.view) slots told,
+    )
 
 pub returns-clause-journal : goal.returns-clause-journal
 returns-clause-journal g c =

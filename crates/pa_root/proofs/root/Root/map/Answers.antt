@@ -68,7 +68,8 @@ invariant_of-self-in-Err g c =
     let v0 = i.ledger.seat.view in
     let js = c.make_room.new.journal.items in let js_now = c.ask_room-room.new.self.journal.items in
     let kept = subst (λ es. IsKept p v0 es i.shelf) (sym c.in_ok-make_room.ensures.same) c.self.invariant.2 in
-    let (told, after) = refused_kept r p c.args.line count None c.args.seat.now c.ask_room-room.new.asking.seat.now i.ledger.seat c.ask_room-room.new.self.seat
+    let (told, after) = refused_kept r p c.args.line count None c.args.seat.now c.ask_room-room.new.asking.seat.now i.ledger.seat
+    c.ask_room-room.new.self.seat
     js js_now i.shelf c.in-Err.fault kept (λ asked found. (count, found)) c.in-Err.ensures.refused in
     let long = none_long r p c.args.line count None c.args.seat.now c.ask_room-room.new.asking.seat.now (state_of v0 js)
     (state_of c.ask_room-room.new.self.seat.view js_now) c.in-Err.fault told in
@@ -85,13 +86,16 @@ returns-in-Err-clause-none g c =
     let v0 = i.ledger.seat.view in
     let js = c.make_room.new.journal.items in let js_now = c.ask_room-room.new.self.journal.items in
     let kept = subst (λ es. IsKept p v0 es i.shelf) (sym c.in_ok-make_room.ensures.same) c.self.invariant.2 in
-    let (told, after) = refused_kept r p c.args.line count None c.args.seat.now c.ask_room-room.new.asking.seat.now i.ledger.seat c.ask_room-room.new.self.seat
+    let (told, after) = refused_kept r p c.args.line count None c.args.seat.now c.ask_room-room.new.asking.seat.now i.ledger.seat
+    c.ask_room-room.new.self.seat
     js js_now i.shelf c.in-Err.fault kept (λ asked found. (count, found)) c.in-Err.ensures.refused in
     let given : NoneGiven r p c.args.line count None c.args.seat.now c.ask_room-room.new.asking.seat.now c.args.self.now
     (state_of c.ask_room-room.new.self.seat.view js_now) c.in-Err.fault =
-    subst (λ z. NoneGiven r p c.args.line count None c.args.seat.now c.ask_room-room.new.asking.seat.now z (state_of c.ask_room-room.new.self.seat.view js_now) c.in-Err.fault)
+    subst (λ z. NoneGiven r p c.args.line count None c.args.seat.now c.ask_room-room.new.asking.seat.now z
+    (state_of c.ask_room-room.new.self.seat.view js_now) c.in-Err.fault)
     (ap (state_of v0) c.in_ok-make_room.ensures.same ∙ c.self.view_is) told in
-    subst (λ (z : Share). NoneGiven r p c.args.line count None c.args.seat.now z c.args.self.now (state_of c.ask_room-room.new.self.seat.view js_now) c.in-Err.fault)
+    subst (λ (z : Share). NoneGiven r p c.args.line count None c.args.seat.now z c.args.self.now
+    (state_of c.ask_room-room.new.self.seat.view js_now) c.in-Err.fault)
     (sym (search rules)) given
 
 -- ---- when there is
@@ -110,7 +114,8 @@ map-requires g c =
     let (asked, first, came) = c.in-Ok.found in
     let js = c.make_room.new.journal.items in
     let s = state_of i.ledger.seat.view js in
-    let v = c.args.seat.now.view in let a = c.ask_room-room.new.asking.seat.now.view in let w = c.ask_room-room.new.self.seat.view in let note = came.view in
+    let v = c.args.seat.now.view in let a = c.ask_room-room.new.asking.seat.now.view in let w = c.ask_room-room.new.self.seat.view in
+    let note = came.view in
     let r = least_stake v.stakes in
     let kept = subst (λ es. IsKept p i.ledger.seat.view es i.shelf) (sym c.in_ok-make_room.ensures.same) c.self.invariant.2 in
     let regions = c.in-Ok.ensures.region ∙ sym c.in-Ok.ensures.note.0 in
@@ -133,8 +138,10 @@ map-requires g c =
     let regions_are : c.ask_room-room.new.self.seat.region ≡ c.cut_map-title.new.seat.region =
     sym (c.cut_map-title.ensures.region ∙ c.take.ensures.region) in
     let small = subst (λ z. byte_word_count z ≤ 16777216) (sym regions_are) c.placed.ensures.small in
-    let inside : (b : ℕ) → 0 < held_of_view w (RawByte b) → b < 134217728 = λ b held. let below = c.aware-2.ensures.raw b held in omega arith in
-    let few = few_maps p first c.args.shape.supers asked (root_of_parts w js root) note still pages.both_aware pages.run.has one inside (omega arith) in
+    let inside : (b : ℕ) → 0 < held_of_view w (RawByte b) → b < 134217728 = λ b held. let below = c.aware-2.ensures.raw b held in
+    omega arith in
+    let few = few_maps p first c.args.shape.supers asked (root_of_parts w js root) note still pages.both_aware pages.run.has one inside
+    (omega arith) in
     record { few = subst (λ ts. length ts < region_supers) shown.kept.maps few }
 
 pub hand-note-requires-clause-able : goal.hand-note-requires-clause-able
@@ -145,7 +152,8 @@ hand-note-requires-clause-able g c =
     let (asked, first, came) = c.in-Ok.found in
     let js = c.make_room.new.journal.items in
     let s = state_of i.ledger.seat.view js in
-    let v = c.args.seat.now.view in let a = c.ask_room-room.new.asking.seat.now.view in let w = c.ask_room-room.new.self.seat.view in let note = came.view in
+    let v = c.args.seat.now.view in let a = c.ask_room-room.new.asking.seat.now.view in let w = c.ask_room-room.new.self.seat.view in
+    let note = came.view in
     let r = least_stake v.stakes in
     let kept = subst (λ es. IsKept p i.ledger.seat.view es i.shelf) (sym c.in_ok-make_room.ensures.same) c.self.invariant.2 in
     let regions = c.in-Ok.ensures.region ∙ sym c.in-Ok.ensures.note.0 in
@@ -181,7 +189,8 @@ append-requires-clause-host g c =
     let (asked, first, came) = c.in-Ok.found in
     let js = c.make_room.new.journal.items in
     let s = state_of i.ledger.seat.view js in
-    let v = c.args.seat.now.view in let a = c.ask_room-room.new.asking.seat.now.view in let w = c.ask_room-room.new.self.seat.view in let note = came.view in
+    let v = c.args.seat.now.view in let a = c.ask_room-room.new.asking.seat.now.view in let w = c.ask_room-room.new.self.seat.view in
+    let note = came.view in
     let r = least_stake v.stakes in
     let kept = subst (λ es. IsKept p i.ledger.seat.view es i.shelf) (sym c.in_ok-make_room.ensures.same) c.self.invariant.2 in
     let regions = c.in-Ok.ensures.region ∙ sym c.in-Ok.ensures.note.0 in
@@ -218,7 +227,8 @@ invariant_of-self-2 g c =
     let (asked, first, came) = c.in-Ok.found in
     let js = c.make_room.new.journal.items in
     let s = state_of i.ledger.seat.view js in
-    let v = c.args.seat.now.view in let a = c.ask_room-room.new.asking.seat.now.view in let w = c.ask_room-room.new.self.seat.view in let note = came.view in
+    let v = c.args.seat.now.view in let a = c.ask_room-room.new.asking.seat.now.view in let w = c.ask_room-room.new.self.seat.view in
+    let note = came.view in
     let r = least_stake v.stakes in
     let kept = subst (λ es. IsKept p i.ledger.seat.view es i.shelf) (sym c.in_ok-make_room.ensures.same) c.self.invariant.2 in
     let regions = c.in-Ok.ensures.region ∙ sym c.in-Ok.ensures.note.0 in
@@ -260,9 +270,11 @@ invariant_of-self-2 g c =
     (search rules) noted_then in
     let noted' : IsNoted (least_stake a.stakes) p (root_numbers e) a c.append.new.lender.view y now m =
     subst (λ h. IsNoted (least_stake a.stakes) p (root_numbers e) a c.append.new.lender.view h now m) left
-    (subst (λ z. IsNoted (least_stake a.stakes) p (root_numbers z) a c.append.new.lender.view c.hand-note.new.seat.view now m) named noted) in
+    (subst (λ z. IsNoted (least_stake a.stakes) p (root_numbers z) a c.append.new.lender.view c.hand-note.new.seat.view now m) named
+    noted) in
     let sound =
-    mapped_sound p line len asked first s r v a w note x has now m c.append.ensures.aware.1 (subst IsAware left c.aware-6.ensures.aware) noted'.hosts noted'.list noted'.says in
+    mapped_sound p line len asked first s r v a w note x has now m c.append.ensures.aware.1
+    (subst IsAware left c.aware-6.ensures.aware) noted'.hosts noted'.list noted'.says in
     let grown : c.append.new.journal.items ≡ js ++ e ∷ [] =
     c.append.ensures.journal ∙ (ap (λ (l : Vec RootEntry Global). l.items ++ root_entry line
     (Map asked (record { start = c.cut_map-title.result.start; born = asked }) len) ∷ []) c.in-Ok.ensures.journal
@@ -273,14 +285,17 @@ invariant_of-self-2 g c =
     let long = ap length c.in_ok-make_room.ensures.same in
     let run_count = c.args.shape.supers in
     let one : 1 ≤ run_count = served.one in
-    let can = can_cut p line run_count asked first i.ledger.seat.view js i.shelf r v a w note kept pages len served.supers one served.eights served.long in
-    let cut_shown = shown_cut p line run_count asked first i.ledger.seat.view js i.shelf r v a w note kept pages len served.supers one can in
+    let can = can_cut p line run_count asked first i.ledger.seat.view js i.shelf r v a w note kept pages len served.supers one served.eights
+    served.long in
+    let cut_shown = shown_cut p line run_count asked first i.ledger.seat.view js i.shelf r v a w note kept pages len served.supers one
+    can in
     let shown_x : ShowsRoot x i.shelf s.root = subst (λ z. ShowsRoot z i.shelf s.root) (sym has.cut) cut_shown in
     let shown = c.map.ensures.shown x s.root shown_x in
     let shown_t : ShowsRoot x c.map.new.self (mapped t s.root) = subst (λ z. ShowsRoot x c.map.new.self (mapped z s.root)) is shown in
     let done = kept_after p i.ledger.seat.view x now js e i.shelf c.map.new.self (mapped t s.root) kept tt sound
     (same_handed (frees_parcel (t ∷ [])) x now noted'.hosts) shown_t in (
-      c.append.ensures.regions.1 ∙ (c.hand-note.ensures.regions.0 ∙ (c.cut_map-title.ensures.region ∙ (c.take.ensures.region ∙ c.in-Ok.ensures.region))),
+      c.append.ensures.regions.1 ∙
+          (c.hand-note.ensures.regions.0 ∙ (c.cut_map-title.ensures.region ∙ (c.take.ensures.region ∙ c.in-Ok.ensures.region))),
       omega arith,
       subst (λ es. IsKept p now es c.map.new.self) (sym grown) done,
     )
@@ -293,7 +308,8 @@ returns-clause-gave g c =
     let (asked, first, came) = c.in-Ok.found in
     let js = c.make_room.new.journal.items in
     let s = state_of i.ledger.seat.view js in
-    let v = c.args.seat.now.view in let a = c.ask_room-room.new.asking.seat.now.view in let w = c.ask_room-room.new.self.seat.view in let note = came.view in
+    let v = c.args.seat.now.view in let a = c.ask_room-room.new.asking.seat.now.view in let w = c.ask_room-room.new.self.seat.view in
+    let note = came.view in
     let r = least_stake v.stakes in
     let kept = subst (λ es. IsKept p i.ledger.seat.view es i.shelf) (sym c.in_ok-make_room.ensures.same) c.self.invariant.2 in
     let regions = c.in-Ok.ensures.region ∙ sym c.in-Ok.ensures.note.0 in
@@ -321,7 +337,8 @@ returns-clause-gave g c =
     } in
     let y = left_after (frees_parcel (t ∷ [])) x in
     let left : c.hand-note.new.seat.view ≡ y = c.hand-note.ensures.left ∙ ap (λ z. left_after (frees_parcel (z ∷ [])) x) is in
-    let given : c.hand-note.result.view ≡ given_after (frees_parcel (t ∷ [])) x = c.hand-note.ensures.given ∙ ap (λ z. given_after (frees_parcel (z ∷ [])) x) is in
+    let given : c.hand-note.result.view ≡ given_after (frees_parcel (t ∷ [])) x = c.hand-note.ensures.given ∙
+    ap (λ z. given_after (frees_parcel (z ∷ [])) x) is in
     let now = c.append.new.host.view in let after = c.append.new.lender.view in
     let e : RootEntry = root_entry line (Map asked (name_of t) len) in
     let named : root_entry line (Map asked (record { start = c.cut_map-title.result.start; born = asked }) len) ≡ e =
@@ -343,6 +360,8 @@ returns-clause-gave g c =
     ∙ ap (λ z. js ++ z ∷ []) named) in
     let s_now = state_of now c.append.new.journal.items in
     let told : MapTells r p line len v after c.hand-note.result.view t s s_now =
-    map_tells p line len asked first s r v a w note x has now after c.hand-note.result.view m s_now c.requires.lender refl noted' given grown in
-    subst (λ z. MapTells r p line len v after c.hand-note.result.view c.cut_map-title.result z s_now) (ap (state_of i.ledger.seat.view) c.in_ok-make_room.ensures.same ∙ c.self.view_is)
+    map_tells p line len asked first s r v a w note x has now after c.hand-note.result.view m s_now c.requires.lender refl noted' given
+    grown in
+    subst (λ z. MapTells r p line len v after c.hand-note.result.view c.cut_map-title.result z s_now)
+    (ap (state_of i.ledger.seat.view) c.in_ok-make_room.ensures.same ∙ c.self.view_is)
     (subst (λ z. MapTells r p line len v after c.hand-note.result.view z s s_now) (sym is) told)

@@ -8,7 +8,8 @@ pub invariant_of-result : goal.invariant_of-result
 invariant_of-result g c =
     let p = g.row.P in
     let same = c.seat.ensures.same in
-    let first : IsKept p c.args.note.view [] c.in_ok-shelf.shelf = kept_first p c.args.note.view c.in_ok-shelf.shelf c.requires.first c.in_ok-shelf.ensures in
+    let first : IsKept p c.args.note.view [] c.in_ok-shelf.shelf =
+    kept_first p c.args.note.view c.in_ok-shelf.shelf c.requires.first c.in_ok-shelf.ensures in
     let none : c.new-2.result.items ≡ [] = search rules in (
       ap (λ (x : Share). x.region) same ∙ c.requires.region,
       search rules,

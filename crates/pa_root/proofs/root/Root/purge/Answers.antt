@@ -23,7 +23,8 @@ purge-requires-clause-shown g c =
     (root_of v js, kept_good g.row.P v js i.shelf kept, kept.shown)
 
 pub purge-requires-clause-few : goal.purge-requires-clause-few
-purge-requires-clause-few g c = let i = c.self.inside in kept_few g.row.P i.ledger.seat.view i.ledger.journal.items i.shelf c.self.invariant.2
+purge-requires-clause-few g c = let i = c.self.inside in
+    kept_few g.row.P i.ledger.seat.view i.ledger.journal.items i.shelf c.self.invariant.2
 
 pub purge-requires-clause-turn : goal.purge-requires-clause-turn
 purge-requires-clause-turn g c =
@@ -62,5 +63,8 @@ invariant_of-self-2 g c =
 pub returns-clause-entered : goal.returns-clause-entered
 returns-clause-entered g c =
     let v = c.args.seat.now.view in
-    let (m, noted) = c.append.ensures.noted in
-    (_, entries_are_told.one (least_stake v.stakes) g.row.P (root_entry c.args.line Purge) v c.append.new.lender.view c.purge.new.own.view c.append.new.host.view m noted)
+    let (m, noted) = c.append.ensures.noted in (
+      _,
+      entries_are_told.one (least_stake v.stakes) g.row.P
+          (root_entry c.args.line Purge) v c.append.new.lender.view c.purge.new.own.view c.append.new.host.view m noted,
+    )

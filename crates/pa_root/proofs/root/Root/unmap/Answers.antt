@@ -76,8 +76,11 @@ give_run-asked-requires-clause-back g c =
       cut_aware = k.ensures.aware;
       has = c.requires.has;
       named = c.requires.named;
-    } in
-    (super_page_at t.start, supers_for t.len, comes_as g.row.P r k.result s t v k.new.seat.view k.new.root.view w b c.hand_map-run.result.view c.hand_map-run.ensures.given)
+    } in (
+      super_page_at t.start,
+      supers_for t.len,
+      comes_as g.row.P r k.result s t v k.new.seat.view k.new.root.view w b c.hand_map-run.result.view c.hand_map-run.ensures.given,
+    )
 
 pub append-requires-clause-host : goal.append-requires-clause-host
 append-requires-clause-host g c =
@@ -97,7 +100,8 @@ append-requires-clause-host g c =
     } in
     let h = c.hand_map-run in let a = c.give_run-asked in
     let y2 = a.new.root.view in let v2 = a.new.self.seat.now.view in let q = least_stake k.new.seat.view.stakes in
-    let given = given_for g.row.P r k.result s t v k.new.seat.view k.new.root.view w b c.args.line q a.result v2 h.new.seat.view h.result.view y2 h.ensures.left h.ensures.given a.ensures.gave in
+    let given = given_for g.row.P r k.result s t v k.new.seat.view k.new.root.view w b c.args.line q a.result v2 h.new.seat.view
+    h.result.view y2 h.ensures.left h.ensures.given a.ensures.gave in
     hosts_later g.row.P r k.result s t v k.new.seat.view k.new.root.view w b y2 (given.keeps 0).keeps
 
 pub invariant_of-self-2 : goal.invariant_of-self-2
@@ -118,14 +122,17 @@ invariant_of-self-2 g c =
     } in
     let h = c.hand_map-run in let a = c.give_run-asked in
     let y2 = a.new.root.view in let v2 = a.new.self.seat.now.view in let q = least_stake k.new.seat.view.stakes in
-    let given = given_for g.row.P r k.result s t v k.new.seat.view k.new.root.view w b c.args.line q a.result v2 h.new.seat.view h.result.view y2 h.ensures.left h.ensures.given a.ensures.gave in
+    let given = given_for g.row.P r k.result s t v k.new.seat.view k.new.root.view w b c.args.line q a.result v2 h.new.seat.view
+    h.result.view y2 h.ensures.left h.ensures.given a.ensures.gave in
     let x = c.append.new.host.view in
     let (m, noted_then) = c.append.ensures.noted in
     let slot : Numbered = record { slot = name_of t; number = k.result } in
     let e : RootEntry = root_entry c.args.line (Unmap a.result slot) in
-    let left : IsAware (left_after (run_parcel (super_page_at t.start) (supers_for t.len) t.born) k.new.root.view) = subst IsAware h.ensures.left h.ensures.aware in
+    let left : IsAware (left_after (run_parcel (super_page_at t.start) (supers_for t.len) t.born) k.new.root.view) =
+    subst IsAware h.ensures.left h.ensures.aware in
     let noted : IsNoted (least_stake v2.stakes) g.row.P (root_numbers e) v2 c.append.new.lender.view y2 x m =
-    subst (λ (z : View). IsNoted (least_stake z.stakes) g.row.P (root_numbers e) z c.append.new.lender.view y2 x m) (search rules) noted_then in
+    subst (λ (z : View). IsNoted (least_stake z.stakes) g.row.P (root_numbers e) z c.append.new.lender.view y2 x m)
+    (search rules) noted_then in
     let sound = sound_after g.row.P r k.result s t v k.new.seat.view k.new.root.view w b c.args.line a.result q (least_stake v2.stakes) v2
     c.append.new.lender.view y2 x m given noted left c.append.ensures.aware.1 in
     let same = c.make_room.ensures.same in
@@ -138,7 +145,8 @@ invariant_of-self-2 g c =
     let known = same_uncut t parcel s.view b.back.shown w k.new.root.view x (b.back.keeps 0).keeps b.back.long b.back.uncut
     (keeps_on (left_after parcel k.new.root.view) y2 x (given.keeps 0).keeps noted.hosts) in
     let shown = c.unmap.ensures.shown s.view s.root c.self.invariant.2.shown in
-    let done = kept_after g.row.P s.view s.view x s.journal e i.shelf c.unmap.new.self (unmapped (name_of t) s.root) c.self.invariant.2 tt sound known shown in (
+    let done = kept_after g.row.P s.view s.view x s.journal e i.shelf c.unmap.new.self
+    (unmapped (name_of t) s.root) c.self.invariant.2 tt sound known shown in (
       c.append.ensures.regions.1 ∙ a.ensures.region,
       omega arith,
       subst (λ es. IsKept g.row.P x es c.unmap.new.self) (sym grown) done,
@@ -162,16 +170,19 @@ returns-clause-took g c =
     } in
     let h = c.hand_map-run in let a = c.give_run-asked in
     let y2 = a.new.root.view in let v2 = a.new.self.seat.now.view in let q = least_stake k.new.seat.view.stakes in
-    let given = given_for g.row.P r k.result s t v k.new.seat.view k.new.root.view w b c.args.line q a.result v2 h.new.seat.view h.result.view y2 h.ensures.left h.ensures.given a.ensures.gave in
+    let given = given_for g.row.P r k.result s t v k.new.seat.view k.new.root.view w b c.args.line q a.result v2 h.new.seat.view
+    h.result.view y2 h.ensures.left h.ensures.given a.ensures.gave in
     let x = c.append.new.host.view in
     let (m, noted_then) = c.append.ensures.noted in
     let slot : Numbered = record { slot = name_of t; number = k.result } in
     let e : RootEntry = root_entry c.args.line (Unmap a.result slot) in
     let noted : IsNoted (least_stake v2.stakes) g.row.P (root_numbers e) v2 c.append.new.lender.view y2 x m =
-    subst (λ (z : View). IsNoted (least_stake z.stakes) g.row.P (root_numbers e) z c.append.new.lender.view y2 x m) (search rules) noted_then in
+    subst (λ (z : View). IsNoted (least_stake z.stakes) g.row.P (root_numbers e) z c.append.new.lender.view y2 x m)
+    (search rules) noted_then in
     let same_q : q ≡ r = (lends_again v k.new.seat.view k.ensures.back.lends.keeps c.requires.lender).1 in
     let same_k : least_stake v2.stakes ≡ r = (lends_again k.new.seat.view v2 given.lends.keeps k.ensures.again).1 ∙ same_q in
-    let enters = told g.row.P r k.result s t v k.new.seat.view k.new.root.view w b c.args.line a.result q (least_stake v2.stakes) v2 c.append.new.lender.view y2 x m given noted same_q same_k in
+    let enters = told g.row.P r k.result s t v k.new.seat.view k.new.root.view w b c.args.line a.result q
+    (least_stake v2.stakes) v2 c.append.new.lender.view y2 x m given noted same_q same_k in
     let named : e ≡ root_entry c.args.line (Unmap a.result (at_number_seen w t)) =
     ap (λ z. root_entry c.args.line (Unmap a.result z)) (same_slot g.row.P r k.result s t v k.new.seat.view k.new.root.view w b) in
     record {
@@ -183,5 +194,6 @@ returns-clause-took g c =
       };
       journal =
           c.append.ensures.journal ∙ (ap (λ js. js ++ e ∷ []) c.make_room.ensures.same
-          ∙ (ap (λ z. s.journal ++ z ∷ []) named ∙ ap (λ (z : RootState). z.journal ++ root_entry c.args.line (Unmap a.result (at_number_seen w t)) ∷ []) c.self.view_is));
+          ∙ (ap (λ z. s.journal ++ z ∷ []) named ∙
+          ap (λ (z : RootState). z.journal ++ root_entry c.args.line (Unmap a.result (at_number_seen w t)) ∷ []) c.self.view_is));
     }

@@ -9,7 +9,8 @@ loop-partition-preserved c =
     let n = c.loop-partition.partition in
     let j = c.new.result in
     let count : length js ≡ n = none_count n js c.loop-partition.invariant.empty in
-    let place : j.partition ≡ 0 + length js = ap (λ (z : OneJournal). z.partition) c.new.ensures.none ∙ sym count ∙ sym (zero-add (length js)) in
+    let place : j.partition ≡ 0 + length js = ap (λ (z : OneJournal). z.partition) c.new.ensures.none ∙ sym count ∙
+    sym (zero-add (length js)) in
     let more = c.in_ok-push.ensures.items in
     record {
       from = rw more (from_more 0 js j c.loop-partition.invariant.from place);

@@ -12,7 +12,8 @@ tell_all-requires-clause-main g c = subst (λ n. IsMain n c.args.seat.now.view) 
 
 pub tell_all-requires-clause-stakes : goal.tell_all-requires-clause-stakes
 tell_all-requires-clause-stakes g c =
-    returned_stakes c.args.queues.now c.args.workers.now c.play_phase.new.workers c.requires.ready c.play_phase.ensures.count c.play_phase.ensures.played
+    returned_stakes c.args.queues.now c.args.workers.now c.play_phase.new.workers c.requires.ready c.play_phase.ensures.count
+    c.play_phase.ensures.played
 
 pub returns-then-any_stopped-clause-returned : goal.returns-then-any_stopped-clause-returned
 returns-then-any_stopped-clause-returned g c =
@@ -27,7 +28,8 @@ returns-then-any_stopped-clause-every g c =
     let before = c.args.workers.now in
     let first = c.args.seat.now.view in
     returned_every queues before told.new.workers first told.new.seat.view
-    (returned queues before c.play_phase.new.workers told.new.workers first told.new.seat.view c.play_phase.ensures.count c.play_phase.ensures.played
+    (returned queues before c.play_phase.new.workers told.new.workers first told.new.seat.view c.play_phase.ensures.count
+    c.play_phase.ensures.played
     told.ensures.heard told.ensures.told)
 
 pub report_phase-requires-clause-every : goal.report_phase-requires-clause-every
@@ -37,7 +39,8 @@ report_phase-requires-clause-every g c =
     let before = c.args.workers.now in
     let first = c.args.seat.now.view in
     returned_every queues before told.new.workers first told.new.seat.view
-    (returned queues before c.play_phase.new.workers told.new.workers first told.new.seat.view c.play_phase.ensures.count c.play_phase.ensures.played
+    (returned queues before c.play_phase.new.workers told.new.workers first told.new.seat.view c.play_phase.ensures.count
+    c.play_phase.ensures.played
     told.ensures.heard told.ensures.told)
 
 pub report_phase-requires-clause-few : goal.report_phase-requires-clause-few
@@ -46,7 +49,8 @@ report_phase-requires-clause-few g c k low =
     let before = c.args.workers.now in
     let first = c.args.seat.now.view in
     let told = c.tell_all in
-    let back = returned queues before c.play_phase.new.workers told.new.workers first told.new.seat.view c.play_phase.ensures.count c.play_phase.ensures.played
+    let back = returned queues before c.play_phase.new.workers told.new.workers first told.new.seat.view c.play_phase.ensures.count
+    c.play_phase.ensures.played
     told.ensures.heard told.ensures.told in
     let count = told.ensures.count ∙ c.play_phase.ensures.count in
     let went = passed queues before told.new.workers first told.new.seat.view back count (c.any_stopped.ensures c.if-any_stopped.false) in
@@ -58,7 +62,8 @@ returns-clause-passed g c =
     let before = c.args.workers.now in
     let first = c.args.seat.now.view in
     let told = c.tell_all in
-    let back = returned queues before c.play_phase.new.workers told.new.workers first told.new.seat.view c.play_phase.ensures.count c.play_phase.ensures.played
+    let back = returned queues before c.play_phase.new.workers told.new.workers first told.new.seat.view c.play_phase.ensures.count
+    c.play_phase.ensures.played
     told.ensures.heard told.ensures.told in
     let count = told.ensures.count ∙ c.play_phase.ensures.count in
     let went = passed queues before told.new.workers first told.new.seat.view back count (c.any_stopped.ensures c.if-any_stopped.false) in
@@ -69,7 +74,8 @@ returns-clause-reported g c =
     let told = c.tell_all in
     let asked = c.report_phase in (
       told.new.seat.view,
-      subst (λ n. IsReported c.args.phase c.args.self.now.trace.now.partitions n (worker_in told.new.workers) told.new.seat.view asked.new.seat.view
+      subst (λ n. IsReported c.args.phase c.args.self.now.trace.now.partitions n
+          (worker_in told.new.workers) told.new.seat.view asked.new.seat.view
           c.args.report.now.items asked.new.report.items)
           (told.ensures.count ∙ c.play_phase.ensures.count) c.in_ok-report_phase.ensures.reported,
     )
@@ -77,31 +83,39 @@ returns-clause-reported g c =
 pub returns-in_err-report_phase-clause-returned : goal.returns-in_err-report_phase-clause-returned
 returns-in_err-report_phase-clause-returned g c =
     let told = c.tell_all in
-    (asked_back c.args.queues.now c.args.workers.now c.play_phase.new.workers told.new.workers c.args.seat.now.view told.new.seat.view c.report_phase.new.seat.view
+    (asked_back c.args.queues.now c.args.workers.now c.play_phase.new.workers told.new.workers c.args.seat.now.view told.new.seat.view
+    c.report_phase.new.seat.view
     c.play_phase.ensures.count c.play_phase.ensures.played told.ensures.heard told.ensures.told c.report_phase.ensures.asked).0
 
 pub returns-in_err-report_phase-clause-every : goal.returns-in_err-report_phase-clause-every
 returns-in_err-report_phase-clause-every g c =
     let told = c.tell_all in
-    (asked_back c.args.queues.now c.args.workers.now c.play_phase.new.workers told.new.workers c.args.seat.now.view told.new.seat.view c.report_phase.new.seat.view
+    (asked_back c.args.queues.now c.args.workers.now c.play_phase.new.workers told.new.workers c.args.seat.now.view told.new.seat.view
+    c.report_phase.new.seat.view
     c.play_phase.ensures.count c.play_phase.ensures.played told.ensures.heard told.ensures.told c.report_phase.ensures.asked).1
 
 pub returns-clause-returned : goal.returns-clause-returned
 returns-clause-returned g c =
     let told = c.tell_all in
-    (asked_back c.args.queues.now c.args.workers.now c.play_phase.new.workers told.new.workers c.args.seat.now.view told.new.seat.view c.report_phase.new.seat.view
+    (asked_back c.args.queues.now c.args.workers.now c.play_phase.new.workers told.new.workers c.args.seat.now.view told.new.seat.view
+    c.report_phase.new.seat.view
     c.play_phase.ensures.count c.play_phase.ensures.played told.ensures.heard told.ensures.told c.report_phase.ensures.asked).0
 
 pub returns-clause-every : goal.returns-clause-every
 returns-clause-every g c =
     let told = c.tell_all in
-    (asked_back c.args.queues.now c.args.workers.now c.play_phase.new.workers told.new.workers c.args.seat.now.view told.new.seat.view c.report_phase.new.seat.view
+    (asked_back c.args.queues.now c.args.workers.now c.play_phase.new.workers told.new.workers c.args.seat.now.view told.new.seat.view
+    c.report_phase.new.seat.view
     c.play_phase.ensures.count c.play_phase.ensures.played told.ensures.heard told.ensures.told c.report_phase.ensures.asked).1
 
 pub returns-then-any_stopped-clause-begun : goal.returns-then-any_stopped-clause-begun
 returns-then-any_stopped-clause-begun g c =
-    let told = c.tell_all.new in
-    (told.seat.view, 0, omega arith, report_none c.args.phase (length c.args.workers.now) (worker_in told.workers) told.seat.view c.args.report.now.items)
+    let told = c.tell_all.new in (
+      told.seat.view,
+      0,
+      omega arith,
+      report_none c.args.phase (length c.args.workers.now) (worker_in told.workers) told.seat.view c.args.report.now.items,
+    )
 
 pub returns-in_err-report_phase-clause-begun : goal.returns-in_err-report_phase-clause-begun
 returns-in_err-report_phase-clause-begun g c =
@@ -111,6 +125,7 @@ returns-in_err-report_phase-clause-begun g c =
       told.new.seat.view,
       partitions,
       omega arith,
-      subst (λ n. IsReported c.args.phase partitions n (worker_in told.new.workers) told.new.seat.view asked.new.seat.view c.args.report.now.items asked.new.report.items)
+      subst (λ n. IsReported c.args.phase partitions n
+          (worker_in told.new.workers) told.new.seat.view asked.new.seat.view c.args.report.now.items asked.new.report.items)
           (told.ensures.count ∙ c.play_phase.ensures.count) begun,
     )

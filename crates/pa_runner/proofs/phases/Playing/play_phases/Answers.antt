@@ -12,19 +12,22 @@ loop-line-init g c = record {
   number_is = refl;
   small = omega arith;
   going =
-      going_start c.args.self.now.trace.now c.args.workers.now c.in_ok-queues.queues.items c.args.seat.now.view c.new-report.result.items c.requires.main c.requires.new c.in_ok-queues.ensures
+      going_start c.args.self.now.trace.now c.args.workers.now c.in_ok-queues.queues.items c.args.seat.now.view c.new-report.result.items
+      c.requires.main c.requires.new c.in_ok-queues.ensures
       c.new-report.ensures.items;
 }
 
 pub next_phase-requires-clause-going : goal.next_phase-requires-clause-going
-next_phase-requires-clause-going g c κs within = (c.loop-line.line-index, going_as c.loop-line.invariant.going refl refl c.deref_mut.ensures.value refl refl)
+next_phase-requires-clause-going g c κs within =
+    (c.loop-line.line-index, going_as c.loop-line.invariant.going refl refl c.deref_mut.ensures.value refl refl)
 
 pub index_mut-requires : goal.index_mut-requires
 index_mut-requires g c =
     let long = c.loop-line.queues.ok.0 in
     let there = line_there c.args.self.now.trace.now c.loop-line.line-index c.loop-line.phase c.loop-line.workers c.loop-line.queues.items
     c.loop-line.seat.view c.loop-line.report.items c.requires.limits
-    c.loop-line.invariant.going c.as_slice-line-items.result.now _ c.in-Do.thread c.in-Do.op c.as_slice-line-items.ensures c.loop-line-test.true c.in-Do.is in
+    c.loop-line.invariant.going c.as_slice-line-items.result.now _ c.in-Do.thread c.in-Do.op c.as_slice-line-items.ensures
+    c.loop-line-test.true c.in-Do.is in
     omega arith
 
 pub loop-line-preserved : goal.loop-line-preserved
@@ -44,7 +47,8 @@ loop-line-preserved g c =
             going =
                 going_as
                 (w.in_ok-next_phase-in-Phase.ensures.next i
-                (begins_phase c.as_slice-line-items.result.now c.args.self.now.trace.now.lines i _ c.as_slice-line-items.ensures c.loop-line-test.true w.in-Phase.is)
+                (begins_phase c.as_slice-line-items.result.now c.args.self.now.trace.now.lines i _ c.as_slice-line-items.ensures
+                c.loop-line-test.true w.in-Phase.is)
                 (going_as so.going refl refl w.deref_mut.ensures.value refl refl))
                 w.phase-is w.workers-is (ap (λ v. v.items) w.queues-is ∙ all) (ap (λ s. s.view) w.seat-is) (ap (λ v. v.items) w.report-is);
           }
@@ -59,7 +63,8 @@ loop-line-preserved g c =
                 (line_pushed c.args.self.now.trace.now i c.loop-line.phase c.loop-line.workers c.loop-line.queues.items
                 c.loop-line.seat.view c.loop-line.report.items c.requires.limits so.going
                 c.as_slice-line-items.result.now _ w.in-Do.thread w.in-Do.op c.as_slice-line-items.ensures c.loop-line-test.true w.in-Do.is
-                c.loop-line.number w.index_mut.result.now w.push.new.self so.number_is w.index_mut.ensures.value w.in_ok-push-in-Do.ensures.pushed)
+                c.loop-line.number w.index_mut.result.now w.push.new.self so.number_is w.index_mut.ensures.value
+                w.in_ok-push-in-Do.ensures.pushed)
                 w.phase-is w.workers-is (ap (λ v. v.items) w.queues-is) (ap (λ s. s.view) w.seat-is) (ap (λ v. v.items) w.report-is);
           }
     ]
@@ -91,10 +96,13 @@ pass_phase-requires-clause-few g c κs within =
 pub returns-clause-played : goal.returns-clause-played
 returns-clause-played g c =
     let (told, said) = c.in_ok-pass_phase.ensures.reported in
-    going_ends c.args.self.now.trace.now c.loop-line.line-index c.loop-line.phase c.loop-line.workers c.deref.result.now c.loop-line.seat.view c.loop-line.report.items c.requires.limits
+    going_ends c.args.self.now.trace.now c.loop-line.line-index c.loop-line.phase c.loop-line.workers c.deref.result.now
+    c.loop-line.seat.view c.loop-line.report.items c.requires.limits
     (going_as c.loop-line.invariant.going refl refl c.deref.ensures.value refl refl)
-    c.pass_phase.new.workers c.pass_phase.new.seat.view c.in_ok-pass_phase.ensures.passed c.in_ok-pass_phase.ensures.aware told c.pass_phase.new.report.items said
-    (subst (λ (ls : List Line). length ls ≤ c.loop-line.line-index) c.as_slice-line-items.ensures c.loop-line-test.false) c.pass_phase.ensures.count
+    c.pass_phase.new.workers c.pass_phase.new.seat.view c.in_ok-pass_phase.ensures.passed c.in_ok-pass_phase.ensures.aware told
+    c.pass_phase.new.report.items said
+    (subst (λ (ls : List Line). length ls ≤ c.loop-line.line-index) c.as_slice-line-items.ensures c.loop-line-test.false)
+    c.pass_phase.ensures.count
 
 pub returns-in_err-queues-clause-stops : goal.returns-in_err-queues-clause-stops
 returns-in_err-queues-clause-stops g c =

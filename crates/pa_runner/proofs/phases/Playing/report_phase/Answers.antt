@@ -25,9 +25,12 @@ loop-partition-preserved g c =
       region = ap (λ (s : Share). s.region) c.balance-bytes.ensures.seat ∙ (c.census-census.ensures.region ∙ sym c.requires.region);
       low = omega arith;
       reported = subst (λ (v : View). IsReported c.args.phase (p + 1) threads workers first v before after) (sym same)
-          (report_more c.args.phase p _ threads workers first c.loop-partition.seat.view then before c.loop-partition.report.items after c.line_of-line.result
-          c.loop-partition.invariant.reported c.aware.ensures.aware c.requires.every c.census-census.ensures.keeps c.census-census.ensures.same
-          (c.line_of-line.ensures.right then c.census-census.ensures.taken balance) c.line_of-line.ensures.partition c.in_ok-push.ensures.items);
+          (report_more c.args.phase p _ threads workers first c.loop-partition.seat.view then before c.loop-partition.report.items after
+          c.line_of-line.result
+          c.loop-partition.invariant.reported c.aware.ensures.aware c.requires.every c.census-census.ensures.keeps
+          c.census-census.ensures.same
+          (c.line_of-line.ensures.right then c.census-census.ensures.taken balance) c.line_of-line.ensures.partition
+          c.in_ok-push.ensures.items);
     }
 
 pub returns-in_err-push-clause-asked : goal.returns-in_err-push-clause-asked
@@ -37,7 +40,8 @@ returns-in_err-push-clause-asked g c =
     let then = c.census-census.new.seat.view in
     let same : c.balance-bytes.new.seat.view ≡ then = ap (λ (s : Share). s.view) c.balance-bytes.ensures.seat in
     let every = asked_every first c.loop-partition.seat.view so.asked c.requires.every in
-    subst (HasAsked first) (sym same) (asked_more _ first c.loop-partition.seat.view then so.asked c.census-census.ensures.keeps (c.census-census.ensures.same every))
+    subst (HasAsked first) (sym same)
+    (asked_more _ first c.loop-partition.seat.view then so.asked c.census-census.ensures.keeps (c.census-census.ensures.same every))
 
 pub returns-in_err-push-clause-begun : goal.returns-in_err-push-clause-begun
 returns-in_err-push-clause-begun g c =
@@ -49,10 +53,12 @@ returns-in_err-push-clause-begun g c =
     let before = c.args.report.now.items in
     let same : c.balance-bytes.new.seat.view ≡ then = ap (λ (s : Share). s.view) c.balance-bytes.ensures.seat in
     let asked =
-    report_asked c.args.phase p _ threads workers first c.loop-partition.seat.view then before c.loop-partition.report.items c.loop-partition.invariant.reported c.aware.ensures.aware
+    report_asked c.args.phase p _ threads workers first c.loop-partition.seat.view then before c.loop-partition.report.items
+    c.loop-partition.invariant.reported c.aware.ensures.aware
     c.requires.every c.census-census.ensures.keeps c.census-census.ensures.same in any_err c.from_residual.result _ (
       p,
       c.loop-partition-test.true,
       subst (λ (v : View). IsReported c.args.phase p threads workers first v before c.push.new.self.items) (sym same)
-          (subst (λ (ls : List ReportLine). IsReported c.args.phase p threads workers first then before ls) (sym c.in_err-push.ensures.items) asked),
+          (subst (λ (ls : List ReportLine). IsReported c.args.phase p threads workers first then before ls)
+          (sym c.in_err-push.ensures.items) asked),
     )

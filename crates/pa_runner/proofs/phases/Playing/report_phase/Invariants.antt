@@ -8,5 +8,6 @@ abbrev pub invariant-loop-partition : goal.invariant-loop-partition
 invariant-loop-partition g l = record {
   region : l.seat.region ≡ l.fn.seat.region;
   low : l.partition ≤ l.partitions;
-  reported : IsReported l.phase l.partition (length l.workers) (worker_in l.workers) l.fn.seat.view l.seat.view l.fn.report.items l.report.items;
+  reported : IsReported l.phase l.partition (length l.workers)
+      (worker_in l.workers) l.fn.seat.view l.seat.view l.fn.report.items l.report.items;
 }

@@ -32,7 +32,8 @@ returns-in-Some-clause-shown c r sound shown =
     let e = here_room c.args.own.now.view c.args.self.now r c.args.class c.room_for.result shown.kept c.room_for.ensures in
     let found = found_some c.args.class r (current r) c.in-Some.at (e ∙ c.in-Some.is) in
     let (now, room) = room_some c.args.class r.page (current r) c.in-Some.at (e ∙ c.in-Some.is) in
-    subst (ShowsRoot c.start_span.new.own.view c.start_span.new.self) (sym (ap (λ o. found_root o r) found)) (c.start_span.ensures.shown r sound shown now room)
+    subst (ShowsRoot c.start_span.new.own.view c.start_span.new.self) (sym (ap (λ o. found_root o r) found))
+    (c.start_span.ensures.shown r sound shown now room)
 
 pub returns-clause-start : goal.returns-clause-start
 returns-clause-start c r sound shown =
@@ -42,7 +43,8 @@ returns-clause-start c r sound shown =
 pub returns-clause-shown : goal.returns-clause-shown
 returns-clause-shown c r sound shown =
     let e = here_room c.args.own.now.view c.args.self.now r c.args.class c.room_for.result shown.kept c.room_for.ensures in
-    subst (ShowsRoot c.args.own.now.view c.args.self.now) (sym (ap (λ o. found_root o r) (found_none c.args.class r (current r) (e ∙ c.in_default.is)))) shown
+    subst (ShowsRoot c.args.own.now.view c.args.self.now)
+    (sym (ap (λ o. found_root o r) (found_none c.args.class r (current r) (e ∙ c.in_default.is)))) shown
 
 pub returns-clause-rest : goal.returns-clause-rest
 returns-clause-rest c = rewritten_none c.args.own.now.view

@@ -16,7 +16,8 @@ use Rattle.pa_shelf.proofs.shelf.Shelf.change.Goals as goal
 pub change_in-requires-clause-stand : goal.change_in-requires-clause-stand
 change_in-requires-clause-stand c =
     let x = c.args.own.now in let y = c.new-store.result.seat.now in
-    let st = subst (λ (p : ShelfParts). Stand p.lists (spans_in x.view.words) (HasSpanAt x.view p.supers)) (sym c.self.view_is) c.requires.stand in
+    let st = subst (λ (p : ShelfParts). Stand p.lists (spans_in x.view.words) (HasSpanAt x.view p.supers))
+    (sym c.self.view_is) c.requires.stand in
     stands_in c.self.inside.lists x y c.new-store.result.region.now c.self.inside.supers.items c.new-store.result.supers.now
     (record {
       seat = c.new-store.ensures.seat;
@@ -46,22 +47,28 @@ returns-clause-kept c r s t k among is_for =
     } in
     let kept = subst (λ (p : ShelfParts). RecordsRoot a.view p r) (sym c.self.view_is) k in
     let same : (u : ℕ) → HasSpanAt y.view supers u ↔ HasSpanAt a.view supers u = λ u.
-    let p = has_alike y y new.region.now supers new.supers.now is_new u in let q = has_alike a b old.region.now supers old.supers.now is_old u in
+    let p = has_alike y y new.region.now supers new.supers.now is_new u in
+    let q = has_alike a b old.region.now supers old.supers.now is_old u in
     let m = c.change_in.ensures.has u in (λ h. q.0 (m.0 (p.1 h)), λ h. p.0 (m.1 (q.1 h))) in
     let stored_before : AreStored (spans_in b.view.words) (stored_at b old.region.now old.supers.now) r.spans =
     stored_alike a b old.region.now supers old.supers.now is_old r.spans kept.stored in
     let stored_after = stored_back y y new.region.now supers new.supers.now is_new (put (in_state c.args.to l.turn t) r.spans)
     (c.change_in.ensures.stored r.spans s t stored_before among is_for) in
     let stand = stands_out (lists_entered c.args.at c.args.to l c.args.span) y y new.region.now supers new.supers.now is_new
-    (subst (λ (z : SpanListParts). Stand z (spans_in y.view.words) (stored_at y new.region.now new.supers.now)) c.change_in.ensures.lists c.change_in.ensures.stand) in
-    let few = subst (λ (p : ShelfParts). length (lists_entered c.args.at c.args.to p.lists c.args.span).ring ≤ 17) (sym c.self.view_is) c.requires.few in
+    (subst (λ (z : SpanListParts). Stand z (spans_in y.view.words) (stored_at y new.region.now new.supers.now)) c.change_in.ensures.lists
+    c.change_in.ensures.stand) in
+    let few = subst (λ (p : ShelfParts). length (lists_entered c.args.at c.args.to p.lists c.args.span).ring ≤ 17)
+    (sym c.self.view_is) c.requires.few in
     let both_old = has_alike a b old.region.now supers old.supers.now is_old in
     let both_new = has_alike y y new.region.now supers new.supers.now is_new in
     let before : (u : ℕ) → stored_at b old.region.now old.supers.now u → StartsAtZero (spans_in b.view.words u) = λ u h.
     subst (λ (z : Share). StartsAtZero (spans_in z.view.words u)) (sym is_old.seat) (kept.unused u ((both_old u).0 h)) in
     let unused : (u : ℕ) → HasSpanAt y.view supers u → StartsAtZero (spans_in y.view.words u) = λ u h.
     c.change_in.ensures.unused r.spans s t stored_before among is_for before u ((both_new u).1 h) in
-    let done = change_kept a.view y.view (Shelf.the_view c.self.inside) c.args.span c.args.at c.args.to r s t kept is_for same unused stand few stored_after in
+    let done = change_kept a.view y.view
+    (Shelf.the_view c.self.inside) c.args.span c.args.at c.args.to r s t kept is_for same unused stand few stored_after in
     let last : c.own-1.given.0 ≡ y = c.own-1.given.1 (sym (follows.0 ∙ c.new-store.ensures.same_reference)) in
-    subst (λ (z : Share). RecordsRoot z.view (record (Shelf.the_view c.self.inside) { lists = c.change_in.new.lists }) (entered c.args.to t r)) (sym last)
-    (subst (λ (z : SpanListParts). RecordsRoot y.view (record (Shelf.the_view c.self.inside) { lists = z }) (entered c.args.to t r)) (sym c.change_in.ensures.lists) done)
+    subst (λ (z : Share). RecordsRoot z.view (record (Shelf.the_view c.self.inside) { lists = c.change_in.new.lists })
+    (entered c.args.to t r)) (sym last)
+    (subst (λ (z : SpanListParts). RecordsRoot y.view (record (Shelf.the_view c.self.inside) { lists = z }) (entered c.args.to t r))
+    (sym c.change_in.ensures.lists) done)

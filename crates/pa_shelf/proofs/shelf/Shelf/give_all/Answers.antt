@@ -64,7 +64,8 @@ loop-title-preserved c =
     let wrote = subst (λ (q : Share). Rewritten q.view w) c.span_at-at.ensures.seat c.give_back.ensures.rest in
     let after = λ (z : Root) (h : AreBack v l (t ∷ drop (i + 1) ts) z).
     let (s, n, there) = first_back v l t (drop (i + 1) ts) z h in
-    c.give_back.ensures.shown z s n (back_there c.span_at-at.new.own c.loop-title.own l c.span_at-at.result t z s n there c.span_at-at.ensures.seat
+    c.give_back.ensures.shown z s n
+    (back_there c.span_at-at.new.own c.loop-title.own l c.span_at-at.result t z s n there c.span_at-at.ensures.seat
     (c.span_at-at.ensures.start z s n there)) in
     record {
       region = c.give_back.ensures.region ∙ (ap (λ (q : Share). q.region) c.span_at-at.ensures.seat ∙ c.loop-title.invariant.region);

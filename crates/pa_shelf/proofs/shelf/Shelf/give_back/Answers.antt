@@ -26,7 +26,8 @@ returns-in-Some-clause-shown c r s n b =
     let shown = c.put_back.ensures.shown r s n b in
     let sound = (back_is v l c.args.at t r s n b).kept.sound in
     subst (ShowsRoot c.decommit_oldest.new.own.view c.decommit_oldest.new.self)
-    (sym (returned_is v l c.args.at t r s n b ∙ settle_some w m after c.in-Some.oldest shown.kept (sym c.put_back.ensures.oldest ∙ c.in-Some.is)))
+    (sym (returned_is v l c.args.at t r s n b ∙
+    settle_some w m after c.in-Some.oldest shown.kept (sym c.put_back.ensures.oldest ∙ c.in-Some.is)))
     (c.decommit_oldest.ensures.shown after sound shown)
 
 pub returns-in_default-clause-shown : goal.returns-in_default-clause-shown

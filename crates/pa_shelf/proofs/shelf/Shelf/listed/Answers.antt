@@ -14,4 +14,5 @@ returns c v r sound k =
     c.first_some-2.ensures
     ∙ (ap (first_some c.top-active.result) c.first_some.ensures
     ∙ listed_is v l r c.args.class c.top-active.result c.top-empty.result c.top-decommitted.result c.number.ensures.bound sound k
-    (c.top-active.ensures ∙ same state.Active) (c.top-empty.ensures ∙ same state.Empty) (c.top-decommitted.ensures ∙ same state.Decommitted))
+    (c.top-active.ensures ∙ same state.Active) (c.top-empty.ensures ∙ same state.Empty)
+    (c.top-decommitted.ensures ∙ same state.Decommitted))

@@ -14,5 +14,7 @@ returns-clause-shown c r sound shown =
     let l = Shelf.the_view c.self.inside in
     let before = subst (λ (p : ShelfParts). ShowsRoot v p r) (sym c.self.view_is) shown in
     let new = subst (λ (p : ShelfParts). IsNewNumber at.number p.supers) (sym c.self.view_is) c.requires.new in
-    let done = opened_shown v w l r at c.aware.ensures.aware sound before c.requires.number new c.clear.ensures.view c.requires.raw c.clear.ensures.blank in
-    subst (λ (zs : List SuperPage). ShowsRoot w (record l { supers = zs; page = 1 }) (opened at.number at.born r)) (sym c.push_reserved.ensures.items) done
+    let done = opened_shown v w l r at c.aware.ensures.aware sound before c.requires.number new c.clear.ensures.view c.requires.raw
+    c.clear.ensures.blank in
+    subst (λ (zs : List SuperPage). ShowsRoot w (record l { supers = zs; page = 1 }) (opened at.number at.born r))
+    (sym c.push_reserved.ensures.items) done

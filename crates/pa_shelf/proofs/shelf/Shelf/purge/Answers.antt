@@ -33,7 +33,8 @@ loop-done-preserved c = record {
       subst (ShowsRoot c.decommit_oldest.new.own.view c.decommit_oldest.new.self) (sym (times_more n r))
       (c.decommit_oldest.ensures.shown (decommitted_times n r) (times_is n r sound).kept.sound (c.loop-done.invariant.shown r sound shown));
   rest = let w = c.loop-done.own.view in let x = c.decommit_oldest.new.own.view in
-      rewritten_on c.args.own.now.view w x c.loop-done.invariant.rest (of_records c.loop-done.self.supers w x c.decommit_oldest.ensures.view);
+      rewritten_on c.args.own.now.view w x c.loop-done.invariant.rest
+      (of_records c.loop-done.self.supers w x c.decommit_oldest.ensures.view);
 }
 
 pub returns-clause-region : goal.returns-clause-region

@@ -103,8 +103,10 @@ returns-clause-shown c r s n b =
     (subst (λ (d : ChainParts). IsChain c.push_onto.new.own.view (pushed_parts t d) (t ∷ titles_free s)) parts after) in
     let moved = subst (λ (z : View). (q : Root) (a d : RootSpan) → RecordsRoot z l q → Contains q.spans a → IsRecordFor at y a d →
     RecordsRoot w c.change.new.self (entered to d q)) e c.change.ensures.kept in
-    back_shown (byte_word_count c.args.own.now.region) v w l c.change.new.self at t link r s n x y to b c.aware.ensures.aware c.placed.ensures.well
-    c.requires.able (subst IsAware e c.aware-2.ensures.aware) (subst (λ (z : View). Rerecorded l.supers z w) e c.change.ensures.view) x_is c.with_front.ensures
+    back_shown (byte_word_count c.args.own.now.region) v w l c.change.new.self at t link r s n x y to b c.aware.ensures.aware
+    c.placed.ensures.well
+    c.requires.able (subst IsAware e c.aware-2.ensures.aware)
+    (subst (λ (z : View). Rerecorded l.supers z w) e c.change.ensures.view) x_is c.with_front.ensures
     (c.state_back-to.ensures ∙ sym (ap (λ (z : SpanRecord). state_with z.allocated) c.with_front.ensures)) chain (moved r)
 
 pub returns-clause-rest : goal.returns-clause-rest

@@ -14,7 +14,8 @@ use Rattle.pa_shelf.proofs.shelf.Shelf.record_new.Goals as goal
 pub record_in-requires-clause-stand : goal.record_in-requires-clause-stand
 record_in-requires-clause-stand c =
     let x = c.args.own.now in let y = c.new-store.result.seat.now in
-    let st = subst (λ (p : ShelfParts). Stand p.lists (spans_in x.view.words) (HasSpanAt x.view p.supers)) (sym c.self.view_is) c.requires.stand in
+    let st = subst (λ (p : ShelfParts). Stand p.lists (spans_in x.view.words) (HasSpanAt x.view p.supers))
+    (sym c.self.view_is) c.requires.stand in
     stands_in c.self.inside.lists x y c.new-store.result.region.now c.self.inside.supers.items c.new-store.result.supers.now
     (record {
       seat = c.new-store.ensures.seat;

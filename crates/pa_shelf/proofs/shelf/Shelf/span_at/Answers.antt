@@ -54,7 +54,8 @@ returns-then-not-starts_none-clause-start c r s n b =
     let (aligned, low) = page_is at c.loop-back.back c.args.title.start i.page in
     let h = page_has v c.args.self.now c.args.title r s n at b aligned (i.after r s n b) low in
     let is : spans_in v.words at ≡ h.span = span_is v.words at h.span aligned h.recorded in
-    let none = c.starts_none.ensures.none h.span (subst (λ (z : Share). IsRecordAt z.view.words (record_word at) h.span) (sym i.seat) h.recorded) in
+    let none = c.starts_none.ensures.none h.span
+    (subst (λ (z : Share). IsRecordAt z.view.words (record_word at) h.span) (sym i.seat) h.recorded) in
     is_first v c.args.self.now c.args.title r s n at b aligned (i.after r s n b) low
     (ap (λ (x : Span). same_state x.state state.None) is ∙ (sym none ∙ c.if-not-starts_none.true))
 
@@ -65,7 +66,8 @@ overflow_sub-at c =
     let (aligned, low) = page_is at c.loop-back.back c.args.title.start i.page in
     let h = page_has v c.args.self.now c.args.title r s n at b aligned (i.after r s n b) low in
     let is : spans_in v.words at ≡ h.span = span_is v.words at h.span aligned h.recorded in
-    let none = c.starts_none.ensures.none h.span (subst (λ (z : Share). IsRecordAt z.view.words (record_word at) h.span) (sym i.seat) h.recorded) in
+    let none = c.starts_none.ensures.none h.span
+    (subst (λ (z : Share). IsRecordAt z.view.words (record_word at) h.span) (sym i.seat) h.recorded) in
     let some = goes_on v c.args.self.now c.args.title r s n at b aligned (i.after r s n b)
     (ap (λ (x : Span). same_state x.state state.None) is ∙ (sym none ∙ c.if-not-starts_none.false)) in
     omega arith
@@ -78,7 +80,8 @@ loop-back-preserved c =
     let goes : (r : Root) (s : RootSpan) (n : ℕ) → IsBackAt v c.args.self.now s.place c.args.title r s n → s.place + 16384 ≤ at = λ r s n b.
     let h = page_has v c.args.self.now c.args.title r s n at b aligned (i.after r s n b) low in
     let is : spans_in v.words at ≡ h.span = span_is v.words at h.span aligned h.recorded in
-    let none = c.starts_none.ensures.none h.span (subst (λ (z : Share). IsRecordAt z.view.words (record_word at) h.span) (sym i.seat) h.recorded) in
+    let none = c.starts_none.ensures.none h.span
+    (subst (λ (z : Share). IsRecordAt z.view.words (record_word at) h.span) (sym i.seat) h.recorded) in
     goes_on v c.args.self.now c.args.title r s n at b aligned (i.after r s n b)
     (ap (λ (x : Span). same_state x.state state.None) is ∙ (sym none ∙ c.if-not-starts_none.false)) in
     let (r, s, n, b) = c.requires.back in let some = goes r s n b in

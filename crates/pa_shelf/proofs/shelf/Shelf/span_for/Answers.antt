@@ -21,10 +21,13 @@ returns-in-Some-clause-rest c = rewritten_none c.args.own.now.view
 
 pub returns-clause-start : goal.returns-clause-start
 returns-clause-start c r sound shown =
-    let none = none_listed c.args.class r (listed c.args.class r.spans) (sym c.in_default.is ∙ c.listed.ensures c.args.own.now.view r sound shown.kept) in
+    let none = none_listed c.args.class r (listed c.args.class r.spans)
+    (sym c.in_default.is ∙ c.listed.ensures c.args.own.now.view r sound shown.kept) in
     c.add_span.ensures.start r sound shown ∙ sym (ap found_start none)
 
 pub returns-clause-shown : goal.returns-clause-shown
 returns-clause-shown c r sound shown =
-    let none = none_listed c.args.class r (listed c.args.class r.spans) (sym c.in_default.is ∙ c.listed.ensures c.args.own.now.view r sound shown.kept) in
-    subst (ShowsRoot c.add_span.new.own.view c.add_span.new.self) (sym (ap (λ o. found_root o r) none)) (c.add_span.ensures.shown r sound shown)
+    let none = none_listed c.args.class r (listed c.args.class r.spans)
+    (sym c.in_default.is ∙ c.listed.ensures c.args.own.now.view r sound shown.kept) in
+    subst (ShowsRoot c.add_span.new.own.view c.add_span.new.self) (sym (ap (λ o. found_root o r) none))
+    (c.add_span.ensures.shown r sound shown)

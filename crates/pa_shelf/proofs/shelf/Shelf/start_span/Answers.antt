@@ -35,7 +35,8 @@ record_new-requires-clause-has c =
     let (r, sound, shown, now, room) = c.requires.able in
     let v = c.args.own.now.view in let l = c.args.self.now in
     let start : page_place c.args.at.number r.page ≡ c.page_start-start.result =
-    at_is c.args.at r.page c.self.inside.page c.page_start-start.result (shown.kept.page ∙ sym (ap (λ (p : ShelfParts). p.page) c.self.view_is)) c.page_start-start.ensures in
+    at_is c.args.at r.page c.self.inside.page c.page_start-start.result
+    (shown.kept.page ∙ sym (ap (λ (p : ShelfParts). p.page) c.self.view_is)) c.page_start-start.ensures in
     subst (HasSpanAt v l.supers) start (is_fresh v l r c.args.class c.args.at sound shown now c.span_of-pages.ensures.bound room).has
 
 pub record_new-requires-clause-outside : goal.record_new-requires-clause-outside
@@ -43,17 +44,21 @@ record_new-requires-clause-outside c =
     let (r, sound, shown, now, room) = c.requires.able in
     let v = c.args.own.now.view in let l = c.args.self.now in
     let start : page_place c.args.at.number r.page ≡ c.page_start-start.result =
-    at_is c.args.at r.page c.self.inside.page c.page_start-start.result (shown.kept.page ∙ sym (ap (λ (p : ShelfParts). p.page) c.self.view_is)) c.page_start-start.ensures in
-    subst (λ u. IsOutside (spans_in v.words u)) start (is_fresh v l r c.args.class c.args.at sound shown now c.span_of-pages.ensures.bound room).outside
+    at_is c.args.at r.page c.self.inside.page c.page_start-start.result
+    (shown.kept.page ∙ sym (ap (λ (p : ShelfParts). p.page) c.self.view_is)) c.page_start-start.ensures in
+    subst (λ u. IsOutside (spans_in v.words u)) start
+    (is_fresh v l r c.args.class c.args.at sound shown now c.span_of-pages.ensures.bound room).outside
 
 pub record_new-requires-clause-zero : goal.record_new-requires-clause-zero
 record_new-requires-clause-zero c =
     let (r, sound, shown, now, room) = c.requires.able in
     let v = c.args.own.now.view in let l = c.args.self.now in
     let start : page_place c.args.at.number r.page ≡ c.page_start-start.result =
-    at_is c.args.at r.page c.self.inside.page c.page_start-start.result (shown.kept.page ∙ sym (ap (λ (p : ShelfParts). p.page) c.self.view_is)) c.page_start-start.ensures in
+    at_is c.args.at r.page c.self.inside.page c.page_start-start.result
+    (shown.kept.page ∙ sym (ap (λ (p : ShelfParts). p.page) c.self.view_is)) c.page_start-start.ensures in
     subst (λ u. StartsAtZero (spans_in v.words u)) start
-    (shown.kept.unused (page_place c.args.at.number r.page) (is_fresh v l r c.args.class c.args.at sound shown now c.span_of-pages.ensures.bound room).has)
+    (shown.kept.unused (page_place c.args.at.number r.page)
+    (is_fresh v l r c.args.class c.args.at sound shown now c.span_of-pages.ensures.bound room).has)
 
 pub returns-clause-shown : goal.returns-clause-shown
 returns-clause-shown c r sound shown now room =
@@ -61,7 +66,8 @@ returns-clause-shown c r sound shown now room =
     let class = c.args.class in let a = c.args.at in
     let pages : c.span_of-pages.result.pages ≡ pages_of class = ap (λ (s : SpanShape). s.pages) c.span_of-pages.ensures.shape in
     let start : page_place a.number r.page ≡ c.page_start-start.result =
-    at_is a r.page c.self.inside.page c.page_start-start.result (shown.kept.page ∙ sym (ap (λ (p : ShelfParts). p.page) c.self.view_is)) c.page_start-start.ensures in
+    at_is a r.page c.self.inside.page c.page_start-start.result
+    (shown.kept.page ∙ sym (ap (λ (p : ShelfParts). p.page) c.self.view_is)) c.page_start-start.ensures in
     let fresh = is_fresh v l r class a sound shown now c.span_of-pages.ensures.bound room in
     let added = subst (λ u. IsAddedAs u class r.spans (new_span class a r.page)) start (is_added v l r class a fresh) in
     added_shown v w l _ r class a sound shown c.aware.ensures.aware c.record_new.ensures.view

@@ -53,7 +53,8 @@ pub change-requires-clause-stays : goal.change-requires-clause-stays
 change-requires-clause-stays c =
     let (r, s, b) = c.requires.ready in
     let z = spans_in c.args.own.now.view.words c.args.first.start in
-    subst (λ (u : Share). StaysListed (spans_in u.view.words c.args.first.start) c.without_front-next.result) (sym c.front_off-front.ensures.seat)
+    subst (λ (u : Share). StaysListed (spans_in u.view.words c.args.first.start) c.without_front-next.result)
+    (sym c.front_off-front.ensures.seat)
     (front_listed c.args.span c.without_front-next.result z c.front_off-front.result.next b.listed c.without_front-next.ensures)
 
 pub change-requires-clause-used : goal.change-requires-clause-used
@@ -89,10 +90,12 @@ returns-clause-shown c r s b =
     let whole : IsChain v (parts_of_record x t) (title_at f h.number ∷ ts) =
     subst (λ (d : ChainParts). IsChain v d (title_at f h.number ∷ ts)) (sym (ready_parts v l x t r s b))
     (subst (λ (xs : List ℕ). IsChain v (chain_of f) (map (title_at f) xs)) h.free b.chain) in
-    let moved = subst (λ (z : Share). (q : Root) (a d : RootSpan) → RecordsRoot z.view l q → Contains q.spans a → IsRecordFor t.start y a d →
+    let moved = subst (λ (z : Share). (q : Root) (a d : RootSpan) → RecordsRoot z.view l q → Contains q.spans a →
+    IsRecordFor t.start y a d →
     RecordsRoot w c.change.new.self (entered c.state_out-to.result d q)) seat c.change.ensures.kept in
     let wrote = subst (λ (z : Share). Rerecorded l.supers z.view w) seat c.change.ensures.view in
-    take_shown v w l c.change.new.self x y t r s h.number c.front_off-front.result.next h.rest c.state_out-to.result b c.aware.ensures.aware wrote h.free
+    take_shown v w l c.change.new.self x y t r s h.number c.front_off-front.result.next h.rest c.state_out-to.result b c.aware.ensures.aware
+    wrote h.free
     c.without_front-next.ensures (c.front_off-front.ensures.front (title_at f h.number) ts whole).1 c.state_out-to.ensures (moved r)
 
 pub returns-clause-rest : goal.returns-clause-rest

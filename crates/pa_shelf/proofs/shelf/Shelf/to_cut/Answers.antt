@@ -26,5 +26,6 @@ pub returns-clause-cut : goal.returns-clause-cut
 returns-clause-cut c r s b =
     let l = c.args.self.now in
     let y = c.read_meta-span.new.seat in let z = c.args.own.now in
-    c.new_slots.ensures y.view l r s (slot_is y z l c.args.at r s c.read_meta-span.result c.first_of-first.result b c.read_meta-span.ensures.seat
+    c.new_slots.ensures y.view l r s
+    (slot_is y z l c.args.at r s c.read_meta-span.result c.first_of-first.result b c.read_meta-span.ensures.seat
     c.read_meta-span.ensures.span (c.first_of-first.ensures z.view r s b))

@@ -9,7 +9,8 @@ use Rattle.pa_shelf.proofs.shelf.Shelf.unmap.Goals as goal
 pub returns-in-Some-clause-parts : goal.returns-in-Some-clause-parts
 returns-in-Some-clause-parts c =
     let l = Shelf.the_view c.self.inside in
-    let items = c.remove.ensures.items ∙ removed_named c.args.name c.in-Some.at l.maps (rw c.deref.ensures.value at (sym c.in-Some.ensures)) in
+    let items = c.remove.ensures.items ∙
+    removed_named c.args.name c.in-Some.at l.maps (rw c.deref.ensures.value at (sym c.in-Some.ensures)) in
     ap (λ (zs : List Title). record l { maps = zs }) items
     ∙ ap (λ (p : ShelfParts). record p { maps = without_map c.args.name p.maps }) c.self.view_is
 

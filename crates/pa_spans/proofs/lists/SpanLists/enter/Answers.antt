@@ -31,17 +31,20 @@ put_in-requires-clause-head g c filled =
 
 pub put_in-requires-clause-few : goal.put_in-requires-clause-few
 put_in-requires-clause-few g c =
-    room_is_left c.args.self.now c.take_out.new.self (g.S.SpanStore.spans c.args.store.now) c.args.at c.get-span.result c.args.to c.get-span.ensures.span
+    room_is_left c.args.self.now c.take_out.new.self
+    (g.S.SpanStore.spans c.args.store.now) c.args.at c.get-span.result c.args.to c.get-span.ensures.span
     (sym c.is_in.ensures ∙ c.if-is_in.false) c.take_out.ensures.lists c.requires.few
 
 pub put_in-requires-clause-turn : goal.put_in-requires-clause-turn
 put_in-requires-clause-turn g c =
-    let same : c.take_out.new.self.turn ≡ c.args.self.now.turn = ap (λ (z : SpanListParts). z.turn) c.take_out.ensures.lists ∙ turn_kept c.args.at c.get-span.result c.args.self.now in
+    let same : c.take_out.new.self.turn ≡ c.args.self.now.turn = ap (λ (z : SpanListParts). z.turn) c.take_out.ensures.lists ∙
+    turn_kept c.args.at c.get-span.result c.args.self.now in
     omega arith
 
 pub returns-clause-entered : goal.returns-clause-entered
 returns-clause-entered g c u =
-    let moves : Moves c.args.self.now c.take_out.new.self c.put_in.new.self (g.S.SpanStore.spans c.args.store.now) (g.S.SpanStore.spans c.get-span.new.self)
+    let moves : Moves c.args.self.now c.take_out.new.self c.put_in.new.self (g.S.SpanStore.spans c.args.store.now)
+    (g.S.SpanStore.spans c.get-span.new.self)
     (g.S.SpanStore.spans c.take_out.new.store) (g.S.SpanStore.spans c.put_in.new.store) c.args.at c.get-span.result c.args.to = record {
       seen_is = c.get-span.ensures.same;
       span_is = c.get-span.ensures.span;
@@ -51,12 +54,14 @@ returns-clause-entered g c u =
       after_is = c.put_in.ensures.spans;
       lists_are = c.put_in.ensures.lists;
     } in
-    spans_moved c.args.self.now c.take_out.new.self c.put_in.new.self (g.S.SpanStore.spans c.args.store.now) (g.S.SpanStore.spans c.get-span.new.self)
+    spans_moved c.args.self.now c.take_out.new.self c.put_in.new.self (g.S.SpanStore.spans c.args.store.now)
+    (g.S.SpanStore.spans c.get-span.new.self)
     (g.S.SpanStore.spans c.take_out.new.store) (g.S.SpanStore.spans c.put_in.new.store) c.args.at c.get-span.result c.args.to moves u
 
 pub returns-clause-lists : goal.returns-clause-lists
 returns-clause-lists g c =
-    let moves : Moves c.args.self.now c.take_out.new.self c.put_in.new.self (g.S.SpanStore.spans c.args.store.now) (g.S.SpanStore.spans c.get-span.new.self)
+    let moves : Moves c.args.self.now c.take_out.new.self c.put_in.new.self (g.S.SpanStore.spans c.args.store.now)
+    (g.S.SpanStore.spans c.get-span.new.self)
     (g.S.SpanStore.spans c.take_out.new.store) (g.S.SpanStore.spans c.put_in.new.store) c.args.at c.get-span.result c.args.to = record {
       seen_is = c.get-span.ensures.same;
       span_is = c.get-span.ensures.span;
@@ -66,7 +71,8 @@ returns-clause-lists g c =
       after_is = c.put_in.ensures.spans;
       lists_are = c.put_in.ensures.lists;
     } in
-    lists_moved c.args.self.now c.take_out.new.self c.put_in.new.self (g.S.SpanStore.spans c.args.store.now) (g.S.SpanStore.spans c.get-span.new.self)
+    lists_moved c.args.self.now c.take_out.new.self c.put_in.new.self (g.S.SpanStore.spans c.args.store.now)
+    (g.S.SpanStore.spans c.get-span.new.self)
     (g.S.SpanStore.spans c.take_out.new.store) (g.S.SpanStore.spans c.put_in.new.store) c.args.at c.get-span.result c.args.to moves
 
 pub returns-clause-has : goal.returns-clause-has
@@ -77,7 +83,8 @@ returns-clause-has g c u = (
 
 pub returns-clause-stand : goal.returns-clause-stand
 returns-clause-stand g c =
-    let moves : Moves c.args.self.now c.take_out.new.self c.put_in.new.self (g.S.SpanStore.spans c.args.store.now) (g.S.SpanStore.spans c.get-span.new.self)
+    let moves : Moves c.args.self.now c.take_out.new.self c.put_in.new.self (g.S.SpanStore.spans c.args.store.now)
+    (g.S.SpanStore.spans c.get-span.new.self)
     (g.S.SpanStore.spans c.take_out.new.store) (g.S.SpanStore.spans c.put_in.new.store) c.args.at c.get-span.result c.args.to = record {
       seen_is = c.get-span.ensures.same;
       span_is = c.get-span.ensures.span;
@@ -87,9 +94,11 @@ returns-clause-stand g c =
       after_is = c.put_in.ensures.spans;
       lists_are = c.put_in.ensures.lists;
     } in
-    stands_moved c.args.self.now c.take_out.new.self c.put_in.new.self (g.S.SpanStore.spans c.args.store.now) (g.S.SpanStore.spans c.get-span.new.self)
+    stands_moved c.args.self.now c.take_out.new.self c.put_in.new.self (g.S.SpanStore.spans c.args.store.now)
+    (g.S.SpanStore.spans c.get-span.new.self)
     (g.S.SpanStore.spans c.take_out.new.store) (g.S.SpanStore.spans c.put_in.new.store) c.args.at c.get-span.result c.args.to
-    (g.S.SpanStore.has c.args.store.now) (g.S.SpanStore.has c.put_in.new.store) moves c.requires.stand c.requires.has c.take_out.ensures.class (λ u. (
+    (g.S.SpanStore.has c.args.store.now)
+    (g.S.SpanStore.has c.put_in.new.store) moves c.requires.stand c.requires.has c.take_out.ensures.class (λ u. (
       λ h. (c.get-span.ensures.has u).0 ((c.take_out.ensures.has u).0 ((c.put_in.ensures.has u).0 h)),
       λ h. (c.put_in.ensures.has u).1 ((c.take_out.ensures.has u).1 ((c.get-span.ensures.has u).1 h)),
     ))
@@ -99,11 +108,13 @@ returns-clause-oldest g c = c.oldest-2.ensures
 
 pub returns-clause-follows : goal.returns-clause-follows
 returns-clause-follows g c =
-    g.met.S.SpanStore.follows_on _ _ _ c.get-span.ensures.follows (g.met.S.SpanStore.follows_on _ _ _ c.take_out.ensures.follows c.put_in.ensures.follows)
+    g.met.S.SpanStore.follows_on _ _ _ c.get-span.ensures.follows
+    (g.met.S.SpanStore.follows_on _ _ _ c.take_out.ensures.follows c.put_in.ensures.follows)
 
 pub returns-then-is_in-clause-entered : goal.returns-then-is_in-clause-entered
 returns-then-is_in-clause-entered g c u =
-    spans_unmoved c.args.self.now (g.S.SpanStore.spans c.args.store.now) (g.S.SpanStore.spans c.get-span.new.self) c.args.at c.get-span.result c.args.to
+    spans_unmoved c.args.self.now (g.S.SpanStore.spans c.args.store.now)
+    (g.S.SpanStore.spans c.get-span.new.self) c.args.at c.get-span.result c.args.to
     c.get-span.ensures.same c.get-span.ensures.span (sym c.is_in.ensures ∙ c.if-is_in.true) u
 
 pub returns-then-is_in-clause-lists : goal.returns-then-is_in-clause-lists
@@ -116,7 +127,8 @@ returns-then-is_in-clause-has g c = c.get-span.ensures.has
 
 pub returns-then-is_in-clause-stand : goal.returns-then-is_in-clause-stand
 returns-then-is_in-clause-stand g c =
-    stands_alike c.args.self.now (g.S.SpanStore.spans c.args.store.now) (g.S.SpanStore.spans c.get-span.new.self) (g.S.SpanStore.has c.args.store.now)
+    stands_alike c.args.self.now (g.S.SpanStore.spans c.args.store.now) (g.S.SpanStore.spans c.get-span.new.self)
+    (g.S.SpanStore.has c.args.store.now)
     (g.S.SpanStore.has c.get-span.new.self) c.requires.stand c.get-span.ensures.same c.get-span.ensures.has
 
 pub returns-then-is_in-clause-oldest : goal.returns-then-is_in-clause-oldest

@@ -11,4 +11,5 @@ pub invariant_of-result : goal.invariant_of-result
 invariant_of-result c =
     let cs : WorkerCaches = record { version = c.args.version; parts = c.in_ok-no_lists.field-0.items } in
     let lists = c.in_ok-no_lists.ensures.lists in
-    none_summed cs c.no_sums.result lists (sym (length-map cs.parts (list_in (first_view 0 0))) ∙ (lists (first_view 0 0)).count_is) c.no_sums.ensures
+    none_summed cs c.no_sums.result lists (sym (length-map cs.parts (list_in (first_view 0 0))) ∙
+    (lists (first_view 0 0)).count_is) c.no_sums.ensures

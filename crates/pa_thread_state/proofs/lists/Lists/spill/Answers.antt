@@ -8,61 +8,70 @@ use Rattle.pa_link.specs.Chains.{SameBeside}
 use Rattle.pa_thread_state.proofs.Summing.{part_is, call_few, call_part, call_becomes, call_summed}
 use Rattle.pa_thread_state.proofs.lists.Lists.spill.Goals as goal
 
-pub place-at-requires-clause-class : goal.place-at-requires-clause-class
-place-at-requires-clause-class c = subst (λ (z : WorkerCaches). HasClass z.version c.args.class) (sym c.self.view_is) c.requires.class
+pub cache_place-at-requires-clause-class : goal.cache_place-at-requires-clause-class
+cache_place-at-requires-clause-class c = subst (λ (z : WorkerCaches). HasClass z.version c.args.class) (sym c.self.view_is) c.requires.class
 
 pub spill-batch-requires-clause-list : goal.spill-batch-requires-clause-list
 spill-batch-requires-clause-list c =
     let cs : WorkerCaches = record { version = c.self.inside.version; parts = c.self.inside.caches.items } in
-    let p = c.args.partition in let class = c.args.class in let at = c.place-at.result in let v = c.args.seat.now.view in
+    let p = c.args.partition in let class = c.args.class in let at = c.cache_place-at.result in let v = c.args.seat.now.view in
     let x = c.index_mut-cache.result.now in
     let real = subst (λ (z : WorkerCaches). HasClass z.version c.args.class) (sym c.self.view_is) c.requires.class in
     let there : x ≡ parts_of p class c.args.self.now =
-    part_is cs p class at x c.requires.partition real c.self.invariant.many c.place-at.ensures.place c.index_mut-cache.ensures.value ∙ ap (parts_of p class) c.self.view_is in
+    part_is cs p class at x c.requires.partition real c.self.invariant.many c.cache_place-at.ensures.place c.index_mut-cache.ensures.value ∙
+    ap (parts_of p class) c.self.view_is in
     subst (HoldsList v) (sym there) c.requires.list
 
-pub changed-sum-requires : goal.changed-sum-requires
-changed-sum-requires c =
+pub changed_by-sum-requires : goal.changed_by-sum-requires
+changed_by-sum-requires c =
     let cs : WorkerCaches = record { version = c.self.inside.version; parts = c.self.inside.caches.items } in
-    let p = c.args.partition in let class = c.args.class in let at = c.place-at.result in let v = c.args.seat.now.view in
+    let p = c.args.partition in let class = c.args.class in let at = c.cache_place-at.result in let v = c.args.seat.now.view in
     let x = c.index_mut-cache.result.now in let y = c.spill-batch.new.self in
     let real = subst (λ (z : WorkerCaches). HasClass z.version c.args.class) (sym c.self.view_is) c.requires.class in
-    let was = call_few cs c.self.inside.sums p class at x y c.len-before.result c.len-after.result c.self.invariant c.requires.partition real c.place-at.ensures.place
+    let was = call_few cs c.self.inside.sums p class at x y c.len-before.result c.len-after.result c.self.invariant c.requires.partition
+    real c.cache_place-at.ensures.place
     c.index_mut-cache.ensures.value c.len-before.ensures c.len-after.ensures v in
-    call_part cs c.self.inside.sums p class at x y c.len-before.result c.len-after.result c.self.invariant c.requires.partition real c.place-at.ensures.place
+    call_part cs c.self.inside.sums p class at x y c.len-before.result c.len-after.result c.self.invariant c.requires.partition real
+    c.cache_place-at.ensures.place
     c.index_mut-cache.ensures.value c.len-before.ensures c.len-after.ensures v
-    (let e = c.len-after.ensures c.spill-batch.new.seat.view in let f = ap length c.spill-batch.ensures.rest in let d = c.len-before.ensures v in
+    (let e = c.len-after.ensures c.spill-batch.new.seat.view in let f = ap length c.spill-batch.ensures.rest in
+    let d = c.len-before.ensures v in
     let less = outside_short c.args.keep (c.args.keep + 16) (list_in v x).titles (omega arith) in
     omega (arith, e, f, d, less, was))
 
 pub invariant_of-self : goal.invariant_of-self
 invariant_of-self c =
     let cs : WorkerCaches = record { version = c.self.inside.version; parts = c.self.inside.caches.items } in
-    let p = c.args.partition in let class = c.args.class in let at = c.place-at.result in let v = c.args.seat.now.view in
+    let p = c.args.partition in let class = c.args.class in let at = c.cache_place-at.result in let v = c.args.seat.now.view in
     let x = c.index_mut-cache.result.now in let y = c.spill-batch.new.self in
     let real = subst (λ (z : WorkerCaches). HasClass z.version c.args.class) (sym c.self.view_is) c.requires.class in
-    let was = call_few cs c.self.inside.sums p class at x y c.len-before.result c.len-after.result c.self.invariant c.requires.partition real c.place-at.ensures.place
+    let was = call_few cs c.self.inside.sums p class at x y c.len-before.result c.len-after.result c.self.invariant c.requires.partition
+    real c.cache_place-at.ensures.place
     c.index_mut-cache.ensures.value c.len-before.ensures c.len-after.ensures v in
-    call_summed cs c.self.inside.sums p class at x y c.len-before.result c.len-after.result c.self.invariant c.requires.partition real c.place-at.ensures.place
-    c.index_mut-cache.ensures.value c.len-before.ensures c.len-after.ensures c.changed-sum.result
-    (let e = c.len-after.ensures c.spill-batch.new.seat.view in let f = ap length c.spill-batch.ensures.rest in let d = c.len-before.ensures v in
+    call_summed cs c.self.inside.sums p class at x y c.len-before.result c.len-after.result c.self.invariant c.requires.partition real
+    c.cache_place-at.ensures.place
+    c.index_mut-cache.ensures.value c.len-before.ensures c.len-after.ensures c.changed_by-sum.result
+    (let e = c.len-after.ensures c.spill-batch.new.seat.view in let f = ap length c.spill-batch.ensures.rest in
+    let d = c.len-before.ensures v in
     let less = outside_short c.args.keep (c.args.keep + 16) (list_in v x).titles (omega arith) in
-    omega (arith, e, f, d, less, was)) c.changed-sum.ensures
+    omega (arith, e, f, d, less, was)) c.changed_by-sum.ensures
 
 pub returns-clause-rest : goal.returns-clause-rest
 returns-clause-rest c =
     let cs : WorkerCaches = record { version = c.self.inside.version; parts = c.self.inside.caches.items } in
-    let p = c.args.partition in let class = c.args.class in let at = c.place-at.result in let v = c.args.seat.now.view in
+    let p = c.args.partition in let class = c.args.class in let at = c.cache_place-at.result in let v = c.args.seat.now.view in
     let x = c.index_mut-cache.result.now in let y = c.spill-batch.new.self in
     let real = subst (λ (z : WorkerCaches). HasClass z.version c.args.class) (sym c.self.view_is) c.requires.class in
     let there : x ≡ parts_of p class c.args.self.now =
-    part_is cs p class at x c.requires.partition real c.self.invariant.many c.place-at.ensures.place c.index_mut-cache.ensures.value ∙ ap (parts_of p class) c.self.view_is in
+    part_is cs p class at x c.requires.partition real c.self.invariant.many c.cache_place-at.ensures.place c.index_mut-cache.ensures.value ∙
+    ap (parts_of p class) c.self.view_is in
     let w = c.spill-batch.new.seat.view in
     let titles = c.spill-batch.ensures.rest ∙ ap (λ (z : CacheParts). rest_after c.args.keep (list_in v z).titles) there in
     record {
       becomes = record {
         new = y;
-        after_is = call_becomes cs c.self.inside.sums p class at x y c.len-before.result c.len-after.result c.self.invariant c.requires.partition real c.place-at.ensures.place
+        after_is = call_becomes cs c.self.inside.sums p class at x y c.len-before.result c.len-after.result c.self.invariant
+            c.requires.partition real c.cache_place-at.ensures.place
             c.index_mut-cache.ensures.value c.len-before.ensures c.len-after.ensures
             ∙ ap (with_parts p class y) c.self.view_is;
         class_is = c.spill-batch.ensures.class ∙ ap (λ (z : CacheParts). z.class) there;

@@ -25,7 +25,8 @@ invariant_of-self g c =
     let w = c.fill_from.new.seat.view in
     let cs = c.self.inside.caches in
     let r = least_stake i.view.stakes in
-    let them = either c.fill_from.result (λ a. FillGives r c.args.partition c.args.line c.args.class (fill_of c.args.class) i.view w a.0.view a.1.items)
+    let them = either c.fill_from.result
+    (λ a. FillGives r c.args.partition c.args.line c.args.class (fill_of c.args.class) i.view w a.0.view a.1.items)
     (λ (f : FillFault). GivesNone r c.args.line c.args.partition 1 (Some c.args.class) c.self.inside.seat c.fill_from.new.seat f)
     (HasThem i w i.registers cs) c.fill_from.ensures.gave c.fill_from.ensures.none
     (λ a gives. kept_has c.slots_stay_seen.ensures i w cs refl c.self.invariant.1 c.self.invariant.2
@@ -40,7 +41,8 @@ returns-clause-same g c =
     let w = c.fill_from.new.seat.view in
     let cs = c.self.inside.caches in
     let r = least_stake i.view.stakes in
-    let them = either c.fill_from.result (λ a. FillGives r c.args.partition c.args.line c.args.class (fill_of c.args.class) i.view w a.0.view a.1.items)
+    let them = either c.fill_from.result
+    (λ a. FillGives r c.args.partition c.args.line c.args.class (fill_of c.args.class) i.view w a.0.view a.1.items)
     (λ (f : FillFault). GivesNone r c.args.line c.args.partition 1 (Some c.args.class) c.self.inside.seat c.fill_from.new.seat f)
     (HasThem i w i.registers cs) c.fill_from.ensures.gave c.fill_from.ensures.none
     (λ a gives. kept_has c.slots_stay_seen.ensures i w cs refl c.self.invariant.1 c.self.invariant.2
@@ -65,7 +67,8 @@ returns-clause-none g c =
     let w = c.fill_from.new.seat.view in
     let cs = c.self.inside.caches in
     let r = least_stake i.view.stakes in
-    let them = either c.fill_from.result (λ a. FillGives r c.args.partition c.args.line c.args.class (fill_of c.args.class) i.view w a.0.view a.1.items)
+    let them = either c.fill_from.result
+    (λ a. FillGives r c.args.partition c.args.line c.args.class (fill_of c.args.class) i.view w a.0.view a.1.items)
     (λ (f : FillFault). GivesNone r c.args.line c.args.partition 1 (Some c.args.class) c.self.inside.seat c.fill_from.new.seat f)
     (HasThem i w i.registers cs) c.fill_from.ensures.gave c.fill_from.ensures.none
     (λ a gives. kept_has c.slots_stay_seen.ensures i w cs refl c.self.invariant.1 c.self.invariant.2
@@ -74,8 +77,11 @@ returns-clause-none g c =
     (Some c.args.class) f refl c.self.invariant.1 c.self.invariant.2 refl none) in
     let stake = subst (λ (z : StockValue). HasItsStake z) (sym c.self.view_is) c.requires.stake in
     let least = (least_is i.thread i.view c.self.invariant.1.stake stake).0 in
-    subst (λ (z : StockValue). IfErr c.fill_from.result (FindsNone c.args.line c.args.partition 1 (Some c.args.class) z (stock_of i.thread i.partitions w i.registers cs))) c.self.view_is
-    (subst (λ (z : StockValue). IfErr c.fill_from.result (FindsNone c.args.line c.args.partition 1 (Some c.args.class) i z)) (sym (after_as i w w i.registers cs refl them))
+    subst (λ (z : StockValue). IfErr c.fill_from.result
+    (FindsNone c.args.line c.args.partition 1 (Some c.args.class) z (stock_of i.thread i.partitions w i.registers cs))) c.self.view_is
+    (subst (λ (z : StockValue). IfErr c.fill_from.result (FindsNone c.args.line c.args.partition 1 (Some c.args.class) i z))
+    (sym (after_as i w w i.registers cs refl them))
     (err_weaker c.fill_from.result (GivesNone r c.args.line c.args.partition 1 (Some c.args.class) c.self.inside.seat c.fill_from.new.seat)
     (FindsNone c.args.line c.args.partition 1 (Some c.args.class) i (record i { view = w }))
-    (λ f none. finds_none i c.self.inside.seat c.fill_from.new.seat r c.args.line c.args.partition 1 (Some c.args.class) f refl least none) c.fill_from.ensures.none))
+    (λ f none. finds_none i c.self.inside.seat c.fill_from.new.seat r c.args.line c.args.partition 1 (Some c.args.class) f refl least none)
+    c.fill_from.ensures.none))

@@ -51,8 +51,11 @@ returns-clause-gave g c =
     let i = stock_of c.self.inside.thread c.self.inside.partitions c.self.inside.seat.view c.self.inside.registers c.self.inside.caches in
     let stake = subst (λ (z : StockValue). HasItsStake z) (sym c.self.view_is) c.requires.stake in
     let least = (least_is i.thread i.view c.self.invariant.1.stake stake).0 in
-    subst (λ (z : StockValue). IfOk c.map_from.result (λ a. MapGives z.thread c.args.partition c.args.line c.args.shape.slot z.view c.map_from.new.seat.view a.0.view a.1)) c.self.view_is
-    (subst (λ (r : ℕ). IfOk c.map_from.result (λ a. MapGives r c.args.partition c.args.line c.args.shape.slot i.view c.map_from.new.seat.view a.0.view a.1)) least c.map_from.ensures.gave)
+    subst (λ (z : StockValue). IfOk c.map_from.result
+    (λ a. MapGives z.thread c.args.partition c.args.line c.args.shape.slot z.view c.map_from.new.seat.view a.0.view a.1)) c.self.view_is
+    (subst (λ (r : ℕ). IfOk c.map_from.result
+    (λ a. MapGives r c.args.partition c.args.line c.args.shape.slot i.view c.map_from.new.seat.view a.0.view a.1)) least
+    c.map_from.ensures.gave)
 
 pub returns-clause-none : goal.returns-clause-none
 returns-clause-none g c =
@@ -68,8 +71,12 @@ returns-clause-none g c =
     c.args.shape.supers None f refl c.self.invariant.1 c.self.invariant.2 refl none) in
     let stake = subst (λ (z : StockValue). HasItsStake z) (sym c.self.view_is) c.requires.stake in
     let least = (least_is i.thread i.view c.self.invariant.1.stake stake).0 in
-    subst (λ (z : StockValue). IfErr c.map_from.result (FindsNone c.args.line c.args.partition c.args.shape.supers None z (stock_of i.thread i.partitions w i.registers cs))) c.self.view_is
-    (subst (λ (z : StockValue). IfErr c.map_from.result (FindsNone c.args.line c.args.partition c.args.shape.supers None i z)) (sym (after_as i w w i.registers cs refl them))
+    subst (λ (z : StockValue). IfErr c.map_from.result
+    (FindsNone c.args.line c.args.partition c.args.shape.supers None z (stock_of i.thread i.partitions w i.registers cs)))
+    c.self.view_is
+    (subst (λ (z : StockValue). IfErr c.map_from.result (FindsNone c.args.line c.args.partition c.args.shape.supers None i z))
+    (sym (after_as i w w i.registers cs refl them))
     (err_weaker c.map_from.result (GivesNone r c.args.line c.args.partition c.args.shape.supers None c.self.inside.seat c.map_from.new.seat)
     (FindsNone c.args.line c.args.partition c.args.shape.supers None i (record i { view = w }))
-    (λ f none. finds_none i c.self.inside.seat c.map_from.new.seat r c.args.line c.args.partition c.args.shape.supers None f refl least none) c.map_from.ensures.none))
+    (λ f none. finds_none i c.self.inside.seat c.map_from.new.seat r c.args.line c.args.partition c.args.shape.supers None f refl least
+    none) c.map_from.ensures.none))

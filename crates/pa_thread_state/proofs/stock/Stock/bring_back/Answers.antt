@@ -8,5 +8,8 @@ pub returns-else-listed-clause-back : goal.returns-else-listed-clause-back
 returns-else-listed-clause-back g c =
     let untouched = c.if-listed.ensures.is in
     on_ok c.settle.result _ _
-    (λ settled. inr (untouched.1, subst (λ (s : StockValue). IsSettled c.args.line c.args.handle.now s c.settle.new.self) untouched.0 settled))
+    (λ settled. inr (
+      untouched.1,
+      subst (λ (s : StockValue). IsSettled c.args.line c.args.handle.now s c.settle.new.self) untouched.0 settled,
+    ))
     c.settle.ensures.settled

@@ -3,16 +3,17 @@ use Rattle.std.proofs.lemmas.List.{length-map}
 use Rattle.pa_root.specs.Handing.{at_number_seen}
 use Rattle.pa_rules.specs.Caches.{listed_slots}
 use Rattle.pa_rules.specs.Report.{listed_bytes}
+use Rattle.pa_rules.proofs.Tallies.{most_slots}
 use Rattle.pa_op_specs.specs.Stocks.{StockValue, listed_in, titles_in}
 use Rattle.pa_thread_state.specs.Lists.{lists_in, numbered_in}
-use Rattle.pa_thread_state.proofs.Summing.{most_slots}
 use Rattle.pa_thread_state.proofs.Fronting.{list_few}
 use Rattle.pa_thread_state.proofs.Staying.{stock_of}
 use Rattle.pa_thread_state.proofs.stock.Stock.cached.Goals as goal
 
 pub returns-clause-slots : goal.returns-clause-slots
 returns-clause-slots g c =
-    (c.sum.ensures c.self.inside.seat.view).slots ∙ ap (λ (z : StockValue). listed_slots (listed_in z c.args.partition) 0 170) c.self.view_is
+    (c.sum.ensures c.self.inside.seat.view).slots ∙
+    ap (λ (z : StockValue). listed_slots (listed_in z c.args.partition) 0 170) c.self.view_is
 
 pub returns-clause-bytes : goal.returns-clause-bytes
 returns-clause-bytes g c =

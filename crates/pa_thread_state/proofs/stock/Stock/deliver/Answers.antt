@@ -21,7 +21,8 @@ invariant_of-self g c =
     let w = c.to_root.new.seat.view in
     let cs = c.self.inside.caches in
     let same = same_view c.to_root.result c.to_root.new.seat c.self.inside.seat c.to_root.ensures.same in
-    let them = delivered_has c.slots_stay_seen.ensures i cs w c.args.note.view h.class _ h.partition c.args.line h.title c.to_root.result refl c.self.invariant.1
+    let them = delivered_has c.slots_stay_seen.ensures i cs w c.args.note.view h.class _ h.partition c.args.line h.title c.to_root.result
+    refl c.self.invariant.1
     c.self.invariant.2 c.to_root.ensures.comes same in
     (c.to_root.ensures.region, them.stock, them.holds)
 
@@ -32,7 +33,8 @@ returns-clause-alone g c =
     let w = c.to_root.new.seat.view in
     let cs = c.self.inside.caches in
     let same = same_view c.to_root.result c.to_root.new.seat c.self.inside.seat c.to_root.ensures.same in
-    let them = delivered_has c.slots_stay_seen.ensures i cs w c.args.note.view h.class _ h.partition c.args.line h.title c.to_root.result refl c.self.invariant.1
+    let them = delivered_has c.slots_stay_seen.ensures i cs w c.args.note.view h.class _ h.partition c.args.line h.title c.to_root.result
+    refl c.self.invariant.1
     c.self.invariant.2 c.to_root.ensures.comes same in
     any_ok c.to_root.result _ (after_as i w w i.registers cs refl them ∙ ap (λ (z : StockValue). record z { view = w }) c.self.view_is)
 
@@ -43,7 +45,8 @@ returns-clause-same g c =
     let w = c.to_root.new.seat.view in
     let cs = c.self.inside.caches in
     let same = same_view c.to_root.result c.to_root.new.seat c.self.inside.seat c.to_root.ensures.same in
-    let them = delivered_has c.slots_stay_seen.ensures i cs w c.args.note.view h.class _ h.partition c.args.line h.title c.to_root.result refl c.self.invariant.1
+    let them = delivered_has c.slots_stay_seen.ensures i cs w c.args.note.view h.class _ h.partition c.args.line h.title c.to_root.result
+    refl c.self.invariant.1
     c.self.invariant.2 c.to_root.ensures.comes same in
     subst (λ (z : StockValue). OnErr c.to_root.result (stock_of i.thread i.partitions w i.registers cs ≡ z)) c.self.view_is
     (delivered_same i cs w c.to_root.result them same)
@@ -55,5 +58,7 @@ returns-clause-comes g c =
     let w = c.to_root.new.seat.view in
     let stake = subst (λ (z : StockValue). HasItsStake z) (sym c.self.view_is) c.requires.stake in
     let least = (least_is i.thread i.view c.self.invariant.1.stake stake).0 in
-    subst (λ (z : StockValue). OnOk c.to_root.result (ComesHome h.class z.thread h.partition c.args.line z.view w c.args.note.view h.title)) c.self.view_is
-    (subst (λ (n : ℕ). OnOk c.to_root.result (ComesHome h.class n h.partition c.args.line i.view w c.args.note.view h.title)) least c.to_root.ensures.comes)
+    subst (λ (z : StockValue). OnOk c.to_root.result (ComesHome h.class z.thread h.partition c.args.line z.view w c.args.note.view h.title))
+    c.self.view_is
+    (subst (λ (n : ℕ). OnOk c.to_root.result (ComesHome h.class n h.partition c.args.line i.view w c.args.note.view h.title)) least
+    c.to_root.ensures.comes)

@@ -38,7 +38,8 @@ invariant_of-self g c =
     let own = inside_own i c.args.self.now c.args.handle.now c.args.reg c.self.view_is c.requires.handle in
     let u = c.args.handle.now.title in
     let x = filled_view i.view u c.args.value c.write-found.result.0 in
-    let them = has_as i c.write-found.new.seat.view x i.registers c.self.inside.caches c.write-found.ensures.view refl c.self.invariant.1 c.self.invariant.2
+    let them = has_as i c.write-found.new.seat.view x i.registers c.self.inside.caches c.write-found.ensures.view refl c.self.invariant.1
+    c.self.invariant.2
     (filled_sound c.counted_steps_leave.ensures c.owns_change.ensures c.states_are_owns.ensures c.filled_words_have_the_value.ensures _ i
     c.args.reg c.args.value c.write-found.result.0 c.args.handle.now
     h.stock h.stake (inside_budget i c.args.self.now c.self.view_is c.requires.budget) h.below own c.placed.ensures.well long can)
@@ -61,13 +62,15 @@ returns g c =
     let own = inside_own i c.args.self.now c.args.handle.now c.args.reg c.self.view_is c.requires.handle in
     let u = c.args.handle.now.title in
     let x = filled_view i.view u c.args.value c.write-found.result.0 in
-    let them = has_as i c.write-found.new.seat.view x i.registers c.self.inside.caches c.write-found.ensures.view refl c.self.invariant.1 c.self.invariant.2
+    let them = has_as i c.write-found.new.seat.view x i.registers c.self.inside.caches c.write-found.ensures.view refl c.self.invariant.1
+    c.self.invariant.2
     (filled_sound c.counted_steps_leave.ensures c.owns_change.ensures c.states_are_owns.ensures c.filled_words_have_the_value.ensures _ i
     c.args.reg c.args.value c.write-found.result.0 c.args.handle.now
     h.stock h.stake (inside_budget i c.args.self.now c.self.view_is c.requires.budget) h.below own c.placed.ensures.well long can)
     (firsts_used _ i x u c.self.invariant.1 (inside_aware i c.args.self.now c.self.view_is c.kept.ensures.aware) c.placed.ensures.well
     (register_has i c.args.reg c.args.handle.now h.stock h.below h.has).0 (filled_others c.args.value u i.view.words)) in
-    subst (λ (z : StockValue). WritesTo c.args.handle.now c.args.value (record { slot = c.slot_name.result; found = c.write-found.result }) z
+    subst (λ (z : StockValue). WritesTo c.args.handle.now c.args.value
+    (record { slot = c.slot_name.result; found = c.write-found.result }) z
     (stock_of i.thread i.partitions c.write-found.new.seat.view i.registers c.self.inside.caches)) c.self.view_is (record {
       slot = c.slot_name.ensures;
       after_is = after_as i c.write-found.new.seat.view x i.registers c.self.inside.caches c.write-found.ensures.view them;

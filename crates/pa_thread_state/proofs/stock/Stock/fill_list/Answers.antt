@@ -13,9 +13,12 @@ receive-requires-clause-only g c = (c.in-Ok.titles.items, c.in-Ok.ensures.gave.h
 pub load-requires-clause-can : goal.load-requires-clause-can
 load-requires-clause-can g c =
     subst (λ (ts : List Title). CanLoad c.args.partition c.args.class ts c.receive.new.self) (sym c.as_slice.ensures.value)
-    (fill_can_load c.args.line c.args.partition c.args.class c.args.self.now c.ask_fill.new.self c.receive.new.self c.in-Ok.note.view c.in-Ok.titles.items
-    c.remove-title.result c.remove-title.new.self.items c.ask_fill.ensures.same c.in-Ok.ensures.gave c.remove-title.ensures.value c.remove-title.ensures.items
-    c.receive.ensures c.kept.ensures.stock c.kept.ensures.aware c.kept-in-Ok.ensures.aware c.kept-in-Ok-2.ensures.aware c.requires.partition c.requires.class c.requires.empty)
+    (fill_can_load c.args.line c.args.partition c.args.class c.args.self.now c.ask_fill.new.self c.receive.new.self c.in-Ok.note.view
+    c.in-Ok.titles.items
+    c.remove-title.result c.remove-title.new.self.items c.ask_fill.ensures.same c.in-Ok.ensures.gave c.remove-title.ensures.value
+    c.remove-title.ensures.items
+    c.receive.ensures c.kept.ensures.stock c.kept.ensures.aware c.kept-in-Ok.ensures.aware c.kept-in-Ok-2.ensures.aware c.requires.partition
+    c.requires.class c.requires.empty)
 
 pub load-requires-clause-class : goal.load-requires-clause-class
 load-requires-clause-class g c =
@@ -25,7 +28,10 @@ load-requires-clause-class g c =
 
 pub returns-in-Ok-clause-filled : goal.returns-in-Ok-clause-filled
 returns-in-Ok-clause-filled g c =
-    fills_list c.args.line c.args.partition c.args.class c.args.self.now c.ask_fill.new.self c.receive.new.self c.load.new.self c.in-Ok.note.view c.in-Ok.titles.items
-    c.remove-title.result c.remove-title.new.self.items c.ask_fill.ensures.same c.in-Ok.ensures.gave c.remove-title.ensures.value c.remove-title.ensures.items
+    fills_list c.args.line c.args.partition c.args.class c.args.self.now c.ask_fill.new.self c.receive.new.self c.load.new.self
+    c.in-Ok.note.view c.in-Ok.titles.items
+    c.remove-title.result c.remove-title.new.self.items c.ask_fill.ensures.same c.in-Ok.ensures.gave c.remove-title.ensures.value
+    c.remove-title.ensures.items
     c.receive.ensures c.kept-in-Ok.ensures.aware c.kept-in-Ok-2.ensures.aware c.requires.class c.requires.empty
-    (subst (λ (ts : List Title). BecomesList c.args.partition c.args.class ts c.receive.new.self c.load.new.self) c.as_slice.ensures.value c.load.ensures.loaded)
+    (subst (λ (ts : List Title). BecomesList c.args.partition c.args.class ts c.receive.new.self c.load.new.self) c.as_slice.ensures.value
+    c.load.ensures.loaded)

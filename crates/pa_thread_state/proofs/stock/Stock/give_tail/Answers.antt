@@ -10,11 +10,13 @@ loop-done-init g c = record { some = some_none c.args.line c.args.partition c.ar
 
 pub give_batch-requires-clause-stake : goal.give_batch-requires-clause-stake
 give_batch-requires-clause-stake g c =
-    some_stake c.args.line c.args.partition c.args.class c.args.keep c.loop-done.done c.args.self.now c.loop-done.self c.loop-done.invariant.some c.requires.stake
+    some_stake c.args.line c.args.partition c.args.class c.args.keep c.loop-done.done c.args.self.now c.loop-done.self
+    c.loop-done.invariant.some c.requires.stake
 
 pub give_batch-requires-clause-some : goal.give_batch-requires-clause-some
 give_batch-requires-clause-some g c =
-    some_left c.args.line c.args.partition c.args.class c.args.keep c.loop-done.done c.args.self.now c.loop-done.self c.loop-done.invariant.some
+    some_left c.args.line c.args.partition c.args.class c.args.keep c.loop-done.done c.args.self.now c.loop-done.self
+    c.loop-done.invariant.some
     (c.batches_behind-batches.ensures.no_more c.loop-done.done c.loop-done-test.true)
 
 pub give_batch-requires-clause-class : goal.give_batch-requires-clause-class
@@ -22,8 +24,10 @@ give_batch-requires-clause-class g c = subst (λ v. HasClass v c.args.class) (sy
 
 pub loop-done-preserved : goal.loop-done-preserved
 loop-done-preserved g c = record {
-  some = some_more c.args.line c.args.partition c.args.class c.args.keep c.loop-done.done c.args.self.now c.loop-done.self c.give_batch.new.self c.kept-in-loop-done.ensures.stock
-      c.loop-done.invariant.some c.in_ok-give_batch.ensures.gives (c.batches_behind-batches.ensures.no_more c.loop-done.done c.loop-done-test.true);
+  some = some_more c.args.line c.args.partition c.args.class c.args.keep c.loop-done.done c.args.self.now c.loop-done.self
+      c.give_batch.new.self c.kept-in-loop-done.ensures.stock
+      c.loop-done.invariant.some c.in_ok-give_batch.ensures.gives
+      (c.batches_behind-batches.ensures.no_more c.loop-done.done c.loop-done-test.true);
   budget = c.give_batch.ensures.budget ∙ c.loop-done.invariant.budget;
 }
 
@@ -31,12 +35,14 @@ pub returns-clause-gives : goal.returns-clause-gives
 returns-clause-gives g c =
     let few : length (titles_in c.args.self.now.caches c.args.partition c.args.class) ≤ c.args.keep + 16 * c.loop-done.done =
     let a = c.batches_behind-batches.ensures.all in let b = c.loop-done-test.false in omega arith in
-    some_all c.args.line c.args.partition c.args.class c.args.keep c.loop-done.done c.args.self.now c.loop-done.self c.loop-done.invariant.some few
+    some_all c.args.line c.args.partition c.args.class c.args.keep c.loop-done.done c.args.self.now c.loop-done.self
+    c.loop-done.invariant.some few
 
 pub returns-in_err-give_batch-clause-stake : goal.returns-in_err-give_batch-clause-stake
 returns-in_err-give_batch-clause-stake g c = any_err c.from_residual.result _ (record {
   thread = c.in_err-give_batch.ensures.stake.thread
-      ∙ some_thread c.args.line c.args.partition c.args.class c.args.keep c.loop-done.done c.args.self.now c.loop-done.self c.loop-done.invariant.some;
+      ∙ some_thread c.args.line c.args.partition c.args.class c.args.keep c.loop-done.done c.args.self.now c.loop-done.self
+      c.loop-done.invariant.some;
   stake = c.in_err-give_batch.ensures.stake.stake;
 })
 

@@ -33,17 +33,21 @@ invariant_of-self g c =
     let i = stock_of c.self.inside.thread c.self.inside.partitions c.self.inside.seat.view c.self.inside.registers c.self.inside.caches in
     let h = inside i c.args.self.now c.args.handle.now c.args.reg c.self.view_is
     (record { stock = c.kept.ensures.stock; stake = c.requires.stake; below = c.requires.reg; has = inl c.requires.handle }) in
-    let own = subst (λ (z : StockValue). register_in z.registers c.args.reg ≡ Own c.args.handle.now) (sym c.self.view_is) c.requires.handle in
+    let own = subst (λ (z : StockValue). register_in z.registers c.args.reg ≡ Own c.args.handle.now)
+    (sym c.self.view_is) c.requires.handle in
     let budget = inside_budget i c.args.self.now c.self.view_is c.requires.budget in
     let u = c.args.handle.now.title in let found = c.free_owned-fate.result.0.0 in
     let rs = slice_set i.registers c.args.reg Freed in
     let x = freed_view i.view u found in
     let leaves = c.counted_steps_leave.ensures Free u found (poisoned u i.view)
     (can_step c.states_are_owns.ensures c.owns_change.ensures i c.args.reg c.args.handle.now h.stock h.stake budget h.below own) in
-    let them = has_as i c.free_owned-fate.new.seat.view x rs c.self.inside.caches c.free_owned-fate.ensures.made.view refl c.self.invariant.1 c.self.invariant.2
-    (freed_stock c.counted_steps_leave.ensures c.owns_change.ensures c.states_are_owns.ensures i c.args.reg found c.args.handle.now h.stock h.stake budget h.below own)
+    let them = has_as i c.free_owned-fate.new.seat.view x rs c.self.inside.caches c.free_owned-fate.ensures.made.view refl
+    c.self.invariant.1 c.self.invariant.2
+    (freed_stock c.counted_steps_leave.ensures c.owns_change.ensures c.states_are_owns.ensures i c.args.reg found c.args.handle.now h.stock
+    h.stake budget h.below own)
     (firsts_used _ i x u c.self.invariant.1 (inside_aware i c.args.self.now c.self.view_is c.kept.ensures.aware) c.placed.ensures.well
-    (register_has i c.args.reg c.args.handle.now h.stock h.below h.has).0 (λ q out. leaves.others q out ∙ filled_others poison u i.view.words q out)) in
+    (register_has i c.args.reg c.args.handle.now h.stock h.below h.has).0
+    (λ q out. leaves.others q out ∙ filled_others poison u i.view.words q out)) in
     (c.free_owned-fate.ensures.made.region ∙ c.self.invariant.0, them.stock, them.holds)
 
 pub returns-clause-gone : goal.returns-clause-gone
@@ -51,18 +55,23 @@ returns-clause-gone g c =
     let i = stock_of c.self.inside.thread c.self.inside.partitions c.self.inside.seat.view c.self.inside.registers c.self.inside.caches in
     let h = inside i c.args.self.now c.args.handle.now c.args.reg c.self.view_is
     (record { stock = c.kept.ensures.stock; stake = c.requires.stake; below = c.requires.reg; has = inl c.requires.handle }) in
-    let own = subst (λ (z : StockValue). register_in z.registers c.args.reg ≡ Own c.args.handle.now) (sym c.self.view_is) c.requires.handle in
+    let own = subst (λ (z : StockValue). register_in z.registers c.args.reg ≡ Own c.args.handle.now)
+    (sym c.self.view_is) c.requires.handle in
     let budget = inside_budget i c.args.self.now c.self.view_is c.requires.budget in
     let u = c.args.handle.now.title in let found = c.free_owned-fate.result.0.0 in
     let rs = slice_set i.registers c.args.reg Freed in
     let x = freed_view i.view u found in
     let leaves = c.counted_steps_leave.ensures Free u found (poisoned u i.view)
     (can_step c.states_are_owns.ensures c.owns_change.ensures i c.args.reg c.args.handle.now h.stock h.stake budget h.below own) in
-    let them = has_as i c.free_owned-fate.new.seat.view x rs c.self.inside.caches c.free_owned-fate.ensures.made.view refl c.self.invariant.1 c.self.invariant.2
-    (freed_stock c.counted_steps_leave.ensures c.owns_change.ensures c.states_are_owns.ensures i c.args.reg found c.args.handle.now h.stock h.stake budget h.below own)
+    let them = has_as i c.free_owned-fate.new.seat.view x rs c.self.inside.caches c.free_owned-fate.ensures.made.view refl
+    c.self.invariant.1 c.self.invariant.2
+    (freed_stock c.counted_steps_leave.ensures c.owns_change.ensures c.states_are_owns.ensures i c.args.reg found c.args.handle.now h.stock
+    h.stake budget h.below own)
     (firsts_used _ i x u c.self.invariant.1 (inside_aware i c.args.self.now c.self.view_is c.kept.ensures.aware) c.placed.ensures.well
-    (register_has i c.args.reg c.args.handle.now h.stock h.below h.has).0 (λ q out. leaves.others q out ∙ filled_others poison u i.view.words q out)) in
-    subst (λ (z : StockValue). LetsGo Free c.args.handle.now c.args.reg Freed (poisoned u z.view) (record { slot = c.slot_name.result; found = c.free_owned-fate.result.0 }) z
+    (register_has i c.args.reg c.args.handle.now h.stock h.below h.has).0
+    (λ q out. leaves.others q out ∙ filled_others poison u i.view.words q out)) in
+    subst (λ (z : StockValue). LetsGo Free c.args.handle.now c.args.reg Freed (poisoned u z.view)
+    (record { slot = c.slot_name.result; found = c.free_owned-fate.result.0 }) z
     (stock_of i.thread i.partitions c.free_owned-fate.new.seat.view rs c.self.inside.caches)) c.self.view_is (record {
       slot = c.slot_name.ensures;
       after_is = after_as i c.free_owned-fate.new.seat.view x rs c.self.inside.caches c.free_owned-fate.ensures.made.view them;

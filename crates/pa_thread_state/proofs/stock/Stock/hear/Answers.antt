@@ -19,10 +19,13 @@ invariant_of-self g c =
     let i = stock_of c.self.inside.thread c.self.inside.partitions c.self.inside.seat.view c.self.inside.registers c.self.inside.caches in
     let for = subst (λ (z : StockValue). IsForThread z.thread c.args.note.view) (sym c.self.view_is) c.requires.note in
     let n = c.args.note.view in
-    let long = ap (λ (z : StockValue). length z.view.words) c.self.view_is ∙ (c.kept.ensures.long ∙ (ap byte_word_count (sym c.requires.regions.1) ∙ sym c.aware.ensures.long)) in
+    let long = ap (λ (z : StockValue). length z.view.words) c.self.view_is ∙
+    (c.kept.ensures.long ∙ (ap byte_word_count (sym c.requires.regions.1) ∙ sym c.aware.ensures.long)) in
     let both = subst (λ (v : View). IsAware v) c.take.ensures.view c.aware-2.ensures.aware in
-    let them = has_as i c.take.new.seat.view (united i.view n) i.registers c.self.inside.caches c.take.ensures.view refl c.self.invariant.1 c.self.invariant.2
-    (heard_stock c.beginnings_join.ensures c.slots_stay_seen.ensures i n c.self.invariant.1 for both) (firsts_join i n c.self.invariant.1 long) in
+    let them = has_as i c.take.new.seat.view
+    (united i.view n) i.registers c.self.inside.caches c.take.ensures.view refl c.self.invariant.1 c.self.invariant.2
+    (heard_stock c.beginnings_join.ensures c.slots_stay_seen.ensures i n c.self.invariant.1 for both)
+    (firsts_join i n c.self.invariant.1 long) in
     (c.take.ensures.region ∙ c.self.invariant.0, them.stock, them.holds)
 
 pub returns-clause-heard : goal.returns-clause-heard
@@ -30,10 +33,13 @@ returns-clause-heard g c =
     let i = stock_of c.self.inside.thread c.self.inside.partitions c.self.inside.seat.view c.self.inside.registers c.self.inside.caches in
     let for = subst (λ (z : StockValue). IsForThread z.thread c.args.note.view) (sym c.self.view_is) c.requires.note in
     let n = c.args.note.view in
-    let long = ap (λ (z : StockValue). length z.view.words) c.self.view_is ∙ (c.kept.ensures.long ∙ (ap byte_word_count (sym c.requires.regions.1) ∙ sym c.aware.ensures.long)) in
+    let long = ap (λ (z : StockValue). length z.view.words) c.self.view_is ∙
+    (c.kept.ensures.long ∙ (ap byte_word_count (sym c.requires.regions.1) ∙ sym c.aware.ensures.long)) in
     let both = subst (λ (v : View). IsAware v) c.take.ensures.view c.aware-2.ensures.aware in
-    let them = has_as i c.take.new.seat.view (united i.view n) i.registers c.self.inside.caches c.take.ensures.view refl c.self.invariant.1 c.self.invariant.2
-    (heard_stock c.beginnings_join.ensures c.slots_stay_seen.ensures i n c.self.invariant.1 for both) (firsts_join i n c.self.invariant.1 long) in
+    let them = has_as i c.take.new.seat.view
+    (united i.view n) i.registers c.self.inside.caches c.take.ensures.view refl c.self.invariant.1 c.self.invariant.2
+    (heard_stock c.beginnings_join.ensures c.slots_stay_seen.ensures i n c.self.invariant.1 for both)
+    (firsts_join i n c.self.invariant.1 long) in
     after_as i c.take.new.seat.view (united i.view n) i.registers c.self.inside.caches c.take.ensures.view them
     ∙ ap (λ (z : StockValue). record z { view = united z.view n }) c.self.view_is
 
@@ -42,10 +48,16 @@ returns-clause-lists g c =
     let i = stock_of c.self.inside.thread c.self.inside.partitions c.self.inside.seat.view c.self.inside.registers c.self.inside.caches in
     let for = subst (λ (z : StockValue). IsForThread z.thread c.args.note.view) (sym c.self.view_is) c.requires.note in
     let n = c.args.note.view in
-    let long = ap (λ (z : StockValue). length z.view.words) c.self.view_is ∙ (c.kept.ensures.long ∙ (ap byte_word_count (sym c.requires.regions.1) ∙ sym c.aware.ensures.long)) in
+    let long = ap (λ (z : StockValue). length z.view.words) c.self.view_is ∙
+    (c.kept.ensures.long ∙ (ap byte_word_count (sym c.requires.regions.1) ∙ sym c.aware.ensures.long)) in
     let both = subst (λ (v : View). IsAware v) c.take.ensures.view c.aware-2.ensures.aware in
-    let them = has_as i c.take.new.seat.view (united i.view n) i.registers c.self.inside.caches c.take.ensures.view refl c.self.invariant.1 c.self.invariant.2
-    (heard_stock c.beginnings_join.ensures c.slots_stay_seen.ensures i n c.self.invariant.1 for both) (firsts_join i n c.self.invariant.1 long) in
-    subst (λ (z : StockValue). SameLists (listed_in (stock_of i.thread i.partitions c.take.new.seat.view i.registers c.self.inside.caches)) (listed_in z)) c.self.view_is
-    (subst (λ (z : StockValue). SameLists (listed_in z) (listed_in i)) (sym (after_as i c.take.new.seat.view (united i.view n) i.registers c.self.inside.caches c.take.ensures.view them))
-    (heard_lists c.free_numbers_stay.ensures i n c.self.invariant.1 (inside_aware i c.args.self.now c.self.view_is c.kept.ensures.aware) c.aware.ensures.aware both long))
+    let them = has_as i c.take.new.seat.view
+    (united i.view n) i.registers c.self.inside.caches c.take.ensures.view refl c.self.invariant.1 c.self.invariant.2
+    (heard_stock c.beginnings_join.ensures c.slots_stay_seen.ensures i n c.self.invariant.1 for both)
+    (firsts_join i n c.self.invariant.1 long) in
+    subst (λ (z : StockValue). SameLists (listed_in (stock_of i.thread i.partitions c.take.new.seat.view i.registers c.self.inside.caches))
+    (listed_in z)) c.self.view_is
+    (subst (λ (z : StockValue). SameLists (listed_in z) (listed_in i))
+    (sym (after_as i c.take.new.seat.view (united i.view n) i.registers c.self.inside.caches c.take.ensures.view them))
+    (heard_lists c.free_numbers_stay.ensures i n c.self.invariant.1
+    (inside_aware i c.args.self.now c.self.view_is c.kept.ensures.aware) c.aware.ensures.aware both long))

@@ -33,14 +33,17 @@ invariant_of-self g c =
     let bare = subst (λ (z : StockValue). HasNoHandle (register_in z.registers c.args.reg)) (sym c.self.view_is) c.requires.none in
     let stake = subst (λ (z : StockValue). HasItsStake z) (sym c.self.view_is) c.requires.stake in
     let budget = subst (λ (z : StockValue). 0 < z.view.budget) (sym c.self.view_is) c.requires.budget in
-    let can = can_issue i h.title c.zero_fill.new.seat.view c.zero_fill.ensures.view c.self.invariant.1 stake budget back.free c.zero_fill.ensures.content in
-    let view = c.issue-found.ensures.view ∙ ap (λ (v : View). after_count steps.Issue h.title c.issue-found.result.0 v) c.zero_fill.ensures.view in
+    let can = can_issue i h.title c.zero_fill.new.seat.view c.zero_fill.ensures.view c.self.invariant.1 stake budget back.free
+    c.zero_fill.ensures.content in
+    let view = c.issue-found.ensures.view ∙
+    ap (λ (v : View). after_count steps.Issue h.title c.issue-found.result.0 v) c.zero_fill.ensures.view in
     let x = issued_view i.view h.title c.issue-found.result.0 in
     let rs = slice_set i.registers c.args.reg (Own h) in
     let them = has_as i c.issue-found.new.seat.view x rs c.self.inside.caches view refl c.self.invariant.1 c.self.invariant.2
     (issued_stock c.counted_steps_leave.ensures i c.args.reg c.issue-found.result.0 h c.self.invariant.1
     (subst (λ (v : View). CanCount steps.Issue h.title v) c.zero_fill.ensures.view can) c.requires.reg bare back)
-    (firsts_beside _ i x h.title c.self.invariant.1 (subst (λ (z : StockValue). IsAware z.view) (sym c.self.view_is) c.kept.ensures.aware) c.placed.ensures.well
+    (firsts_beside _ i x h.title c.self.invariant.1
+    (subst (λ (z : StockValue). IsAware z.view) (sym c.self.view_is) c.kept.ensures.aware) c.placed.ensures.well
     (let has = back.free in omega arith) (not_listed i h back) (filled_others 0 h.title i.view.words)) in
     (c.issue-found.ensures.region ∙ (c.zero_fill.ensures.region ∙ c.self.invariant.0), them.stock, them.holds)
 
@@ -52,19 +55,25 @@ returns g c =
     let bare = subst (λ (z : StockValue). HasNoHandle (register_in z.registers c.args.reg)) (sym c.self.view_is) c.requires.none in
     let stake = subst (λ (z : StockValue). HasItsStake z) (sym c.self.view_is) c.requires.stake in
     let budget = subst (λ (z : StockValue). 0 < z.view.budget) (sym c.self.view_is) c.requires.budget in
-    let can = can_issue i h.title c.zero_fill.new.seat.view c.zero_fill.ensures.view c.self.invariant.1 stake budget back.free c.zero_fill.ensures.content in
-    let view = c.issue-found.ensures.view ∙ ap (λ (v : View). after_count steps.Issue h.title c.issue-found.result.0 v) c.zero_fill.ensures.view in
+    let can = can_issue i h.title c.zero_fill.new.seat.view c.zero_fill.ensures.view c.self.invariant.1 stake budget back.free
+    c.zero_fill.ensures.content in
+    let view = c.issue-found.ensures.view ∙
+    ap (λ (v : View). after_count steps.Issue h.title c.issue-found.result.0 v) c.zero_fill.ensures.view in
     let x = issued_view i.view h.title c.issue-found.result.0 in
     let rs = slice_set i.registers c.args.reg (Own h) in
     let them = has_as i c.issue-found.new.seat.view x rs c.self.inside.caches view refl c.self.invariant.1 c.self.invariant.2
     (issued_stock c.counted_steps_leave.ensures i c.args.reg c.issue-found.result.0 h c.self.invariant.1
     (subst (λ (v : View). CanCount steps.Issue h.title v) c.zero_fill.ensures.view can) c.requires.reg bare back)
-    (firsts_beside _ i x h.title c.self.invariant.1 (subst (λ (z : StockValue). IsAware z.view) (sym c.self.view_is) c.kept.ensures.aware) c.placed.ensures.well
+    (firsts_beside _ i x h.title c.self.invariant.1
+    (subst (λ (z : StockValue). IsAware z.view) (sym c.self.view_is) c.kept.ensures.aware) c.placed.ensures.well
     (let has = back.free in omega arith) (not_listed i h back) (filled_others 0 h.title i.view.words)) in
-    subst (λ (z : StockValue). Issues h c.args.reg (Made (record { slot = c.slot_name-slot.result; found = c.issue-found.result }) (h.title.len - 8)) z
+    subst (λ (z : StockValue). Issues h c.args.reg
+    (Made (record { slot = c.slot_name-slot.result; found = c.issue-found.result }) (h.title.len - 8)) z
     (stock_of i.thread i.partitions c.issue-found.new.seat.view rs c.self.inside.caches)) c.self.view_is
     (subst (λ (n : SlotName). Issues h c.args.reg (Made (record { slot = n; found = c.issue-found.result }) (h.title.len - 8)) i
     (stock_of i.thread i.partitions c.issue-found.new.seat.view rs c.self.inside.caches)) (sym c.slot_name-slot.ensures)
-    (subst (λ ls. Issues h c.args.reg (Made (seen_at h c.issue-found.result.0) (h.title.len - 8)) i (record i { view = c.issue-found.new.seat.view; registers = rs; caches = ls })) (sym them.same)
-    (issues i c.args.reg c.issue-found.result.0 h c.zero_fill.new.seat.view c.issue-found.new.seat.view c.zero_fill.ensures.view c.issue-found.ensures.view
+    (subst (λ ls. Issues h c.args.reg (Made (seen_at h c.issue-found.result.0) (h.title.len - 8)) i
+    (record i { view = c.issue-found.new.seat.view; registers = rs; caches = ls })) (sym them.same)
+    (issues i c.args.reg c.issue-found.result.0 h c.zero_fill.new.seat.view c.issue-found.new.seat.view c.zero_fill.ensures.view
+    c.issue-found.ensures.view
     can c.issue-found.ensures.found c.aware.ensures.aware c.placed.ensures.well.long)))

@@ -46,7 +46,8 @@ push-requires-clause-few g c =
     omega (arith, room, many, limit)
 
 pub push-requires-clause-able : goal.push-requires-clause-able
-push-requires-clause-able g c = subst (λ (z : StockValue). 0 < free_of z.view c.args.handle.now.title) (sym c.self.view_is) c.requires.can.free
+push-requires-clause-able g c =
+    subst (λ (z : StockValue). 0 < free_of z.view c.args.handle.now.title) (sym c.self.view_is) c.requires.can.free
 
 pub push-requires-clause-size : goal.push-requires-clause-size
 push-requires-clause-size g c =
@@ -81,10 +82,12 @@ invariant_of-self g c =
     let at = part_at i cs h.partition class c.self.invariant.1 can.made.partition real in
     let ts = h.title ∷ titles_in i.caches h.partition class in
     let re = subst (λ us. RelinksCache h.partition class us v w cs after) (ap (λ us. h.title ∷ us) at.titles_are) c.push.ensures.front in
-    let both = relisted c.other_lists_stay.ensures v w cs after h.partition class ts can.made.partition real long aware c.self.invariant.2 re at.class_is
+    let both = relisted c.other_lists_stay.ensures v w cs after h.partition class ts can.made.partition real long aware c.self.invariant.2
+    re at.class_is
     (front_well i h class c.self.invariant.1 can) (front_alone i h class c.self.invariant.1 can) in
     let now = re.becomes in
-    let sound = subst (λ (l : CacheList). IsCache l) (ap (λ n. record { class = n; titles = (list_in w now.new).titles }) (now.class_is ∙ at.class_is)
+    let sound = subst (λ (l : CacheList). IsCache l)
+    (ap (λ n. record { class = n; titles = (list_in w now.new).titles }) (now.class_is ∙ at.class_is)
     ∙ ap (λ us. record { class = class; titles = us }) now.titles_are) now.list.is in (
       c.push.ensures.region ∙ c.self.invariant.0,
       subst (λ ls. IsStock (record i { view = w; caches = ls })) (sym both.1)
@@ -105,7 +108,8 @@ returns g c =
     let at = part_at i cs h.partition class c.self.invariant.1 can.made.partition real in
     let ts = h.title ∷ titles_in i.caches h.partition class in
     let re = subst (λ us. RelinksCache h.partition class us v w cs after) (ap (λ us. h.title ∷ us) at.titles_are) c.push.ensures.front in
-    let both = relisted c.other_lists_stay.ensures v w cs after h.partition class ts can.made.partition real long aware c.self.invariant.2 re at.class_is
+    let both = relisted c.other_lists_stay.ensures v w cs after h.partition class ts can.made.partition real long aware c.self.invariant.2
+    re at.class_is
     (front_well i h class c.self.invariant.1 can) (front_alone i h class c.self.invariant.1 can) in
     record {
       after_is = ap (λ ls. record i { view = w; caches = ls }) both.1

@@ -77,9 +77,11 @@ invariant_of-self g c =
     let at = part_at i cs p class c.self.invariant.1 can.partition real in
     let re = c.load.ensures.loaded in
     let both = relisted c.other_lists_stay.ensures v w cs after p class ts can.partition real long aware c.self.invariant.2 re at.class_is
-    (λ t inside. (_, All-contains (IsWellFormed _) ts t c.all_placed.ensures inside)) (λ t inside q other there. absurd (can.new q other t there inside)) in
+    (λ t inside. (_, All-contains (IsWellFormed _) ts t c.all_placed.ensures inside))
+    (λ t inside q other there. absurd (can.new q other t there inside)) in
     let now = re.becomes in
-    let sound = subst (λ (l : CacheList). IsCache l) (ap (λ n. record { class = n; titles = (list_in w now.new).titles }) (now.class_is ∙ at.class_is)
+    let sound = subst (λ (l : CacheList). IsCache l)
+    (ap (λ n. record { class = n; titles = (list_in w now.new).titles }) (now.class_is ∙ at.class_is)
     ∙ ap (λ us. record { class = class; titles = us }) now.titles_are) now.list.is in (
       c.load.ensures.region ∙ c.self.invariant.0,
       subst (λ ls. IsStock (record i { view = w; caches = ls })) (sym both.1)
@@ -101,7 +103,8 @@ returns g c =
     let at = part_at i cs p class c.self.invariant.1 can.partition real in
     let re = c.load.ensures.loaded in
     let both = relisted c.other_lists_stay.ensures v w cs after p class ts can.partition real long aware c.self.invariant.2 re at.class_is
-    (λ t inside. (_, All-contains (IsWellFormed _) ts t c.all_placed.ensures inside)) (λ t inside q other there. absurd (can.new q other t there inside)) in
+    (λ t inside. (_, All-contains (IsWellFormed _) ts t c.all_placed.ensures inside))
+    (λ t inside q other there. absurd (can.new q other t there inside)) in
     record {
       loaded = record {
         after_is = ap (λ ls. record i { view = w; caches = ls }) both.1

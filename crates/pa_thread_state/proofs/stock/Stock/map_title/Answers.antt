@@ -7,5 +7,6 @@ receive-requires-clause-only g c = (c.in-Ok.title ∷ [], c.in-Ok.ensures.gave.h
 
 pub returns-in-Ok-clause-mapped : goal.returns-in-Ok-clause-mapped
 returns-in-Ok-clause-mapped g c =
-    maps_title c.args.line c.args.partition c.args.shape.slot c.args.self.now c.ask_map.new.self c.receive.new.self c.in-Ok.note.view c.in-Ok.title
+    maps_title c.args.line c.args.partition c.args.shape.slot c.args.self.now c.ask_map.new.self c.receive.new.self c.in-Ok.note.view
+    c.in-Ok.title
     c.ask_map.ensures.same c.in-Ok.ensures.gave c.receive.ensures c.kept-in-Ok.ensures.aware

@@ -16,7 +16,8 @@ invariant_of-result g c =
     let same = c.seat-seat.ensures.same in let cs = c.in_ok-caches.caches in
     let none = none_of c.args.note.view cs c.args.version c.in_ok-caches.ensures.version (c.in_ok-caches.ensures.lists c.args.note.view) in (
       ap (λ (x : Share). x.region) same ∙ c.requires.region,
-      subst (λ (rs : List StockRegister). IsStock (stock_of c.args.thread c.args.partitions c.seat-seat.result.view rs cs)) (sym c.empty_registers-registers.ensures)
+      subst (λ (rs : List StockRegister). IsStock (stock_of c.args.thread c.args.partitions c.seat-seat.result.view rs cs))
+          (sym c.empty_registers-registers.ensures)
           (subst (λ (x : Share). IsStock (stock_of c.args.thread c.args.partitions x.view (replicate 64 Empty) cs)) (sym same)
           (new_stock c.args.thread c.args.partitions c.args.note.view (lists_in c.args.note.view cs) c.requires.note
           (subst (λ (x : Share). unclean_of x.view ≡ 0) same c.seat-seat.ensures.clean) c.requires.partitions none)),
@@ -31,5 +32,6 @@ returns g c = record {
   view = ap (λ (x : Share). x.view) c.seat-seat.ensures.same;
   registers = λ i. subst (λ (rs : List StockRegister). register_in rs i ≡ Empty) (sym c.empty_registers-registers.ensures) (all_empty 64 i);
   lists = λ p n. let cs = c.in_ok-caches.caches in let v = c.seat-seat.result.view in
-      no_titles (4 * class_total cs.version) (lists_in v cs) p n (none_of v cs c.args.version c.in_ok-caches.ensures.version (c.in_ok-caches.ensures.lists v));
+      no_titles (4 * class_total cs.version) (lists_in v cs) p n
+      (none_of v cs c.args.version c.in_ok-caches.ensures.version (c.in_ok-caches.ensures.lists v));
 }

@@ -16,31 +16,38 @@ use Rattle.pa_thread_state.proofs.stock.Stock.park_handle.Goals as goal
 pub hand-note-requires-clause-able : goal.hand-note-requires-clause-able
 hand-note-requires-clause-able g c =
     let i = stock_of c.self.inside.thread c.self.inside.partitions c.self.inside.seat.view c.self.inside.registers c.self.inside.caches in
-    let has = subst (λ (z : StockValue). register_in z.registers c.args.reg ≡ handle_register c.args.own c.args.handle) (sym c.self.view_is) c.requires.handle in
+    let has = subst (λ (z : StockValue). register_in z.registers c.args.reg ≡ handle_register c.args.own c.args.handle)
+    (sym c.self.view_is) c.requires.handle in
     subst (λ (x : Item). CanHand (parcel_of (x ∷ []) 0 []) i.view) (sym c.own_or_ref-item.ensures)
     (can_park i c.args.reg c.args.own c.args.handle c.self.invariant.1 c.requires.reg has)
 
 pub invariant_of-self : goal.invariant_of-self
 invariant_of-self g c =
     let i = stock_of c.self.inside.thread c.self.inside.partitions c.self.inside.seat.view c.self.inside.registers c.self.inside.caches in
-    let has = subst (λ (z : StockValue). register_in z.registers c.args.reg ≡ handle_register c.args.own c.args.handle) (sym c.self.view_is) c.requires.handle in
+    let has = subst (λ (z : StockValue). register_in z.registers c.args.reg ≡ handle_register c.args.own c.args.handle)
+    (sym c.self.view_is) c.requires.handle in
     let left = c.hand-note.ensures.left ∙ ap (λ (x : Item). left_after (parcel_of (x ∷ []) 0 []) i.view) c.own_or_ref-item.ensures in
     let stake = subst (λ (z : StockValue). HasItsStake z) (sym c.self.view_is) c.requires.stake in
     let rs = slice_set i.registers c.args.reg Empty in
-    let them = has_as i c.hand-note.new.seat.view (parked_view i.view c.args.own c.args.handle) rs c.self.inside.caches left refl c.self.invariant.1 c.self.invariant.2
-    (parked_stock c.givers_lack_handles.ensures i c.args.reg c.args.own c.args.handle c.self.invariant.1 stake c.requires.reg has) (λ p class t among. refl) in
+    let them = has_as i c.hand-note.new.seat.view
+    (parked_view i.view c.args.own c.args.handle) rs c.self.inside.caches left refl c.self.invariant.1 c.self.invariant.2
+    (parked_stock c.givers_lack_handles.ensures i c.args.reg c.args.own c.args.handle c.self.invariant.1 stake c.requires.reg has)
+    (λ p class t among. refl) in
     (c.hand-note.ensures.regions.0 ∙ c.self.invariant.0, them.stock, them.holds)
 
 pub returns-clause-parks : goal.returns-clause-parks
 returns-clause-parks g c =
     let i = stock_of c.self.inside.thread c.self.inside.partitions c.self.inside.seat.view c.self.inside.registers c.self.inside.caches in
-    let has = subst (λ (z : StockValue). register_in z.registers c.args.reg ≡ handle_register c.args.own c.args.handle) (sym c.self.view_is) c.requires.handle in
+    let has = subst (λ (z : StockValue). register_in z.registers c.args.reg ≡ handle_register c.args.own c.args.handle)
+    (sym c.self.view_is) c.requires.handle in
     let left = c.hand-note.ensures.left ∙ ap (λ (x : Item). left_after (parcel_of (x ∷ []) 0 []) i.view) c.own_or_ref-item.ensures in
     let given = c.hand-note.ensures.given ∙ ap (λ (x : Item). given_after (parcel_of (x ∷ []) 0 []) i.view) c.own_or_ref-item.ensures in
     let stake = subst (λ (z : StockValue). HasItsStake z) (sym c.self.view_is) c.requires.stake in
     let rs = slice_set i.registers c.args.reg Empty in
-    let them = has_as i c.hand-note.new.seat.view (parked_view i.view c.args.own c.args.handle) rs c.self.inside.caches left refl c.self.invariant.1 c.self.invariant.2
-    (parked_stock c.givers_lack_handles.ensures i c.args.reg c.args.own c.args.handle c.self.invariant.1 stake c.requires.reg has) (λ p class t among. refl) in
+    let them = has_as i c.hand-note.new.seat.view
+    (parked_view i.view c.args.own c.args.handle) rs c.self.inside.caches left refl c.self.invariant.1 c.self.invariant.2
+    (parked_stock c.givers_lack_handles.ensures i c.args.reg c.args.own c.args.handle c.self.invariant.1 stake c.requires.reg has)
+    (λ p class t among. refl) in
     subst (λ (z : StockValue). Parks c.args.reg (Some (record { handle = c.args.handle; own = c.args.own; note = c.hand-note.result })) z
     (stock_of i.thread i.partitions c.hand-note.new.seat.view rs c.self.inside.caches)) c.self.view_is
     (has, given, after_as i c.hand-note.new.seat.view (parked_view i.view c.args.own c.args.handle) rs c.self.inside.caches left them)
@@ -48,7 +55,11 @@ returns-clause-parks g c =
 pub invariant_of-result : goal.invariant_of-result
 invariant_of-result g c =
     let i = stock_of c.self.inside.thread c.self.inside.partitions c.self.inside.seat.view c.self.inside.registers c.self.inside.caches in
-    let has = subst (λ (z : StockValue). register_in z.registers c.args.reg ≡ handle_register c.args.own c.args.handle) (sym c.self.view_is) c.requires.handle in
+    let has = subst (λ (z : StockValue). register_in z.registers c.args.reg ≡ handle_register c.args.own c.args.handle)
+    (sym c.self.view_is) c.requires.handle in
     let given = c.hand-note.ensures.given ∙ ap (λ (x : Item). given_after (parcel_of (x ∷ []) 0 []) i.view) c.own_or_ref-item.ensures in
-    subst (λ (v : View). IsParked (record { handle = c.args.handle; own = c.args.own; note = record { region = c.hand-note.result.region; view = v } })) (sym given)
-    (c.what_was_handed_can_wait.ensures c.args.handle c.args.own c.hand-note.result.region 0 i.view (handle_made i c.args.reg c.args.own c.args.handle c.self.invariant.1 has))
+    subst (λ (v : View). IsParked
+    (record { handle = c.args.handle; own = c.args.own; note = record { region = c.hand-note.result.region; view = v } })) (sym given)
+    (c.what_was_handed_can_wait.ensures c.args.handle c.args.own c.hand-note.result.region 0 i.view
+    (handle_made i c.args.reg c.args.own c.args.handle c.self.invariant.1 has)
+    (c.self.invariant.1.handles.sealed c.args.handle.title))

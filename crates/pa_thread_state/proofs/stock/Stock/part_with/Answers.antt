@@ -16,7 +16,8 @@ invariant_of-self g c =
     let i = stock_of c.self.inside.thread c.self.inside.partitions c.self.inside.seat.view c.self.inside.registers c.self.inside.caches in
     let aware = subst (λ (z : StockValue). IsAware z.view) (sym c.self.view_is) c.kept.ensures.aware in
     let back = subst (λ (z : StockValue). IsBack c.args.handle.now z) (sym c.self.view_is) c.requires.back in
-    let them = has_as i c.hand.new.seat.view (without_title c.args.handle.now.title i.view) i.registers c.self.inside.caches c.hand.ensures.left refl
+    let them = has_as i c.hand.new.seat.view
+    (without_title c.args.handle.now.title i.view) i.registers c.self.inside.caches c.hand.ensures.left refl
     c.self.invariant.1 c.self.invariant.2 (left_stock i c.args.handle.now c.self.invariant.1 aware back) (λ p class t among. refl) in
     (c.hand.ensures.regions.0 ∙ c.self.invariant.0, them.stock, them.holds)
 
@@ -25,7 +26,8 @@ returns-clause-left g c =
     let i = stock_of c.self.inside.thread c.self.inside.partitions c.self.inside.seat.view c.self.inside.registers c.self.inside.caches in
     let aware = subst (λ (z : StockValue). IsAware z.view) (sym c.self.view_is) c.kept.ensures.aware in
     let back = subst (λ (z : StockValue). IsBack c.args.handle.now z) (sym c.self.view_is) c.requires.back in
-    let them = has_as i c.hand.new.seat.view (without_title c.args.handle.now.title i.view) i.registers c.self.inside.caches c.hand.ensures.left refl
+    let them = has_as i c.hand.new.seat.view
+    (without_title c.args.handle.now.title i.view) i.registers c.self.inside.caches c.hand.ensures.left refl
     c.self.invariant.1 c.self.invariant.2 (left_stock i c.args.handle.now c.self.invariant.1 aware back) (λ p class t among. refl) in
     after_as i c.hand.new.seat.view (without_title c.args.handle.now.title i.view) i.registers c.self.inside.caches c.hand.ensures.left them
     ∙ ap (λ (z : StockValue). record z { view = without_title c.args.handle.now.title z.view }) c.self.view_is

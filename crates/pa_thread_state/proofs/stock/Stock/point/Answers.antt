@@ -25,9 +25,12 @@ invariant_of-self g c =
     let bare = subst (λ (z : StockValue). HasNoHandle (register_in z.registers c.args.to)) (sym c.self.view_is) c.requires.none in
     let rs = slice_set i.registers c.args.to (Ref c.args.handle) in
     let x = after_count Copy c.args.handle.title c.copy-found.result.0 i.view in
-    let them = has_as i c.copy-found.new.seat.view x rs c.self.inside.caches c.copy-found.ensures.view refl c.self.invariant.1 c.self.invariant.2
-    (copied_stock c.counted_steps_leave.ensures c.owns_change.ensures i c.args.from c.args.to c.copy-found.result.0 c.args.handle h.stock h.stake
-    (inside_budget i c.args.self.now c.self.view_is c.requires.budget) h.below c.requires.registers.1 h.has bare) (λ p class t among. refl) in
+    let them = has_as i c.copy-found.new.seat.view x rs c.self.inside.caches c.copy-found.ensures.view refl c.self.invariant.1
+    c.self.invariant.2
+    (copied_stock c.counted_steps_leave.ensures c.owns_change.ensures i c.args.from c.args.to c.copy-found.result.0 c.args.handle h.stock
+    h.stake
+    (inside_budget i c.args.self.now c.self.view_is c.requires.budget) h.below c.requires.registers.1 h.has bare)
+    (λ p class t among. refl) in
     (c.copy-found.ensures.region ∙ c.self.invariant.0, them.stock, them.holds)
 
 pub returns-clause-points : goal.returns-clause-points
@@ -38,9 +41,12 @@ returns-clause-points g c =
     let bare = subst (λ (z : StockValue). HasNoHandle (register_in z.registers c.args.to)) (sym c.self.view_is) c.requires.none in
     let rs = slice_set i.registers c.args.to (Ref c.args.handle) in
     let x = after_count Copy c.args.handle.title c.copy-found.result.0 i.view in
-    let them = has_as i c.copy-found.new.seat.view x rs c.self.inside.caches c.copy-found.ensures.view refl c.self.invariant.1 c.self.invariant.2
-    (copied_stock c.counted_steps_leave.ensures c.owns_change.ensures i c.args.from c.args.to c.copy-found.result.0 c.args.handle h.stock h.stake
-    (inside_budget i c.args.self.now c.self.view_is c.requires.budget) h.below c.requires.registers.1 h.has bare) (λ p class t among. refl) in
+    let them = has_as i c.copy-found.new.seat.view x rs c.self.inside.caches c.copy-found.ensures.view refl c.self.invariant.1
+    c.self.invariant.2
+    (copied_stock c.counted_steps_leave.ensures c.owns_change.ensures i c.args.from c.args.to c.copy-found.result.0 c.args.handle h.stock
+    h.stake
+    (inside_budget i c.args.self.now c.self.view_is c.requires.budget) h.below c.requires.registers.1 h.has bare)
+    (λ p class t among. refl) in
     subst (λ (z : StockValue). PointsTo c.args.handle c.args.to (record { slot = c.slot_name.result; found = c.copy-found.result }) z
     (stock_of i.thread i.partitions c.copy-found.new.seat.view rs c.self.inside.caches)) c.self.view_is (record {
       slot = c.slot_name.ensures;

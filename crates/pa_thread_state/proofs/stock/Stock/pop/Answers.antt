@@ -6,7 +6,8 @@ use Rattle.std.proofs.lemmas.List.Elements.{All-set}
 use Rattle.pa_region.specs.Shares.{Share}
 use Rattle.pa_rules.specs.Sizes.{HasClass}
 use Rattle.pa_cache.specs.Chained.{HoldsList, list_in}
-use Rattle.pa_op_specs.specs.Stocks.{StockValue, IsStock, cache_place}
+use Rattle.pa_rules.specs.Lists.{cache_place}
+use Rattle.pa_op_specs.specs.Stocks.{StockValue, IsStock}
 use Rattle.pa_thread_state.specs.Allocating.{Pops}
 use Rattle.pa_thread_state.specs.Lists.{WorkerCaches, lists_in, parts_of}
 use Rattle.pa_thread_state.proofs.Chained.{as_many, holds_at}
@@ -42,9 +43,11 @@ invariant_of-self g c =
       c.self.invariant.0,
       subst (λ (z : WorkerCaches). IsStock (record i { caches = lists_in v z })) (sym now.after_is)
           (subst (λ ls. IsStock (record i { caches = record i.caches { lists = ls } })) (sym (map-set (list_in v) cs.parts place y))
-          (popped_stock i p class place (list_in v (parts_of p class cs)) (list_in v y) c.pop.result c.self.invariant.1 c.requires.partition real at refl
+          (popped_stock i p class place (list_in v (parts_of p class cs))
+          (list_in v y) c.pop.result c.self.invariant.1 c.requires.partition real at refl
           now.class_is front now.list.is)),
-      subst (λ (z : WorkerCaches). All (HoldsList v) z.parts) (sym now.after_is) (All-set (HoldsList v) cs.parts place y now.list c.self.invariant.2),
+      subst (λ (z : WorkerCaches). All (HoldsList v) z.parts) (sym now.after_is)
+          (All-set (HoldsList v) cs.parts place y now.list c.self.invariant.2),
     )
 
 pub returns : goal.returns
@@ -58,9 +61,13 @@ returns g c =
     let out = c.pop.ensures.pops in let now = out.becomes in let y = now.new in
     let front : (list_in v (parts_of p class cs)).titles ≡ option_to_list c.pop.result ++ (list_in v y).titles =
     out.was ∙ ap (λ ts. option_to_list c.pop.result ++ ts) (sym now.titles_are) in
-    subst (λ (z : StockValue). Pops p class c.pop.result z (record i { view = c.pop.new.seat.view; caches = lists_in c.pop.new.seat.view c.pop.new.self }))
+    subst (λ (z : StockValue). Pops p class c.pop.result z
+    (record i { view = c.pop.new.seat.view; caches = lists_in c.pop.new.seat.view c.pop.new.self }))
     c.self.view_is
-    (subst (λ (s : Share). Pops p class c.pop.result i (record i { view = s.view; caches = lists_in s.view c.pop.new.self })) (sym c.pop.ensures.seat)
+    (subst (λ (s : Share). Pops p class c.pop.result i (record i { view = s.view; caches = lists_in s.view c.pop.new.self }))
+    (sym c.pop.ensures.seat)
     (subst (λ (z : WorkerCaches). Pops p class c.pop.result i (record i { caches = lists_in v z })) (sym now.after_is)
-    (subst (λ ls. Pops p class c.pop.result i (record i { caches = record i.caches { lists = ls } })) (sym (map-set (list_in v) cs.parts place y))
-    (pops i p class place (list_in v (parts_of p class cs)) (list_in v y) c.pop.result real at refl now.class_is front c.pop.ensures.none c.pop.ensures.size))))
+    (subst (λ ls. Pops p class c.pop.result i (record i { caches = record i.caches { lists = ls } }))
+    (sym (map-set (list_in v) cs.parts place y))
+    (pops i p class place (list_in v (parts_of p class cs))
+    (list_in v y) c.pop.result real at refl now.class_is front c.pop.ensures.none c.pop.ensures.size))))

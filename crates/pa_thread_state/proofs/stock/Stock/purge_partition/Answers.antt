@@ -32,7 +32,8 @@ lists-init g c =
 pub class_numbered-class-requires : goal.class_numbered-class-requires
 class_numbered-class-requires g c =
     let s = c.args.self.now in
-    real_in s.caches.version c.lists.number (left_real s c.args.partition c.lists.number c.lists.left c.lists.invariant.left c.lists-test.true)
+    real_in s.caches.version c.lists.number
+    (left_real s c.args.partition c.lists.number c.lists.left c.lists.invariant.left c.lists-test.true)
 
 pub count_listed-left-requires-clause-class : goal.count_listed-left-requires-clause-class
 count_listed-left-requires-clause-class g c =
@@ -54,8 +55,10 @@ give_tail-requires-clause-stake g c =
 
 pub overflow_sub-left : goal.overflow_sub-left
 overflow_sub-left g c =
-    let counted = c.count_listed-left.ensures.count ∙ ap (λ k. length (titles_in c.lists.self.caches c.args.partition k)) c.class_numbered-class.ensures in
-    left_part c.args.line c.args.partition c.lists.number c.lists.left c.count_listed-left.result c.args.self.now c.lists.self c.kept-in-lists.ensures.stock
+    let counted = c.count_listed-left.ensures.count ∙
+    ap (λ k. length (titles_in c.lists.self.caches c.args.partition k)) c.class_numbered-class.ensures in
+    left_part c.args.line c.args.partition c.lists.number c.lists.left c.count_listed-left.result c.args.self.now c.lists.self
+    c.kept-in-lists.ensures.stock
     c.lists.invariant.some c.lists.invariant.left c.lists-test.true counted
 
 pub lists-preserved : goal.lists-preserved
@@ -69,7 +72,8 @@ lists-preserved g c =
     let counted = c.count_listed-left.ensures.count ∙ ap (λ k. length (titles_in now.caches p k)) at in
     record {
       some = lists_more line p n s now next is c.lists.invariant.some tail below;
-      left = left_more line p n c.lists.left c.count_listed-left.result s now is c.lists.invariant.some c.lists.invariant.left c.lists-test.true counted;
+      left = left_more line p n c.lists.left c.count_listed-left.result s now is c.lists.invariant.some c.lists.invariant.left
+          c.lists-test.true counted;
       slots = c.lists.invariant.slots;
       budget = c.give_tail.ensures.budget ∙ c.lists.invariant.budget;
     }
@@ -82,13 +86,15 @@ lists-smaller g c =
 pub overflow_add-number : goal.overflow_add-number
 overflow_add-number g c =
     let s = c.args.self.now in
-    let real = real_in s.caches.version c.lists.number (left_real s c.args.partition c.lists.number c.lists.left c.lists.invariant.left c.lists-test.true) in
+    let real = real_in s.caches.version c.lists.number
+    (left_real s c.args.partition c.lists.number c.lists.left c.lists.invariant.left c.lists-test.true) in
     omega (arith, real)
 
 pub purge_root-requires-clause-lender : goal.purge_root-requires-clause-lender
 purge_root-requires-clause-lender g c =
     let i = stock_of c.self.inside.thread c.self.inside.partitions c.self.inside.seat.view c.self.inside.registers c.self.inside.caches in
-    let has = lists_stake c.args.line c.args.partition c.lists.number c.args.self.now c.lists.self c.lists.invariant.some c.requires.stake in
+    let has = lists_stake c.args.line c.args.partition c.lists.number c.args.self.now c.lists.self c.lists.invariant.some
+    c.requires.stake in
     let stake = subst (λ (z : StockValue). HasItsStake z) (sym c.self.view_is) has in
     ((least_is i.thread i.view c.self.invariant.1.stake stake).1, c.self.invariant.1.handles.clean)
 
@@ -103,7 +109,8 @@ pub invariant_of-self-2 : goal.invariant_of-self-2
 invariant_of-self-2 g c =
     let i = stock_of c.self.inside.thread c.self.inside.partitions c.self.inside.seat.view c.self.inside.registers c.self.inside.caches in
     let w = c.purge_root.new.seat.view in
-    let them = kept_has c.slots_stay_seen.ensures i w c.self.inside.caches refl c.self.invariant.1 c.self.invariant.2 c.in_ok-purge_root.ensures.entered.1.lends.keeps in
+    let them = kept_has c.slots_stay_seen.ensures i w c.self.inside.caches refl c.self.invariant.1 c.self.invariant.2
+    c.in_ok-purge_root.ensures.entered.1.lends.keeps in
     (c.purge_root.ensures.region, them.stock, them.holds)
 
 pub returns-clause-purges : goal.returns-clause-purges
@@ -111,7 +118,8 @@ returns-clause-purges g c =
     let i = stock_of c.self.inside.thread c.self.inside.partitions c.self.inside.seat.view c.self.inside.registers c.self.inside.caches in
     let p = c.args.partition in let line = c.args.line in let s = c.args.self.now in let now = c.lists.self in
     let w = c.purge_root.new.seat.view in
-    let them = kept_has c.slots_stay_seen.ensures i w c.self.inside.caches refl c.self.invariant.1 c.self.invariant.2 c.in_ok-purge_root.ensures.entered.1.lends.keeps in
+    let them = kept_has c.slots_stay_seen.ensures i w c.self.inside.caches refl c.self.invariant.1 c.self.invariant.2
+    c.in_ok-purge_root.ensures.entered.1.lends.keeps in
     let has = lists_stake line p c.lists.number s now c.lists.invariant.some c.requires.stake in
     let stake = subst (λ (z : StockValue). HasItsStake z) (sym c.self.view_is) has in
     let least = (least_is i.thread i.view c.self.invariant.1.stake stake).0 in
@@ -121,7 +129,8 @@ returns-clause-purges g c =
     let enters = subst (λ (z : StockValue). PurgeEnters z.thread p line z.view w) c.self.view_is entered in
     subst (λ (z : StockValue). PurgesRoot line p c.cached-slots.result.slots s z)
     (sym (after_as i w w i.registers c.self.inside.caches refl them ∙ ap (λ (z : StockValue). record z { view = w }) c.self.view_is))
-    (purges_root c.kept_numbers_stay.ensures s now w line p c.lists.number c.cached-slots.result.slots c.kept-2.ensures.aware c.aware.ensures.aware c.requires.partition
+    (purges_root c.kept_numbers_stay.ensures s now w line p c.lists.number c.cached-slots.result.slots c.kept-2.ensures.aware
+    c.aware.ensures.aware c.requires.partition
     c.lists.invariant.some left enters c.lists.invariant.slots)
 
 pub returns-in_err-give_tail-clause-stake : goal.returns-in_err-give_tail-clause-stake
@@ -133,7 +142,8 @@ returns-in_err-give_tail-clause-stake g c = any_err c.from_residual.result _ (re
 
 pub returns-in_err-purge_root-clause-stake : goal.returns-in_err-purge_root-clause-stake
 returns-in_err-purge_root-clause-stake g c =
-    let has = lists_stake c.args.line c.args.partition c.lists.number c.args.self.now c.lists.self c.lists.invariant.some c.requires.stake in
+    let has = lists_stake c.args.line c.args.partition c.lists.number c.args.self.now c.lists.self c.lists.invariant.some
+    c.requires.stake in
     let stake = subst (λ (z : StockValue). HasItsStake z) (sym c.self.view_is) has in
     any_err c.from_residual-in_err-purge_root.result _ (record {
       thread = ap (λ (z : StockValue). z.thread) c.self.view_is

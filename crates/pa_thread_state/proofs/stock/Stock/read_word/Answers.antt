@@ -31,8 +31,10 @@ invariant_of-self g c =
       has = c.requires.handle;
     }) in
     let x = read_view i.view c.args.handle.now.title c.read-value.result.0.0 c.args.place c.read-value.result.1 in
-    let them = has_as i c.read-value.new.seat.view x i.registers c.self.inside.caches c.read-value.ensures.view refl c.self.invariant.1 c.self.invariant.2
-    (read_sound c.looks_leave.ensures c.entries_stand_in_logs.ensures c.owns_change.ensures i c.read-value.result.0.0 c.args.place c.read-value.result.1 c.args.handle.now h.stock h.stake)
+    let them = has_as i c.read-value.new.seat.view x i.registers c.self.inside.caches c.read-value.ensures.view refl c.self.invariant.1
+    c.self.invariant.2
+    (read_sound c.looks_leave.ensures c.entries_stand_in_logs.ensures c.owns_change.ensures i c.read-value.result.0.0 c.args.place
+    c.read-value.result.1 c.args.handle.now h.stock h.stake)
     (λ p class t among. refl) in
     (c.read-value.ensures.region ∙ c.self.invariant.0, them.stock, them.holds)
 
@@ -47,10 +49,13 @@ returns g c =
       has = c.requires.handle;
     }) in
     let x = read_view i.view c.args.handle.now.title c.read-value.result.0.0 c.args.place c.read-value.result.1 in
-    let them = has_as i c.read-value.new.seat.view x i.registers c.self.inside.caches c.read-value.ensures.view refl c.self.invariant.1 c.self.invariant.2
-    (read_sound c.looks_leave.ensures c.entries_stand_in_logs.ensures c.owns_change.ensures i c.read-value.result.0.0 c.args.place c.read-value.result.1 c.args.handle.now h.stock h.stake)
+    let them = has_as i c.read-value.new.seat.view x i.registers c.self.inside.caches c.read-value.ensures.view refl c.self.invariant.1
+    c.self.invariant.2
+    (read_sound c.looks_leave.ensures c.entries_stand_in_logs.ensures c.owns_change.ensures i c.read-value.result.0.0 c.args.place
+    c.read-value.result.1 c.args.handle.now h.stock h.stake)
     (λ p class t among. refl) in
-    subst (λ (z : StockValue). ReadsAt c.args.handle.now c.args.place (record { slot = c.slot_name.result; found = c.read-value.result.0 }) c.read-value.result.1 z
+    subst (λ (z : StockValue). ReadsAt c.args.handle.now c.args.place
+    (record { slot = c.slot_name.result; found = c.read-value.result.0 }) c.read-value.result.1 z
     (stock_of i.thread i.partitions c.read-value.new.seat.view i.registers c.self.inside.caches)) c.self.view_is (record {
       slot = c.slot_name.ensures;
       after_is = after_as i c.read-value.new.seat.view x i.registers c.self.inside.caches c.read-value.ensures.view them;

@@ -23,7 +23,8 @@ returns-in-None-clause-left g c =
 pub returns-then-keeps_list-clause-settled : goal.returns-then-keeps_list-clause-settled
 returns-then-keeps_list-clause-settled g c =
     let keeps = c.keeps_list.ensures.0 c.if-keeps_list.true in
-    spill_settles c.args.line c.in-Some.class c.args.handle.now c.args.self.now c.spill.new.self c.spill.result c.in-Some.is keeps.0 keeps.1 c.spill.ensures.spills
+    spill_settles c.args.line c.in-Some.class c.args.handle.now c.args.self.now c.spill.new.self c.spill.result c.in-Some.is keeps.0 keeps.1
+    c.spill.ensures.spills
 
 pub returns-else-keeps_list-clause-settled : goal.returns-else-keeps_list-clause-settled
 returns-else-keeps_list-clause-settled g c =

@@ -14,8 +14,10 @@ pub invariant_of-self : goal.invariant_of-self
 invariant_of-self g c =
     let i = stock_of c.self.inside.thread c.self.inside.partitions c.self.inside.seat.view c.self.inside.registers c.self.inside.caches in
     let n = c.args.note.view in
-    let long = ap (λ (z : StockValue). length z.view.words) c.self.view_is ∙ (c.kept.ensures.long ∙ (ap byte_word_count (sym c.requires.note) ∙ sym c.aware.ensures.long)) in
-    let them = has_as i c.take.new.seat.view (united i.view n) i.registers c.self.inside.caches c.take.ensures.view refl c.self.invariant.1 c.self.invariant.2
+    let long = ap (λ (z : StockValue). length z.view.words) c.self.view_is ∙
+    (c.kept.ensures.long ∙ (ap byte_word_count (sym c.requires.note) ∙ sym c.aware.ensures.long)) in
+    let them = has_as i c.take.new.seat.view
+    (united i.view n) i.registers c.self.inside.caches c.take.ensures.view refl c.self.invariant.1 c.self.invariant.2
     (back_stock c.beginnings_join.ensures c.slots_stay_seen.ensures i n c.requires.has.0 c.self.invariant.1 c.requires.has.1
     (subst (λ (v : View). IsAware v) c.take.ensures.view c.aware-2.ensures.aware))
     (firsts_join i n c.self.invariant.1 long) in
@@ -26,15 +28,18 @@ returns-clause-stake g c =
     let stake = subst (λ (z : StockValue). HasItsStake z) (sym c.self.view_is) c.requires.stake in
     record {
       thread = ap (λ (z : StockValue). z.thread) c.self.view_is;
-      stake = subst (λ (v : View). 0 < stake_of v c.self.inside.thread) (sym c.take.ensures.view) (back_stake c.self.inside.seat.view c.args.note.view c.self.inside.thread stake);
+      stake = subst (λ (v : View). 0 < stake_of v c.self.inside.thread) (sym c.take.ensures.view)
+          (back_stake c.self.inside.seat.view c.args.note.view c.self.inside.thread stake);
     }
 
 pub returns-clause-joined : goal.returns-clause-joined
 returns-clause-joined g c =
     let i = stock_of c.self.inside.thread c.self.inside.partitions c.self.inside.seat.view c.self.inside.registers c.self.inside.caches in
     let n = c.args.note.view in
-    let long = ap (λ (z : StockValue). length z.view.words) c.self.view_is ∙ (c.kept.ensures.long ∙ (ap byte_word_count (sym c.requires.note) ∙ sym c.aware.ensures.long)) in
-    let them = has_as i c.take.new.seat.view (united i.view n) i.registers c.self.inside.caches c.take.ensures.view refl c.self.invariant.1 c.self.invariant.2
+    let long = ap (λ (z : StockValue). length z.view.words) c.self.view_is ∙
+    (c.kept.ensures.long ∙ (ap byte_word_count (sym c.requires.note) ∙ sym c.aware.ensures.long)) in
+    let them = has_as i c.take.new.seat.view
+    (united i.view n) i.registers c.self.inside.caches c.take.ensures.view refl c.self.invariant.1 c.self.invariant.2
     (back_stock c.beginnings_join.ensures c.slots_stay_seen.ensures i n c.requires.has.0 c.self.invariant.1 c.requires.has.1
     (subst (λ (v : View). IsAware v) c.take.ensures.view c.aware-2.ensures.aware))
     (firsts_join i n c.self.invariant.1 long) in

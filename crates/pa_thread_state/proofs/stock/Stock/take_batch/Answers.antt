@@ -37,10 +37,13 @@ invariant_of-self g c =
     let aware = subst (λ (z : StockValue). IsAware z.view) (sym c.self.view_is) c.kept.ensures.aware in
     let ts = titles_in i.caches p class in
     let re = subst (λ us. RelinksCache p class us v w cs after) (ap (rest_after keep) at.titles_are) c.spill.ensures.rest in
-    let both = relisted c.other_lists_stay.ensures v w cs after p class (rest_after keep ts) c.requires.partition real long aware c.self.invariant.2 re at.class_is
-    (λ t inside. is.lists.well p class t (in_rest keep ts t inside)) (λ t inside q other there. is.lists.apart q p other class t there (in_rest keep ts t inside)) in
+    let both = relisted c.other_lists_stay.ensures v w cs after p class
+    (rest_after keep ts) c.requires.partition real long aware c.self.invariant.2 re at.class_is
+    (λ t inside. is.lists.well p class t (in_rest keep ts t inside))
+    (λ t inside q other there. is.lists.apart q p other class t there (in_rest keep ts t inside)) in
     let now = re.becomes in
-    let sound = subst (λ (l : CacheList). IsCache l) (ap (λ n. record { class = n; titles = (list_in w now.new).titles }) (now.class_is ∙ at.class_is)
+    let sound = subst (λ (l : CacheList). IsCache l)
+    (ap (λ n. record { class = n; titles = (list_in w now.new).titles }) (now.class_is ∙ at.class_is)
     ∙ ap (λ us. record { class = class; titles = us }) now.titles_are) now.list.is in
     let few = is.lists.few p class in
     let short : length (rest_after keep ts) ≤ length ts = outside_short keep (keep + 16) ts (omega arith) in (
@@ -81,7 +84,10 @@ returns-clause-rest g c =
     let aware = subst (λ (z : StockValue). IsAware z.view) (sym c.self.view_is) c.kept.ensures.aware in
     let ts = titles_in i.caches p class in
     let re = subst (λ us. RelinksCache p class us v w cs after) (ap (rest_after keep) at.titles_are) c.spill.ensures.rest in
-    let both = relisted c.other_lists_stay.ensures v w cs after p class (rest_after keep ts) c.requires.partition real long aware c.self.invariant.2 re at.class_is
-    (λ t inside. is.lists.well p class t (in_rest keep ts t inside)) (λ t inside q other there. is.lists.apart q p other class t there (in_rest keep ts t inside)) in
-    subst (λ (z : StockValue). BecomesList p class (rest_after keep (titles_in z.caches p class)) z (record i { view = w; caches = lists_in w after })) c.self.view_is
+    let both = relisted c.other_lists_stay.ensures v w cs after p class
+    (rest_after keep ts) c.requires.partition real long aware c.self.invariant.2 re at.class_is
+    (λ t inside. is.lists.well p class t (in_rest keep ts t inside))
+    (λ t inside q other there. is.lists.apart q p other class t there (in_rest keep ts t inside)) in
+    subst (λ (z : StockValue). BecomesList p class (rest_after keep (titles_in z.caches p class)) z
+    (record i { view = w; caches = lists_in w after })) c.self.view_is
     (record { after_is = ap (λ ls. record i { view = w; caches = ls }) both.1; relinked = re.relinked })

@@ -29,9 +29,12 @@ invariant_of-self g c =
     ∙ (ap byte_word_count (sym (ap (λ (n : Share). n.region) c.parts-handle.ensures.note ∙ c.requires.note)) ∙ (sym c.aware.ensures.long
     ∙ ap (λ (n : Share). length n.view.words) c.parts-handle.ensures.note))) in
     let rs = slice_set i.registers c.args.reg c.register_with.result in
-    let them = has_as i c.take.new.seat.view (united i.view p.note.view) rs c.self.inside.caches view refl c.self.invariant.1 c.self.invariant.2
-    (subst (λ (r : StockRegister). IsStock (record i { view = united i.view p.note.view; registers = slice_set i.registers c.args.reg r })) (sym reg)
-    (taken_stock c.takers_have_handles.ensures c.beginnings_join.ensures c.slots_stay_seen.ensures i c.args.reg p c.self.invariant.1 c.requires.reg bare c.parts-handle.ensures.parked both))
+    let them = has_as i c.take.new.seat.view
+    (united i.view p.note.view) rs c.self.inside.caches view refl c.self.invariant.1 c.self.invariant.2
+    (subst (λ (r : StockRegister). IsStock (record i { view = united i.view p.note.view; registers = slice_set i.registers c.args.reg r }))
+    (sym reg)
+    (taken_stock c.takers_have_handles.ensures c.beginnings_join.ensures c.slots_stay_seen.ensures i c.args.reg p c.self.invariant.1
+    c.requires.reg bare c.parts-handle.ensures.parked both))
     (firsts_join i p.note.view c.self.invariant.1 long) in
     (c.take.ensures.region ∙ c.self.invariant.0, them.stock, them.holds)
 
@@ -48,17 +51,22 @@ returns g c =
     ∙ (ap byte_word_count (sym (ap (λ (n : Share). n.region) c.parts-handle.ensures.note ∙ c.requires.note)) ∙ (sym c.aware.ensures.long
     ∙ ap (λ (n : Share). length n.view.words) c.parts-handle.ensures.note))) in
     let rs = slice_set i.registers c.args.reg c.register_with.result in
-    let them = has_as i c.take.new.seat.view (united i.view p.note.view) rs c.self.inside.caches view refl c.self.invariant.1 c.self.invariant.2
-    (subst (λ (r : StockRegister). IsStock (record i { view = united i.view p.note.view; registers = slice_set i.registers c.args.reg r })) (sym reg)
-    (taken_stock c.takers_have_handles.ensures c.beginnings_join.ensures c.slots_stay_seen.ensures i c.args.reg p c.self.invariant.1 c.requires.reg bare c.parts-handle.ensures.parked both))
+    let them = has_as i c.take.new.seat.view
+    (united i.view p.note.view) rs c.self.inside.caches view refl c.self.invariant.1 c.self.invariant.2
+    (subst (λ (r : StockRegister). IsStock (record i { view = united i.view p.note.view; registers = slice_set i.registers c.args.reg r }))
+    (sym reg)
+    (taken_stock c.takers_have_handles.ensures c.beginnings_join.ensures c.slots_stay_seen.ensures i c.args.reg p c.self.invariant.1
+    c.requires.reg bare c.parts-handle.ensures.parked both))
     (firsts_join i p.note.view c.self.invariant.1 long) in
     record {
-      taken = subst (λ (z : StockValue). TakesHandleIn c.args.reg p z (stock_of i.thread i.partitions c.take.new.seat.view rs c.self.inside.caches)) c.self.view_is
+      taken = subst (λ (z : StockValue). TakesHandleIn c.args.reg p z
+          (stock_of i.thread i.partitions c.take.new.seat.view rs c.self.inside.caches)) c.self.view_is
           (record {
             parked = c.parts-handle.ensures.parked;
             aware = subst (λ (n : Share). IsAware n.view) c.parts-handle.ensures.note c.aware.ensures.aware;
             long = long;
             after_is = after_as i c.take.new.seat.view (united i.view p.note.view) rs c.self.inside.caches view them
-                ∙ ap (λ (r : StockRegister). record i { view = united i.view p.note.view; registers = slice_set i.registers c.args.reg r }) reg;
+                ∙ ap (λ (r : StockRegister). record i { view = united i.view p.note.view; registers = slice_set i.registers c.args.reg r })
+                reg;
           });
     }

@@ -13,7 +13,8 @@ pub invariant_of-self : goal.invariant_of-self
 invariant_of-self g c =
     let i = stock_of c.self.inside.thread c.self.inside.partitions c.self.inside.seat.view c.self.inside.registers c.self.inside.caches in
     let x = left_after (stake_parcel i.thread) i.view in
-    let them = has_as i c.hand.new.seat.view x i.registers c.self.inside.caches c.hand.ensures.left refl c.self.invariant.1 c.self.invariant.2
+    let them = has_as i c.hand.new.seat.view x i.registers c.self.inside.caches c.hand.ensures.left refl c.self.invariant.1
+    c.self.invariant.2
     (told_stock i c.self.invariant.1) (λ p class t among. refl) in
     (c.hand.ensures.regions.0 ∙ c.self.invariant.0, them.stock, them.holds)
 
@@ -21,7 +22,8 @@ pub returns-clause-left : goal.returns-clause-left
 returns-clause-left g c =
     let i = stock_of c.self.inside.thread c.self.inside.partitions c.self.inside.seat.view c.self.inside.registers c.self.inside.caches in
     let x = left_after (stake_parcel i.thread) i.view in
-    let them = has_as i c.hand.new.seat.view x i.registers c.self.inside.caches c.hand.ensures.left refl c.self.invariant.1 c.self.invariant.2
+    let them = has_as i c.hand.new.seat.view x i.registers c.self.inside.caches c.hand.ensures.left refl c.self.invariant.1
+    c.self.invariant.2
     (told_stock i c.self.invariant.1) (λ p class t among. refl) in
     after_as i c.hand.new.seat.view x i.registers c.self.inside.caches c.hand.ensures.left them
     ∙ ap (λ (z : StockValue). record z { view = left_after (stake_parcel z.thread) z.view }) c.self.view_is

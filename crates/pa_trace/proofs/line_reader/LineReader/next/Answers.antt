@@ -37,12 +37,15 @@ returns-in-Ok-clause-line c =
     let line = c.in-Some.line.now in
     let v : Unread = record { head = s.head; rest = c.in-Some.after.now; left = s.left - (length line + 1); number = s.number + 1 } in
     subst (λ w. IsLineRead w c.in-Ok.line v) c.self.view_is
-    (line_goes_on u line c.in-Some.after.now c.in-Some.ensures.0 c.in-Some.ensures.1 (λ h. false≢true (c.if-is_past.ensures.1 h)) c.in-Ok.line (sym c.in-Ok.ensures))
+    (line_goes_on u line c.in-Some.after.now c.in-Some.ensures.0 c.in-Some.ensures.1
+    (λ h. false≢true (c.if-is_past.ensures.1 h)) c.in-Ok.line (sym c.in-Ok.ensures))
 
 pub returns-in-Err-clause-fault : goal.returns-in-Err-clause-fault
 returns-in-Err-clause-fault c =
     let s = c.self.inside in
     let u : Unread = record { head = s.head; rest = s.rest.now; left = s.left; number = s.number } in
-    let faulty = line_faulty u c.in-Some.line.now c.in-Some.after.now c.in-Some.ensures.0 c.in-Some.ensures.1 (λ h. false≢true (c.if-is_past.ensures.1 h))
+    let faulty = line_faulty u c.in-Some.line.now c.in-Some.after.now c.in-Some.ensures.0 c.in-Some.ensures.1
+    (λ h. false≢true (c.if-is_past.ensures.1 h))
     c.in-Err.fault (sym c.in-Err.ensures) in
-    subst (λ (e : TraceFault). IsFaultRead c.args.self.now e) (sym c.fault_at.ensures.told) (subst (λ v. IsFaultRead v (told s.number c.in-Err.fault)) c.self.view_is faulty)
+    subst (λ (e : TraceFault). IsFaultRead c.args.self.now e) (sym c.fault_at.ensures.told)
+    (subst (λ v. IsFaultRead v (told s.number c.in-Err.fault)) c.self.view_is faulty)

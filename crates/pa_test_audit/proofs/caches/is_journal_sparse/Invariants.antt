@@ -1,8 +1,0 @@
-use Rattle.std.proofs.Common.{ℕ, ◌<◌}
-use Rattle.pa_record.specs.declared.root.RootEntry.{RootEntry}
-use Rattle.pa_rules.specs.Roots.{IsEntry, journal_at}
-use Rattle.pa_test_audit.specs.Sparse.{IsSparse}
-use Rattle.pa_test_audit.proofs.caches.is_journal_sparse.Given as goal
-
-abbrev pub invariant-loop-entry : goal.invariant-loop-entry
-invariant-loop-entry l = (i : ℕ) (e : RootEntry) → i < l.entry-index → IsEntry (journal_at l.roots) l.partition i e → IsSparse l.partition e.act

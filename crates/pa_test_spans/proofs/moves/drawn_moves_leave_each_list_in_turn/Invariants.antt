@@ -1,6 +1,0 @@
-use Rattle.std.proofs.Common.{◌*◌}
-use Rattle.pa_test_spans.specs.Table.{IsTableKept}
-use Rattle.pa_test_spans.proofs.moves.drawn_moves_leave_each_list_in_turn.Given as goal
-
-abbrev pub invariant-loop-done : goal.invariant-loop-done
-invariant-loop-done g l = IsTableKept l.lists l.table.spans.items (2 * l.done)
