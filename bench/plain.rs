@@ -41,7 +41,7 @@ fn shape_of(slot: u32) -> (u32, u32, u32) {
     (best.0, best.1, 4096 * best.1 / slot)
 }
 
-/// The classes of a version: four steps to each doubling in version 1, and eight in version 2.
+/// The classes of a version: four steps to each doubling in version 1, and eight in versions 2 and 3.
 fn classes(version: u64) -> Vec<Class> {
     let (steps, count) = if version == 1 { (4, 59) } else { (8, 111) };
     let mut sizes: Vec<u32> = (1..=8).map(|n| 16 * n).collect();
@@ -152,6 +152,7 @@ struct Player {
     classes: Vec<Class>,
     named: usize, // the number by which the text names the first of them
     partitions: usize,
+    plain_from: usize, // the first plain partition
     slots: Vec<Slot>,
     roots: Vec<Root>,
     pool: Pool,
@@ -400,13 +401,14 @@ enum Got {
 }
 
 impl Player {
-    fn new(version: u64, region: usize, partitions: usize, threads: usize) -> Player {
+    fn new(version: u64, region: usize, partitions: usize, threads: usize, plain: usize) -> Player {
         let classes = classes(version);
         let lists = vec![Vec::new(); classes.len()];
         let root = || Root { active: lists.clone(), decommitted: lists.clone(), ..Root::default() };
         Player {
             named: if version == 1 { 0 } else { 59 },
             partitions,
+            plain_from: partitions - plain,
             slots: Vec::new(),
             roots: (0..partitions).map(|_| root()).collect(),
             pool: Pool { taken: vec![None; region], entries: 0, text: Vec::new() },
@@ -617,6 +619,9 @@ impl Player {
         if matches!(self.regs[to], Reg::Own(_) | Reg::Ref(_)) {
             return self.bare(line, thread, b"filled");
         }
+        if matches!(self.regs[from], Reg::Own(_)) && usize::from(self.slots[slot as usize].partition) >= self.plain_from {
+            return self.bare(line, thread, b"uncounted");
+        }
         self.looked(line, thread, b"done", slot);
         self.slots[slot as usize].word += (1 << 24) + 2;
         self.regs[to] = Reg::Ref(slot);
@@ -816,7 +821,8 @@ fn main() {
     let mut lines = text.strip_suffix(b"\n").unwrap_or(&text).split(|b| *b == b'\n');
     let head: Vec<&[u8]> = lines.next().unwrap().split(|b| *b == b' ').collect();
     let count = |word: usize| plain(head[word], 0) as usize;
-    let mut player = Player::new(plain(head[1], 0), count(3), count(5), count(7));
+    let plain_count = if head.len() > 9 { count(9) } else { 0 };
+    let mut player = Player::new(plain(head[1], 0), count(3), count(5), count(7), plain_count);
     let mut phase = 1;
     let mut words: Vec<&[u8]> = Vec::with_capacity(8);
     for (i, line) in lines.enumerate() {

@@ -21,7 +21,7 @@ const NONE: u32 = u32::MAX;
 /// A line of the report behind its letter: `n` is a number of 32 bits, `N` one of 64.
 const REPORT: &str = "n n live N N quarantined N N cached N N root N N committed N reserved N full n active n empty n decommitted n";
 
-/// The size classes, those of version 1 and then those of version 2: slot size, partition pages of a span, slots of a span.
+/// The size classes, those of version 1 and then those of versions 2 and 3: slot size, partition pages of a span, slots of a span.
 const CLASSES: [(u32, u32, u32); DIRECT] = [
     (16, 1, 1024), (32, 1, 512), (48, 1, 341), (64, 1, 256), (80, 1, 204), (96, 1, 170), (112, 1, 146), (128, 1, 128),
     (160, 1, 102), (192, 1, 85), (224, 1, 73), (256, 1, 64), (320, 1, 51), (384, 3, 128), (448, 2, 73), (512, 1, 32),
@@ -114,6 +114,7 @@ struct Trace {
     region: u32,
     partitions: usize,
     threads: usize,
+    plain_from: usize, // the first plain partition
     phases: u32,
     ops: Vec<OpLine>,
     of_line: Vec<u32>, // of each line, by its number, which op it is, or NONE
@@ -354,15 +355,17 @@ impl<'a> Reader<'a> {
     }
 
     fn head(&mut self, words: &[&[u8]]) -> Option<Trace> {
-        let [b"trace", version, b"region", region, b"partitions", partitions, b"threads", threads] = words else { return None };
-        let version = match *version {
-            b"1" => VERSION_1,
-            b"2" => VERSION_2,
+        let [b"trace", version, b"region", region, b"partitions", partitions, b"threads", threads, rest @ ..] = words else { return None };
+        let (version, plain): (Version, &[u8]) = match (*version, rest) {
+            (b"1", []) => (VERSION_1, b"0"),
+            (b"2", []) => (VERSION_2, b"0"),
+            (b"3", [b"plain", plain]) => (VERSION_2, plain),
             _ => return None,
         };
         let region = self.within(region, b"", 1, version.most_supers)? as u32;
         let (partitions, threads) = (self.within(partitions, b"", 1, 4)?, self.within(threads, b"", 1, 16)?);
-        Some(Trace { version, region, partitions, threads, phases: 1, ops: Vec::new(), of_line: vec![NONE; 2] })
+        let plain_from = partitions - self.within(plain, b"", 0, partitions)?;
+        Some(Trace { version, region, partitions, threads, plain_from, phases: 1, ops: Vec::new(), of_line: vec![NONE; 2] })
     }
 
     /// An op, and the register that it names first.
@@ -620,19 +623,27 @@ fn cells(t: &Trace, r: &Run) -> Holds {
     Ok(())
 }
 
-/// How many bytes of each slot are usable, as the first record says that made it.
-fn first_usable(r: &Run) -> Vec<u64> {
-    let mut usable = vec![0; r.names.len()];
-    for record in r.records.iter().rev() {
+/// What the first record says of a slot that made it: how many of its bytes are usable, and whether its partition is plain.
+#[derive(Clone, Copy, Default)]
+struct Made {
+    usable: u64,
+    plain: bool,
+}
+
+/// That of each slot, by its name.
+fn first_made(t: &Trace, r: &Run) -> Vec<Made> {
+    let mut made: Vec<Option<Made>> = vec![None; r.names.len()];
+    for (_, (op, record)) in both(t, r) {
         if let (Kind::Made, Some(seen)) = (record.kind, record.seen) {
-            usable[seen.slot] = record.told;
+            let plain = matches!(op.op, Op::Alloc { partition, .. } if partition >= t.plain_from);
+            made[seen.slot].get_or_insert(Made { usable: record.told, plain });
         }
     }
-    usable
+    made.into_iter().map(Option::unwrap_or_default).collect()
 }
 
 /// The answer is the one of the op, by what its register holds; `regs` are those of its thread.
-fn answer_fits(v: Version, r: &Run, usable: &[u64], regs: &[Reg], op: &OpLine, record: &Record) -> bool {
+fn answer_fits(v: Version, r: &Run, made: &[Made], regs: &[Reg], op: &OpLine, record: &Record) -> bool {
     let (Reg::Own(slot) | Reg::Ref(slot)) = regs[op.reg] else { return empty_fits(v, r, regs[op.reg], op, record) };
     let owns = regs[op.reg] == Reg::Own(slot);
     let its = record.seen.is_some_and(|seen| seen.slot == slot);
@@ -640,6 +651,7 @@ fn answer_fits(v: Version, r: &Run, usable: &[u64], regs: &[Reg], op: &OpLine, r
     match (op.op, record.kind) {
         (Op::Alloc { .. }, kind) => kind == Kind::Filled,
         (Op::Copy { to }, kind) if regs[to].is_handle() => kind == Kind::Filled,
+        (Op::Copy { .. }, kind) if owns && made[slot].plain => kind == Kind::Uncounted,
         (Op::Reset, kind) if owns => kind == Kind::NotRef,
         (Op::Copy { .. } | Op::Reset, kind) => its && kind == Kind::Done,
         (Op::Free, Kind::Done) => its && owns,
@@ -647,7 +659,7 @@ fn answer_fits(v: Version, r: &Run, usable: &[u64], regs: &[Reg], op: &OpLine, r
         (Op::Write(_), Kind::Shared) => its && owns && refs(found) > 0,
         (Op::Free | Op::Write(_), Kind::NotOwner) => its && !owns && held(found),
         (Op::Free, Kind::SecondFree) | (Op::Write(_), Kind::StaleUse) => its && !owns && !held(found),
-        (Op::Read(place), kind) if 8 * place >= usable[slot] => kind == Kind::OutOfRange,
+        (Op::Read(place), kind) if 8 * place >= made[slot].usable => kind == Kind::OutOfRange,
         (Op::Read(_), Kind::Word) => its && held(found),
         (Op::Read(_), Kind::Dangling) => its && !held(found),
         (Op::Swap(cell), _) => r.exchange(cell, record).is_some_and(|at| r.exchanges[at].gave == regs[op.reg]),
@@ -688,12 +700,12 @@ fn change(r: &Run, op: &OpLine, record: &Record) -> Option<(usize, Reg)> {
 /// registers: each answer is the one of its op by what the register holds; what an exchange gave is what the register held. Gives
 /// which records went through a raw_ptr.
 fn registers(t: &Trace, r: &Run) -> Holds<Vec<bool>> {
-    let usable = first_usable(r);
+    let made = first_made(t, r);
     let mut all = vec![[Reg::Empty; 64]; t.threads];
     let mut through = vec![false; t.ops.len()];
     for (i, (op, record)) in both(t, r) {
         let regs = &mut all[op.thread];
-        ask(answer_fits(t.version, r, &usable, regs, op, record), i)?;
+        ask(answer_fits(t.version, r, &made, regs, op, record), i)?;
         through[i] = matches!(regs[op.reg], Reg::Ref(_));
         if let Some((reg, holds)) = change(r, op, record) {
             regs[reg] = holds;

@@ -35,7 +35,8 @@ class Rules:
         return self.slot(size)[1]
 
 
-RULES = {version: Rules(version) for version in FIRST_CLASS}
+# By version. A trace of version 3 has the classes of version 2.
+RULES = {version: Rules(version) for version in (1, 2)}
 
 
 class Heap:

@@ -316,8 +316,8 @@ class Trace:
     def line(self, program, line):
         self.lines += 1
         if self.threads is None:
-            version, _, partitions, self.threads = map(int, HEAD.fullmatch(line).groups())
-            program.rules = RULES[program.version or version]
+            version, _, partitions, self.threads = map(int, HEAD.fullmatch(line).groups()[:4])
+            program.rules = RULES[program.version or min(version, 2)]
             return partitions == 1
         try:
             op = read_op(line, self.lines, 1, self.threads)

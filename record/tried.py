@@ -59,7 +59,7 @@ REFUSED = (
     (b"log 1\na 0 10 -8\n", "line 2: this is no line"),
     (b"log 1\na 0 10 8\nf 0 \xff\n", "line 3: there is a byte that isn't ASCII"),
     (b"log 1\na 0 10 8\na 1 10 8\n", "line 3: address 10 is live and is allocated again"),
-    (b"trace 3 region 1 partitions 1 threads 1\n", "no log that I know"),
+    (b"trace 4 region 1 partitions 1 threads 1\n", "no log that I know"),
     (b"trace 1 region 1 partitions 1 threads 1\n", "no events: was malloc called?"),
     (b"trace 1 region 1 partitions 2 threads 1\n0 A r0 p0 8\n", "line 1: this is no line of a trace of one partition"),
     (b"trace 2 region 1 partitions 1 threads 1\n0 A r0 p0 8\n0 P\n", "line 3: this is no line of a trace of one partition"),

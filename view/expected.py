@@ -11,7 +11,8 @@ BAD, LIMIT = "bad line", "limit at line"
 MOST_LINES, MOST_BYTES, MOST_AUDITED = 65_536, 4_194_304, 134_217_728
 
 HEAD = "trace V region N partitions P threads T"
-VERSIONS = ("1", "2")
+# The form of a head by its version.
+HEADS = {"1": HEAD, "2": HEAD, "3": f"{HEAD} plain Q"}
 OPS = {
     "A": "T A rI pJ SIZE",
     "C": "T C rI rJ",
@@ -85,7 +86,7 @@ def trace_fault(lines, unended):
         try:
             within(n, line, before, whole)
             fields = fields_of(line) if n == 1 else trace_fields(line)
-            matched = match(HEAD, fields, line) if n == 1 else trace_line(fields, line)
+            matched = match(head_form(fields), fields, line) if n == 1 else trace_line(fields, line)
             ended(line, whole)
             head = head_of(matched) if n == 1 else head
             in_limits(matched, head)
@@ -93,6 +94,11 @@ def trace_fault(lines, unended):
             return Fault(fault.answer, n, fault.column, fault.wrong, fault.expected)
         before += len(line) + 1
     return None if head else Fault(BAD, 1, 1, "the file is empty", HEAD)
+
+
+def head_form(fields):
+    """The form of a head with these fields: that of its version, if it has one."""
+    return HEADS.get(fields[1][1], HEAD) if len(fields) > 1 else HEAD
 
 
 def within(n, line, before, whole):
@@ -147,6 +153,8 @@ def bounds(name, head):
     """The least and the greatest value of a number in a trace, and where that comes from."""
     if name in ("N", "P", "T"):
         return 1, {"N": 16 if head["V"] == "1" else 64, "P": 4, "T": 16}[name], ""
+    if name == "Q":
+        return 0, int(head["P"]), f": the head has partitions {head['P']}"
     if name in ("thread", "partition"):
         count = int(head["T" if name == "thread" else "P"])
         return 0, count - 1, f": the head has {name}s {count}"
@@ -324,8 +332,8 @@ def field(due, column, text, form):
     if due.startswith("SLOT") and not due.startswith("SLOTS"):
         return slot(due, column, text, form)
     if due == "V":
-        if text not in VERSIONS:
-            raise Refused(column, f"{shown(text)} is no version", f"{' or '.join(VERSIONS)}, in {form}")
+        if text not in HEADS:
+            raise Refused(column, f"{shown(text)} is no version", f"{', '.join(HEADS)}, in {form}")
         return [("V", column, text)]
     before, name = (due[0], due[1:]) if due[0].islower() else ("", due)
     if not text.startswith(before):

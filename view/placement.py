@@ -4,14 +4,14 @@ partition. What the journals of a run name is what these rules give, or the text
 from fractions import Fraction
 
 SYSTEM_PAGE, PARTITION_PAGE, SUPER_PAGE = 4096, 16384, 2097152
-LARGEST_CLASS = {1: 917504, 2: 983040}
+LARGEST_CLASS = {1: 917504, 2: 983040, 3: 983040}
 MOST_EMPTY = 16
 STATES = NONE, ACTIVE, EMPTY, DECOMMITTED, FULL = range(5)
 
 
 def slot_sizes(version):
     """The slot sizes of a version's classes: eight steps of 16 bytes, and then four steps to each doubling in version 1, and eight in
-    version 2."""
+    versions 2 and 3."""
     steps = 4 if version == 1 else 8
     sizes = list(range(16, 129, 16))
     while sizes[-1] < LARGEST_CLASS[version]:
@@ -31,9 +31,9 @@ def span_shape(size):
     return pages, system, SYSTEM_PAGE * system // size
 
 
-# The classes of version 1, and then those of version 2; and which of them is the first of a version.
+# The classes of version 1, and then those of versions 2 and 3; and which of them is the first of a version.
 SIZES = slot_sizes(1) + slot_sizes(2)
-FIRST_CLASS = {1: 0, 2: len(slot_sizes(1))}
+FIRST_CLASS = {1: 0, 2: len(slot_sizes(1)), 3: len(slot_sizes(1))}
 SHAPES = [span_shape(size) for size in SIZES]
 
 

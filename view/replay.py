@@ -121,6 +121,8 @@ class Heap:
             return self.note_slot(slot)
         if not is_enabled(op.name, found):
             self.refuse(record.line, "its step isn't enabled")
+        if op.name == "C" and held[0] == OWN and slot.partition >= self.trace.partitions - self.trace.plain:
+            self.refuse(record.line, f"{name} is in a plain partition")
         if op.name == "A" and (slot.place not in (CACHED, HELD) or slot.who != op.thread):
             self.refuse(record.line, f"thread {op.thread} doesn't hold {name}")
         slot.word += ONE + STEPS[op.name]

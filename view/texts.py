@@ -5,7 +5,7 @@ from collections import namedtuple
 
 from expected import first_fault
 
-Trace = namedtuple("Trace", "version region partitions threads lines")
+Trace = namedtuple("Trace", "version region partitions threads plain lines")
 Op = namedtuple("Op", "thread name fields")
 Record = namedtuple("Record", "line thread answer fields given")
 RootEntry = namedtuple("RootEntry", "line act size_class pool slots len")
@@ -19,8 +19,8 @@ SLOT = rf"[0-9a-f]{{8}}\.{NUMBER}"
 WORD = "[0-9a-f]{16}"
 HELD = f"(?:-|(?:own|ref):{SLOT})"
 
-HEAD = re.compile(f"trace ([12]) region ({NUMBER}) partitions ({NUMBER}) threads ({NUMBER})")
-MOST_SUPER_PAGES = {1: 16, 2: 64}
+HEAD = re.compile(f"trace ([123]) region ({NUMBER}) partitions ({NUMBER}) threads ({NUMBER})(?: plain ({NUMBER}))?")
+MOST_SUPER_PAGES = {1: 16, 2: 64, 3: 64}
 OPS = {
     name: re.compile(f"({NUMBER}) {name}{fields}")
     for name, fields in {
@@ -98,13 +98,13 @@ def read_both(text):
 
 def read_trace(lines):
     head = HEAD.fullmatch(lines[0]) if lines else None
-    if head is None:
-        raise NoRun(1, "the head of a trace belongs here: `trace V region N partitions P threads T`")
-    version, region, partitions, threads = map(int, head.groups())
-    if not (1 <= region <= MOST_SUPER_PAGES[version] and 1 <= partitions <= 4 and 1 <= threads <= 16):
+    if head is None or (head[1] == "3") != (head[5] is not None):
+        raise NoRun(1, "the head of a trace belongs here: `trace V region N partitions P threads T`, in version 3 with ` plain Q`")
+    version, region, partitions, threads, plain = map(int, head.groups(default=0))
+    if not (1 <= region <= MOST_SUPER_PAGES[version] and 1 <= partitions <= 4 and 1 <= threads <= 16 and plain <= partitions):
         raise NoRun(1, "a number of the head passes its limit")
     ops = [None, *(read_op(line, n, partitions, threads) for n, line in enumerate(lines[1:], 2))]
-    return Trace(version, region, partitions, threads, ops)
+    return Trace(version, region, partitions, threads, plain, ops)
 
 
 def read_op(line, n, partitions, threads):

@@ -38,7 +38,7 @@ line_other (Do thread op) text h e = number_other thread h.0 (codes " ") h.1 h.2
 
 head_other : (head : Head) (text : List ℕ) → IsHeadText head text → IsOther (text ++ 10 ∷ [])
 head_other head text h e =
-    let first : 116 ≡ 114 = ap (λ (z : List ℕ). first_byte (z ++ 10 ∷ [])) (sym h.8) ∙ ap first_byte e in omega (arith, first)
+    let first : 116 ≡ 114 = ap (λ (z : List ℕ). first_byte (z ++ 10 ∷ [])) (sym h.10) ∙ ap first_byte e in omega (arith, first)
 
 -- ---- so a text after it is cut off where it begins
 

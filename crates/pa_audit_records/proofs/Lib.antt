@@ -4,6 +4,7 @@ pub mod Beside
 pub mod Rising
 pub mod Rowing
 pub mod Putting
+mod Knowing
 pub mod Walking
 pub mod Going
 pub mod Stepping

@@ -1,5 +1,5 @@
 -- What a record's answer requires of the registers, and what it leads to.
-use Rattle.std.proofs.Common.{◌≡◌, ℕ, zero, suc, ◌+◌, ◌*◌, ◌<◌, ◌≤◌, ◌==◌, if◌then◌else◌, List, get_or, set, replicate, length, Option, Some, None, refl, sym, ◌∙◌, ap, arith, inl, inr}
+use Rattle.std.proofs.Common.{Bool, true, false, ◌≡◌, ℕ, zero, suc, ◌+◌, ◌*◌, ◌<◌, ◌≤◌, ◌==◌, if◌then◌else◌, List, get_or, set, replicate, length, Option, Some, None, refl, sym, ◌∙◌, ap, arith, inl, inr}
 use Rattle.std.specs.Prelude.{nat_lt}
 use Rattle.std.proofs.lemmas.List.{get_or-set_same, get_or-set_other}
 use Rattle.std.proofs.lemmas.Bool.{cases_eq, cases_lt, eq-eqb, ne_eqb, lt-ltb, le-ltb}
@@ -8,12 +8,12 @@ use Rattle.pa_trace.specs.declared.script.Op.{Op}
 use Rattle.pa_trace.specs.declared.script.Op.TheVariants as ops
 use Rattle.pa_record.specs.declared.entry.Seen.{Seen}
 use Rattle.pa_record.specs.declared.entry.Answer.{Answer}
-use Rattle.pa_record.specs.declared.entry.Answer.TheVariants.{Made, Done, Value, Dangling, SecondFree, NotOwner, StaleReset, StaleUse, Nothing, Filled, NotRef, TooLarge, Full, Swapped}
+use Rattle.pa_record.specs.declared.entry.Answer.TheVariants.{Made, Done, Value, Dangling, SecondFree, NotOwner, StaleReset, StaleUse, Nothing, Filled, NotRef, TooLarge, Full, Swapped, Uncounted}
 use Rattle.pa_record.specs.declared.history.CellEntry.{CellEntry}
 use Rattle.pa_rules.specs.declared.register.Register.TheVariants.{Empty, Own, Ref, Freed, Cleared}
-use Rattle.pa_rules.specs.Registers.{Reg, Facts, Regs, Row, Becomes, with, RequestRow, AllocRow, CopyToRow, CopyRow, ResetRow, FreeRow, WriteRow, ReadFromRow, ReadRow, SwapRow, reg_of, no_regs}
+use Rattle.pa_rules.specs.Registers.{Reg, Facts, Regs, Row, Becomes, with, RequestRow, AllocRow, PointRow, CopyToRow, CopyRow, ResetRow, FreeRow, WriteRow, ReadFromRow, ReadRow, SwapRow, reg_of, no_regs}
 use Rattle.pa_rules.proofs.Nexts.{by_held, held_by}
-use Rattle.pa_audit_records.specs.Rows.{IsDoneAt, AnswersRequest, AnswersAlloc, AnswersCopyTo, AnswersCopy, AnswersReset, AnswersFree, AnswersWrite, AnswersReadFrom, AnswersRead, AnswersSwap, MayAnswer}
+use Rattle.pa_audit_records.specs.Rows.{IsDoneAt, AnswersRequest, AnswersAlloc, AnswersPoint, AnswersCopyTo, AnswersCopy, AnswersReset, AnswersFree, AnswersWrite, AnswersReadFrom, AnswersRead, AnswersSwap, MayAnswer}
 use Rattle.pa_rules.specs.Changes.{change_of, changed, found_in}
 use Rattle.pa_audit_records.specs.Tables.{regs_in, with_register, AreRegsOf}
 
@@ -98,20 +98,26 @@ alloc_may (Ref s) facts regs after reg size answer h = h.0
 alloc_may Freed facts regs after reg size answer h = request_may facts regs after reg size answer h
 alloc_may Cleared facts regs after reg size answer h = request_may facts regs after reg size answer h
 
-copy_to_may : (r : Reg) (s : SlotName) (regs after : Regs) (to : ℕ) (answer : Answer) →
-    CopyToRow r s regs to answer after → AnswersCopyTo r s answer
-copy_to_may Empty s regs after to answer h = (h.0, h.1, h.2)
-copy_to_may (Own t) s regs after to answer h = h.0
-copy_to_may (Ref t) s regs after to answer h = h.0
-copy_to_may Freed s regs after to answer h = (h.0, h.1, h.2)
-copy_to_may Cleared s regs after to answer h = (h.0, h.1, h.2)
+point_may : (plain : Bool) (s : SlotName) (regs after : Regs) (to : ℕ) (answer : Answer) → PointRow plain s regs to answer after →
+    AnswersPoint plain s answer
+point_may true s regs after to answer h = h.0
+point_may false s regs after to answer h = (h.0, h.1, h.2)
 
-copy_may : (r : Reg) (regs after : Regs) (to : ℕ) (answer : Answer) → CopyRow r regs to answer after → AnswersCopy r (regs to) answer
-copy_may Empty regs after to answer h = h.0
-copy_may (Own s) regs after to answer h = copy_to_may (regs to) s regs after to answer h
-copy_may (Ref s) regs after to answer h = copy_to_may (regs to) s regs after to answer h
-copy_may Freed regs after to answer h = h.0
-copy_may Cleared regs after to answer h = h.0
+copy_to_may : (r : Reg) (plain : Bool) (s : SlotName) (regs after : Regs) (to : ℕ) (answer : Answer) →
+    CopyToRow r plain s regs to answer after → AnswersCopyTo r plain s answer
+copy_to_may Empty plain s regs after to answer h = point_may plain s regs after to answer h
+copy_to_may (Own t) plain s regs after to answer h = h.0
+copy_to_may (Ref t) plain s regs after to answer h = h.0
+copy_to_may Freed plain s regs after to answer h = point_may plain s regs after to answer h
+copy_to_may Cleared plain s regs after to answer h = point_may plain s regs after to answer h
+
+copy_may : (r : Reg) (facts : Facts) (regs after : Regs) (to : ℕ) (answer : Answer) → CopyRow r facts regs to answer after →
+    AnswersCopy r facts.plain_at (regs to) answer
+copy_may Empty facts regs after to answer h = h.0
+copy_may (Own s) facts regs after to answer h = copy_to_may (regs to) (facts.plain_at s) s regs after to answer h
+copy_may (Ref s) facts regs after to answer h = copy_to_may (regs to) false s regs after to answer h
+copy_may Freed facts regs after to answer h = h.0
+copy_may Cleared facts regs after to answer h = h.0
 
 reset_may : (r : Reg) (regs after : Regs) (reg : ℕ) (answer : Answer) → ResetRow r regs reg answer after → AnswersReset r answer
 reset_may Empty regs after reg answer h = h.0
@@ -152,7 +158,7 @@ read_may Cleared facts regs after place answer h = h.0
 pub row_may : (facts : Facts) (op : Op) (regs after : Regs) (answer : Answer) → Row facts op regs answer after →
     MayAnswer facts op regs answer
 row_may facts (ops.Alloc reg partition size) regs after answer h = alloc_may (regs reg) facts regs after reg size answer h
-row_may facts (ops.Copy from to) regs after answer h = copy_may (regs from) regs after to answer h
+row_may facts (ops.Copy from to) regs after answer h = copy_may (regs from) facts regs after to answer h
 row_may facts (ops.Reset reg) regs after answer h = reset_may (regs reg) regs after reg answer h
 row_may facts (ops.Free reg) regs after answer h = free_may (regs reg) regs after reg answer h
 row_may facts (ops.Write reg value) regs after answer h = write_may (regs reg) regs after answer h
@@ -196,25 +202,26 @@ may_alloc (Ref s) facts regs reg partition size answer h = (h, keeps facts (ops.
 may_alloc Freed facts regs reg partition size answer h = may_request facts regs reg partition size answer h
 may_alloc Cleared facts regs reg partition size answer h = may_request facts regs reg partition size answer h
 
-copied : (facts : Facts) (regs : Regs) (s : SlotName) (from to : ℕ) (answer : Answer) → IsDoneAt s answer
-    → (seen : Seen) × (seen.slot ≡ s) × (answer ≡ Done seen) ×
-    Becomes (changed regs (change_of facts.cells (ops.Copy from to) answer)) (with regs to (Ref s))
-copied facts regs s from to answer (seen, slot, is) =
+may_point : (plain : Bool) (s : SlotName) (facts : Facts) (regs : Regs) (from to : ℕ) (answer : Answer) → AnswersPoint plain s answer
+    → PointRow plain s regs to answer (changed regs (change_of facts.cells (ops.Copy from to) answer))
+may_point true s facts regs from to answer h = (h, keeps facts (ops.Copy from to) regs answer Uncounted h refl)
+may_point false s facts regs from to answer (seen, slot, is) =
     (seen, slot, is, sets facts (ops.Copy from to) regs answer (Done seen) to (Ref s) is (ap (λ (z : SlotName). Some (to, Ref z)) slot))
 
-may_copy_to : (r : Reg) (s : SlotName) (facts : Facts) (regs : Regs) (from to : ℕ) (answer : Answer) → AnswersCopyTo r s answer
-    → CopyToRow r s regs to answer (changed regs (change_of facts.cells (ops.Copy from to) answer))
-may_copy_to Empty s facts regs from to answer h = copied facts regs s from to answer h
-may_copy_to (Own t) s facts regs from to answer h = (h, keeps facts (ops.Copy from to) regs answer Filled h refl)
-may_copy_to (Ref t) s facts regs from to answer h = (h, keeps facts (ops.Copy from to) regs answer Filled h refl)
-may_copy_to Freed s facts regs from to answer h = copied facts regs s from to answer h
-may_copy_to Cleared s facts regs from to answer h = copied facts regs s from to answer h
+may_copy_to : (r : Reg) (plain : Bool) (s : SlotName) (facts : Facts) (regs : Regs) (from to : ℕ) (answer : Answer) →
+    AnswersCopyTo r plain s answer
+    → CopyToRow r plain s regs to answer (changed regs (change_of facts.cells (ops.Copy from to) answer))
+may_copy_to Empty plain s facts regs from to answer h = may_point plain s facts regs from to answer h
+may_copy_to (Own t) plain s facts regs from to answer h = (h, keeps facts (ops.Copy from to) regs answer Filled h refl)
+may_copy_to (Ref t) plain s facts regs from to answer h = (h, keeps facts (ops.Copy from to) regs answer Filled h refl)
+may_copy_to Freed plain s facts regs from to answer h = may_point plain s facts regs from to answer h
+may_copy_to Cleared plain s facts regs from to answer h = may_point plain s facts regs from to answer h
 
-may_copy : (r : Reg) (facts : Facts) (regs : Regs) (from to : ℕ) (answer : Answer) → AnswersCopy r (regs to) answer
-    → CopyRow r regs to answer (changed regs (change_of facts.cells (ops.Copy from to) answer))
+may_copy : (r : Reg) (facts : Facts) (regs : Regs) (from to : ℕ) (answer : Answer) → AnswersCopy r facts.plain_at (regs to) answer
+    → CopyRow r facts regs to answer (changed regs (change_of facts.cells (ops.Copy from to) answer))
 may_copy Empty facts regs from to answer h = (h, keeps facts (ops.Copy from to) regs answer Nothing h refl)
-may_copy (Own s) facts regs from to answer h = may_copy_to (regs to) s facts regs from to answer h
-may_copy (Ref s) facts regs from to answer h = may_copy_to (regs to) s facts regs from to answer h
+may_copy (Own s) facts regs from to answer h = may_copy_to (regs to) (facts.plain_at s) s facts regs from to answer h
+may_copy (Ref s) facts regs from to answer h = may_copy_to (regs to) false s facts regs from to answer h
 may_copy Freed facts regs from to answer h = (h, keeps facts (ops.Copy from to) regs answer (StaleUse None) h refl)
 may_copy Cleared facts regs from to answer h = (h, keeps facts (ops.Copy from to) regs answer (StaleUse None) h refl)
 

@@ -1,5 +1,5 @@
 -- What answer an op may have by what the registers hold, without the registers after it.
-use Rattle.std.specs.Prelude.{◌≡◌, ℕ, ◌*◌, ◌<◌, ◌≤◌, ◌⊎◌, List, Some, Result, Ok, Err, slice_get}
+use Rattle.std.specs.Prelude.{◌≡◌, ℕ, Bool, true, false, ◌&&◌, ◌*◌, ◌<◌, ◌≤◌, ◌⊎◌, List, Some, Result, Ok, Err, slice_get}
 use Rattle.pa_slot.specs.declared.word.SlotName.{SlotName}
 use Rattle.pa_slot.specs.Count.{refs_of}
 use Rattle.pa_direct.specs.Shapes.{greatest_size}
@@ -7,7 +7,7 @@ use Rattle.pa_trace.specs.declared.script.Op.{Op}
 use Rattle.pa_trace.specs.declared.script.Op.TheVariants as ops
 use Rattle.pa_record.specs.declared.entry.Seen.{Seen}
 use Rattle.pa_record.specs.declared.entry.Answer.{Answer}
-use Rattle.pa_record.specs.declared.entry.Answer.TheVariants.{Made, Done, Filled, Shared, OutOfRange, TooLarge, Full, Swapped, Purged}
+use Rattle.pa_record.specs.declared.entry.Answer.TheVariants.{Made, Done, Filled, Shared, OutOfRange, TooLarge, Full, Swapped, Purged, Uncounted}
 use Rattle.pa_record.specs.declared.history.CellEntry.{CellEntry}
 use Rattle.pa_trace.specs.Limits.{register_count, most_threads}
 use Rattle.pa_rules.specs.declared.register.Register.TheVariants.{Empty, Own, Ref, Freed, Cleared}
@@ -15,7 +15,7 @@ use Rattle.pa_rules.specs.declared.register.Next.{Next}
 use Rattle.pa_rules.specs.declared.register.Next.TheVariants.{Refused, Step, Look}
 use Rattle.pa_rules.specs.declared.played.Played.{Played}
 use Rattle.pa_rules.specs.Registers.{Reg, Facts, Regs, handle_of}
-use Rattle.pa_rules.specs.Nexts.{copy_next, reset_next, free_next, write_next, read_next, looked_free, looked_write, looked_read}
+use Rattle.pa_rules.specs.Nexts.{is_owner, copy_next, reset_next, free_next, write_next, read_next, looked_free, looked_write, looked_read}
 
 -- the answer says that a step on the slot was done
 abbrev pub IsDoneAt : SlotName → Answer → Type 0
@@ -36,13 +36,18 @@ AnswersAlloc (Ref s) usable size answer = answer ≡ Filled
 AnswersAlloc Freed usable size answer = AnswersRequest usable size answer
 AnswersAlloc Cleared usable size answer = AnswersRequest usable size answer
 
+-- the answer of a copy to a register without a handle: a step on slot s, unless no raw_ptr to it would be counted
+abbrev pub AnswersPoint : Bool → SlotName → Answer → Type 0
+AnswersPoint true s answer = answer ≡ Uncounted
+AnswersPoint false s answer = IsDoneAt s answer
+
 -- the answer of a copy of a handle to slot s, by what the second register holds
-abbrev pub AnswersCopyTo : Reg → SlotName → Answer → Type 0
-AnswersCopyTo Empty s answer = IsDoneAt s answer
-AnswersCopyTo (Own t) s answer = answer ≡ Filled
-AnswersCopyTo (Ref t) s answer = answer ≡ Filled
-AnswersCopyTo Freed s answer = IsDoneAt s answer
-AnswersCopyTo Cleared s answer = IsDoneAt s answer
+abbrev pub AnswersCopyTo : Reg → Bool → SlotName → Answer → Type 0
+AnswersCopyTo Empty plain s answer = AnswersPoint plain s answer
+AnswersCopyTo (Own t) plain s answer = answer ≡ Filled
+AnswersCopyTo (Ref t) plain s answer = answer ≡ Filled
+AnswersCopyTo Freed plain s answer = AnswersPoint plain s answer
+AnswersCopyTo Cleared plain s answer = AnswersPoint plain s answer
 
 -- An op that its register refuses has the refusal as its answer. Any other goes to a slot, and its answer is one that it may have there.
 abbrev pub AnswersOne : (SlotName → Answer → Type 0) → Result SlotName Answer → Answer → Type 0
@@ -56,9 +61,9 @@ AnswersNext steps looks (Refused refusal) answer = answer ≡ refusal
 AnswersNext steps looks (Step s) answer = steps s answer
 AnswersNext steps looks (Look s) answer = looks s answer
 
--- the answer of a copy, by what both registers hold
-abbrev pub AnswersCopy : Reg → Reg → Answer → Type 0
-AnswersCopy holds into answer = AnswersOne (λ s a. AnswersCopyTo into s a) (copy_next holds) answer
+-- the answer of a copy, by what both registers hold and by whether each slot is plain, which only a copy of an owner asks
+abbrev pub AnswersCopy : Reg → (SlotName → Bool) → Reg → Answer → Type 0
+AnswersCopy holds plain_at into answer = AnswersOne (λ s a. AnswersCopyTo into (is_owner holds && plain_at s) s a) (copy_next holds) answer
 
 -- the answer of a reset, by what its register holds
 abbrev pub AnswersReset : Reg → Answer → Type 0
@@ -100,7 +105,7 @@ AnswersSwap history holds answer =
 -- the answer of an op, by its thread's registers
 abbrev pub MayAnswer : Facts → Op → Regs → Answer → Type 0
 MayAnswer facts (ops.Alloc reg partition size) regs answer = AnswersAlloc (regs reg) (facts.usable_of size) size answer
-MayAnswer facts (ops.Copy from to) regs answer = AnswersCopy (regs from) (regs to) answer
+MayAnswer facts (ops.Copy from to) regs answer = AnswersCopy (regs from) facts.plain_at (regs to) answer
 MayAnswer facts (ops.Reset reg) regs answer = AnswersReset (regs reg) answer
 MayAnswer facts (ops.Free reg) regs answer = AnswersFree (regs reg) answer
 MayAnswer facts (ops.Write reg value) regs answer = AnswersWrite (regs reg) answer

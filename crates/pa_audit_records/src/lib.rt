@@ -8,6 +8,7 @@ mod cells;
 mod changes;
 mod ends;
 mod keys;
+mod known;
 mod lines;
 mod marks;
 mod phases;

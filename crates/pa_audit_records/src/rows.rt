@@ -3,7 +3,7 @@ ghost use Rattle.pa_rules.specs.Cells.{history_at};
 ghost use Rattle.pa_rules.specs.Registers.{handle_of, reg_of};
 ghost use Rattle.pa_rules.specs.Nexts.{looked_free, looked_read, looked_write};
 ghost use Rattle.pa_rules.specs.Sizes.{usable_of};
-ghost use Rattle.pa_audit_records.specs.Rows.{IsDoneAt, AnswersRequest, AnswersAlloc, AnswersCopyTo, AnswersCopy, AnswersReset, AnswersFree, AnswersOwnWrite, AnswersWrite, AnswersReadFrom, AnswersSwap, IsLookedAt};
+ghost use Rattle.pa_audit_records.specs.Rows.{IsDoneAt, AnswersRequest, AnswersAlloc, AnswersPoint, AnswersCopyTo, AnswersReset, AnswersFree, AnswersOwnWrite, AnswersWrite, AnswersReadFrom, AnswersSwap, IsLookedAt};
 
 use crate::usable::usable_for;
 use pa_direct::GREATEST_SIZE;
@@ -46,24 +46,30 @@ pub(crate) fn may_alloc(version: u32, holds: Register<SlotName>, size: u32, answ
     }
 }
 
-// Whether a copy of a handle to the slot may have this answer, by what the second register holds.
-fn may_copy_to(into: Register<SlotName>, slot: SlotName, answer: Answer) -> bool
-    ensures { IsTrue result ↔ AnswersCopyTo into slot answer }
+// Whether a copy to a register without a handle may have this answer, by whether no raw_ptr to the slot would be counted.
+fn may_point(plain: bool, slot: SlotName, answer: Answer) -> bool
+    ensures { IsTrue result ↔ AnswersPoint plain slot answer }
 {
-    if into.has_handle() {
-        matches!(answer, Answer::Filled)
+    if plain {
+        matches!(answer, Answer::Uncounted)
     } else {
         is_done(slot, answer)
     }
 }
 
-// Whether a copy may have this answer, by what both registers hold.
-pub(crate) fn may_copy(holds: Register<SlotName>, into: Register<SlotName>, answer: Answer) -> bool
-    ensures { IsTrue result ↔ AnswersCopy holds into answer }
+// Whether a copy of a handle to the slot may have this answer, by what the second register holds.
+pub(crate) fn may_copy_to(
+    into: Register<SlotName>,
+    plain: bool,
+    slot: SlotName,
+    answer: Answer,
+) -> bool
+    ensures { IsTrue result ↔ AnswersCopyTo into plain slot answer }
 {
-    match holds.for_copy() {
-        Ok(slot) => may_copy_to(into, slot, answer),
-        Err(refusal) => answer == refusal,
+    if into.has_handle() {
+        matches!(answer, Answer::Filled)
+    } else {
+        may_point(plain, slot, answer)
     }
 }
 

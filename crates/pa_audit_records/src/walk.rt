@@ -1,21 +1,20 @@
-ghost use Rattle.std.specs.Prelude.{◌≡◌, ◌↔◌, ◌<◌, ◌^◌, All, Any, IfOk, IsTrue, List, length};
-ghost use Rattle.pa_audit_records.specs.ByKeys.{value_at};
+ghost use Rattle.std.specs.Prelude.{◌↔◌, ◌<◌, ◌^◌, All, IfOk, IsTrue, List, length};
 ghost use Rattle.pa_rules.specs.declared.verdict.Place.TheVariants as places;
 ghost use Rattle.pa_rules.specs.Cells.{history_at};
 ghost use Rattle.pa_rules.specs.RecordDemands.{RegistersDemand};
 ghost use Rattle.pa_rules.specs.declared.played.Played.{Played};
-ghost use Rattle.pa_rules.specs.Registers.{usable_in};
+ghost use Rattle.pa_rules.specs.Registers.{plain_in, usable_in};
 ghost use Rattle.pa_rules.specs.Sizes.{usable_of};
-ghost use Rattle.pa_audit_records.specs.Rows.{AnswersRead, MayAnswer, IsPlayedWithin};
-ghost use Rattle.pa_audit_records.specs.Tables.{AreUsables, ReadsSlot, SuitsReads, regs_in, facts_by};
+ghost use Rattle.pa_audit_records.specs.Rows.{AnswersCopy, AnswersRead, MayAnswer, IsPlayedWithin};
+ghost use Rattle.pa_audit_records.specs.Tables.{ArePlains, AreUsables, ReadsSlot, regs_in, facts_by};
 ghost use Rattle.pa_rules.specs.Tells.{TellsFirst};
 
-use crate::by_key::ByKey;
-use crate::keys::key;
+use crate::known::{KnownSlots, known_slots};
 use crate::registers::Registers;
-use crate::rows::{may_alloc, may_copy, may_free, may_read_from, may_reset, may_swap, may_write};
+use crate::rows::{
+    may_alloc, may_copy_to, may_free, may_read_from, may_reset, may_swap, may_write,
+};
 use crate::salt::Salt;
-use crate::usable::usables;
 use pa_record::{Answer, History};
 use pa_rules::{Played, Register};
 use pa_slot::{OutOfMemory, SlotName};
@@ -35,11 +34,11 @@ pub fn registers_meet(
     requires within { All IsPlayedWithin records.now }
     ensures { IfOk result (TellsFirst (λ i. RegistersDemand (usable_of version) (history_at cells.now) records.now (places.Record i))) }
 {
-    let usables = usables_to_read(alloc, salt, records)?;
+    let known = known_slots(alloc, salt, records)?;
     let mut registers = Registers::new(alloc)?;
     let mut at: u32 = 0;
     for record in records {
-        if !may_answer(version, &registers, &usables, cells, record) {
+        if !may_answer(version, &registers, &known, cells, record) {
             return Ok(Some(at));
         }
         registers.change(cells, record);
@@ -48,44 +47,27 @@ pub fn registers_meet(
     Ok(None)
 }
 
-// Whether the op reads a slot.
-fn is_read(op: Op) -> bool
-    ensures { IsTrue result ↔ ReadsSlot op }
+// Whether a copy may have this answer, by what both registers hold.
+fn may_copy(
+    known: &KnownSlots,
+    holds: Register<SlotName>,
+    into: Register<SlotName>,
+    answer: Answer,
+) -> bool
+    ensures { (ps : List Played) → ArePlains ps known.now → IsTrue result ↔ AnswersCopy holds (plain_in ps) into answer }
 {
-    matches!(op, Op::Read { .. })
-}
-
-// Whether one of the records has an op that reads a slot.
-fn reads(records: &[Played]) -> bool
-    ensures { IsTrue result ↔ Any (λ x. ReadsSlot x.op) records.now }
-{
-    records.iter().any(|told| is_read(told.op))
-}
-
-// The usable numbers of the slots, if a record reads one: no other op looks at them.
-fn usables_to_read(alloc: Global, salt: Salt, records: &[Played]) -> Result<ByKey<u32>, OutOfMemory>
-    ensures { IfOk result (λ m. SuitsReads records.now (value_at m)) }
-{
-    if reads(records) {
-        usables(alloc, salt, records)
-    } else {
-        Ok(ByKey::new(alloc, salt))
+    match holds.for_copy() {
+        Ok(slot) => may_copy_to(into, holds.is_owner() && known.is_plain(slot), slot, answer),
+        Err(refusal) => answer == refusal,
     }
 }
 
-// The usable number of a slot, by the records from which the table was made.
-fn usable_at(usables: &ByKey<u32>, slot: SlotName) -> u32
-    ensures { (ps : List Played) → AreUsables ps (value_at usables.now) → result ≡ usable_in ps slot }
-{
-    usables.find(key(slot)).unwrap_or(0)
-}
-
 // Whether a read may have this answer, by what its register holds.
-fn may_read(usables: &ByKey<u32>, holds: Register<SlotName>, place: u32, answer: Answer) -> bool
-    ensures { (ps : List Played) → AreUsables ps (value_at usables.now) → IsTrue result ↔ AnswersRead holds (usable_in ps) place answer }
+fn may_read(known: &KnownSlots, holds: Register<SlotName>, place: u32, answer: Answer) -> bool
+    ensures { (ps : List Played) → AreUsables ps known.now → IsTrue result ↔ AnswersRead holds (usable_in ps) place answer }
 {
     match holds.for_read() {
-        Ok(slot) => may_read_from(slot, usable_at(usables, slot), place, answer),
+        Ok(slot) => may_read_from(slot, known.usable(slot), place, answer),
         Err(refusal) => answer == refusal,
     }
 }
@@ -94,12 +76,12 @@ fn may_read(usables: &ByKey<u32>, holds: Register<SlotName>, place: u32, answer:
 fn may_answer(
     version: u32,
     registers: &Registers,
-    usables: &ByKey<u32>,
+    known: &KnownSlots,
     cells: &[History],
     told: &Played,
 ) -> bool
     requires within { IsPlayedWithin told.now }
-    ensures { (ps : List Played) → (ReadsSlot told.now.op → AreUsables ps (value_at usables.now)) →
+    ensures { (ps : List Played) → (ReadsSlot told.now.op → AreUsables ps known.now) → ArePlains ps known.now →
         IsTrue result ↔
         MayAnswer (facts_by version (history_at cells.now) ps) told.now.op (regs_in registers.now told.now.thread) told.now.answer }
 {
@@ -111,6 +93,7 @@ fn may_answer(
         }
         Op::Copy { from, to } => {
             may_copy(
+                known,
                 registers.get(thread, from),
                 registers.get(thread, to),
                 answer,
@@ -119,7 +102,7 @@ fn may_answer(
         Op::Reset { reg } => may_reset(registers.get(thread, reg), answer),
         Op::Free { reg } => may_free(registers.get(thread, reg), answer),
         Op::Write { reg, .. } => may_write(registers.get(thread, reg), answer),
-        Op::Read { reg, place } => may_read(usables, registers.get(thread, reg), place, answer),
+        Op::Read { reg, place } => may_read(known, registers.get(thread, reg), place, answer),
         Op::Swap { cell, reg } => may_swap(cells, cell, registers.get(thread, reg), answer),
         Op::Purge => matches!(answer, Answer::Purged { .. }),
     }

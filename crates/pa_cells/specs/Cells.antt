@@ -13,7 +13,7 @@ use Rattle.pa_region.specs.Views.{least_stake}
 use Rattle.pa_region.specs.Lists.{list_of}
 use Rattle.pa_region.specs.Lending.{HostsKeeper, IsNoted}
 use Rattle.pa_rules.specs.Cells.{IsChain}
-use Rattle.pa_cells.specs.Handles.{ParkedHandle, held_as}
+use Rattle.pa_cells.specs.Handles.{ParkedHandle, IsSealedFrom, held_as}
 
 -- one exchange: the number of its cell, and its entry in the cell's history
 pub record Exchange : Type 0 where
@@ -84,9 +84,13 @@ pub record IsCells (c : CellsHeld) : Type 0 where
   pub holds : (k : ℕ) → held_as (cell_holds c.parked k) ≡ held_after Nothing (cell_history c.histories k)
   pub few : (k : ℕ) → length (cell_history c.histories k) ≤ 2147483647
 
--- each note that waits in a cell is of this region
-abbrev pub AreOf : TableId → List (Option ParkedHandle) → Type 0
-AreOf region parked = (k : ℕ) → IfSome (cell_holds parked k) (λ p. p.note.region ≡ region)
+-- a handle on its way is of this region, and its Own is sealed exactly if its slot is in a plain partition
+abbrev pub IsOf : TableId → ℕ → ParkedHandle → Type 0
+IsOf region plain_from p = (p.note.region ≡ region) × IsSealedFrom plain_from p
+
+-- each handle that waits in a cell is so
+abbrev pub AreOf : TableId → ℕ → List (Option ParkedHandle) → Type 0
+AreOf region plain_from parked = (k : ℕ) → IfSome (cell_holds parked k) (IsOf region plain_from)
 
 -- 64 empty cells, with this view of their seat
 abbrev pub empty_cells : View → CellsHeld

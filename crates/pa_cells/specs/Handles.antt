@@ -1,5 +1,5 @@
 -- Handles that are handed from one thread to another: what the note of one holds, and how its slot was made.
-use Rattle.std.specs.Prelude.{◌≡◌, ℕ, ◌+◌, ◌<◌, Bool, not, ◌&&◌, if◌then◌else◌, List, [], ◌∷◌, Option, Some, None, Contains}
+use Rattle.std.specs.Prelude.{◌≡◌, ℕ, nat_le, ◌+◌, ◌<◌, Bool, not, ◌&&◌, if◌then◌else◌, List, [], ◌∷◌, Option, Some, None, Contains}
 use Rattle.atomic_table.specs.Seated.{TableId}
 use Rattle.pa_slot.specs.declared.title.Title.{Title}
 use Rattle.pa_machine.specs.declared.event.Item.{Item}
@@ -36,6 +36,10 @@ pub record ParkedHandle : Type 0 where
   pub own : Bool
   pub note : Share
 
+-- the handle's slot is in a plain partition, if this is the first one
+abbrev pub is_plain : ℕ → Handle → Bool
+is_plain plain_from h = nat_le plain_from h.partition
+
 -- The act gave the slot of this title out. With a class, it is one slot of a fill of that class, which has the title's length as slot
 -- size. Without one, it is a direct map of that length.
 abbrev pub HandsOut : Option ℕ → Title → RootAct → Type 0
@@ -50,16 +54,20 @@ pub record HasSeenMade (h : Handle) (v : View) : Type 0 where
   pub entry : (m : Made) × (e : RootEntry) × Contains (list_of h.partition v) m × (m.numbers ≡ root_numbers e)
       × HandsOut h.class h.title e.act
 
--- The note of a handle on its way holds the title's Own, which is clean and not sealed, or one Ref of it, and no other handle, no free
--- title and no stake. It has seen how the slot was made.
+-- The note of a handle on its way holds the title's Own, which is clean, or one Ref of it, and no other handle, no free title and no
+-- stake. It has seen how the slot was made.
 pub record IsParked (p : ParkedHandle) : Type 0 where
   pub owns : (t : Title) → own_of p.note.view t ≡ one (p.own && same_title p.handle.title t)
   pub refs : (t : Title) → ref_of p.note.view t ≡ one (not p.own && same_title p.handle.title t)
   pub frees : (t : Title) → free_of p.note.view t ≡ 0
   pub clean : unclean_of p.note.view ≡ 0
-  pub sealed : (t : Title) → sealed_of p.note.view t ≡ 0
   pub stakes : (k : ℕ) → stake_of p.note.view k ≡ 0
   pub made : HasSeenMade p.handle p.note.view
+
+-- an Own on its way is sealed exactly if its slot is in a plain partition
+abbrev pub IsSealedFrom : ℕ → ParkedHandle → Type 0
+IsSealedFrom plain_from p =
+    (t : Title) → sealed_of p.note.view t ≡ one ((p.own && same_title p.handle.title t) && is_plain plain_from p.handle)
 
 -- what a cell or a register has, as histories name it
 abbrev pub held_as : Option ParkedHandle → Held
@@ -70,17 +78,22 @@ held_as (Some p) = if p.own then held.Own (name_of p.handle.title) else held.Ref
 abbrev pub handle_item : Bool → Title → Item
 handle_item own t = if own then item.Own t else item.Ref t
 
--- A note that was handed this one handle, by a seat that had seen how its slot was made and had no sealed Own of it, is that of a
--- handle on its way.
-abbrev pub HandedCanWait : Type 0
-HandedCanWait =
-    (h : Handle) (own : Bool) (region : TableId) (budget : ℕ) (v : View) → HasSeenMade h v →
-    sealed_of v h.title ≡ 0 →
-    IsParked (record {
-      handle = h;
-      own = own;
-      note = record { region = region; view = given_after (parcel_of (handle_item own h.title ∷ []) budget []) v };
-    })
+-- a handle on its way that a seat with the view v handed over so
+abbrev pub handed : Handle → Bool → TableId → ℕ → View → ParkedHandle
+handed h own region budget v = record {
+  handle = h;
+  own = own;
+  note = record { region = region; view = given_after (parcel_of (handle_item own h.title ∷ []) budget []) v };
+}
+
+-- A note that was handed this one handle, by a seat that had seen how its slot was made, is that of a handle on its way. Its Own is
+-- sealed if the one that the seat gave was.
+pub record HandedCanWait : Type 0 where
+  pub waits : (h : Handle) (own : Bool) (region : TableId) (budget : ℕ) (v : View) → HasSeenMade h v →
+      IsParked (handed h own region budget v)
+  pub sealed : (h : Handle) (own : Bool) (region : TableId) (budget : ℕ) (v : View) (t : Title) →
+      sealed_of (handed h own region budget v).note.view t
+      ≡ one ((own && same_title h.title t) && first_sealed (is_clean_of h.title) v.owns)
 
 -- What a seat with the view v has left after it handed this one handle over: the handle less, which is a sealed Own less if the one
 -- that it gave was sealed, as many free titles as before, the same stakes, and it can lend its stake again.

@@ -4,7 +4,7 @@ ghost use Rattle.pa_trace.specs.Limits.{cell_count};
 ghost use Rattle.pa_region.specs.Views.{stake_of};
 ghost use Rattle.pa_region.specs.Lists.{keeper_of, list_of};
 ghost use Rattle.pa_region.specs.Lending.{CanLend};
-ghost use Rattle.pa_cells.specs.Cells.{IsCells, AreOf, MakesExchange, cell_history, cell_holds, empty_cells, made_with_cell, pushed_at};
+ghost use Rattle.pa_cells.specs.Cells.{IsCells, AreOf, IsOf, MakesExchange, cell_history, cell_holds, empty_cells, made_with_cell, pushed_at};
 
 use crate::handle::{Parked, held_name};
 use crate::numbers::exchange_numbers;
@@ -24,7 +24,8 @@ const MOST: usize = 2_147_483_647;
 // The keeper with the list of all exchanges.
 const KEEPER: u32 = 5;
 
-/// The 64 cells, which are behind one lock. `N` names the region of their seat and of the notes in them. Contracts see
+/// The 64 cells, which are behind one lock. `N` names the region of their seat and of the notes in them, and the first partition
+/// whose Owns are sealed. Contracts see
 /// the view of the seat, the history of each cell, and what each holds.
 #[derive(Drop)]
 pub struct Cells<N: Name> {
@@ -43,7 +44,7 @@ impl<N: Name> Model for Cells<N> {
     ghost view = { λ c. record { view = c.seat.view; histories = c.histories.items; parked = c.parked.items } };
 
     ghost invariant = { λ c.
-        (c.seat.region ≡ N.region) × AreOf N.region c.parked.items
+        (c.seat.region ≡ N.region) × AreOf N.region N.plain_from c.parked.items
         × IsCells (record { view = c.seat.view; histories = c.histories.items; parked = c.parked.items }) };
 }
 
@@ -69,7 +70,7 @@ impl<N: Name> Cells<N> {
     /// What the type keeps. It costs nothing.
     pub fn kept(&self)
         ensures cells { IsCells self.now }
-        ensures notes { AreOf N.region self.now.parked }
+        ensures notes { AreOf N.region N.plain_from self.now.parked }
     {
         // Naming the seat hands the proof what its type keeps.
         let _ = &self.seat;
@@ -87,7 +88,7 @@ impl<N: Name> Cells<N> {
         given: Option<Parked>,
     ) -> Result<(u32, Option<Parked>), Option<Parked>>
         requires regions { (region.now ≡ N.region) × (seat.old.region ≡ N.region) }
-        requires given { IfSome given (λ p. p.note.region ≡ N.region) }
+        requires given { IfSome given (IsOf N.region N.plain_from) }
         requires able { CanLend seat.old.view }
         requires cell { cell < cell_count }
         ensures region { seat.new.region ≡ seat.old.region }
@@ -95,7 +96,7 @@ impl<N: Name> Cells<N> {
         ensures index { IfOk result (λ r. r.0 ≡ length (cell_history self.old.histories cell)) }
         ensures place { IfOk result (λ r. r.0 ≡ length (made_with_cell cell (list_of 5 self.old.view))) }
         ensures found { IfOk result (λ r. r.1 ≡ cell_holds self.old.parked cell) }
-        ensures note { IfOk result (λ r. IfSome r.1 (λ p. p.note.region ≡ N.region)) }
+        ensures note { IfOk result (λ r. IfSome r.1 (IsOf N.region N.plain_from)) }
         ensures made { IfOk result (λ _. MakesExchange line cell given seat.old.view seat.new.view self.old self.new) }
         ensures back { IfErr result (λ p. p ≡ given) }
         ensures same { IfErr result (λ _. (self.new ≡ self.old) × (seat.new ≡ seat.old)) }
@@ -119,7 +120,7 @@ impl<N: Name> Cells<N> {
         ensures histories { result.0.items ≡ self.histories }
         ensures parked { result.1.items ≡ self.parked }
         ensures note { (result.2.view ≡ self.view) × (result.2.region ≡ N.region) }
-        ensures kept { IsCells self × AreOf N.region self.parked }
+        ensures kept { IsCells self × AreOf N.region N.plain_from self.parked }
     {
         let Cells {
             seat,

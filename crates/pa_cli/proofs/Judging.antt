@@ -113,9 +113,11 @@ same_trace s t h =
     let first : ℕ → Trace = λ x. record s { version = x } in
     let second : ℕ → Trace = λ x. record s { version = t.version; region = x } in
     let third : ℕ → Trace = λ x. record s { version = t.version; region = t.region; partitions = x } in
-    let fourth : ℕ → Trace = λ x. record t { threads = x; lines = s.lines } in
-    let fifth : List Line → Trace = λ x. record t { lines = x } in
-    ap first h.version ∙ (ap second h.region ∙ (ap third h.partitions ∙ (ap fourth h.threads ∙ ap fifth h.lines)))
+    let fourth : ℕ → Trace = λ x. record t { threads = x; plain = s.plain; lines = s.lines } in
+    let fifth : ℕ → Trace = λ x. record t { plain = x; lines = s.lines } in
+    let sixth : List Line → Trace = λ x. record t { lines = x } in
+    ap first h.version
+    ∙ (ap second h.region ∙ (ap third h.partitions ∙ (ap fourth h.threads ∙ (ap fifth h.plain ∙ ap sixth h.lines))))
 
 -- the verdict on a run after a number of other lines
 abbrev behind : ℕ → Verdict → Verdict

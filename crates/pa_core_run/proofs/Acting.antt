@@ -1,10 +1,10 @@
 -- A record is played: without a slot, by a look, and by a counted step.
-use Rattle.std.proofs.Common.{◌≡◌, ℕ, ◌+◌, ◌*◌, List, [], ◌∷◌, ◌++◌, Option, Some, None, refl, sym, ◌∙◌, ap, subst, arith, ◌⊎◌, inl, inr}
+use Rattle.std.proofs.Common.{◌≡◌, ℕ, ◌+◌, ◌*◌, Bool, List, [], ◌∷◌, ◌++◌, Option, Some, None, refl, sym, ◌∙◌, ap, subst, arith, ◌⊎◌, inl, inr}
 use Rattle.pa_slot.specs.declared.word.Step.{Step}
 use Rattle.pa_slot.specs.declared.title.Title.{Title}
 use Rattle.pa_slot.specs.declared.title.OwnState.TheVariants.{Clean}
 use Rattle.pa_machine.specs.declared.event.Event.{Event}
-use Rattle.pa_machine.specs.declared.event.Event.TheVariants.{Count, Load}
+use Rattle.pa_machine.specs.declared.event.Event.TheVariants.{Load}
 use Rattle.pa_slot.specs.Run.{Mark}
 use Rattle.pa_slot.specs.Titles.{Covers, content_place, count_place, count_word}
 use Rattle.pa_slot.specs.Holdings.{Piece, OwnAs, RefOf, IsTitleHeld}
@@ -14,9 +14,10 @@ use Rattle.pa_machine.proofs.Lasting.{run_start}
 use Rattle.pa_record.specs.Spans.{name_of}
 use Rattle.pa_rules.specs.declared.played.Played.{Played}
 use Rattle.pa_rules.specs.Played.{mark_of}
+use Rattle.pa_rules.specs.Registers.{is_plain_op}
 use Rattle.pa_core_steps.specs.Turns.{IsDone}
 use Rattle.pa_core_steps.proofs.Joining.{run_good, run_one, run_join}
-use Rattle.pa_core_run.specs.Playing.{read_by, step_event, read_events, mark_events, told_events, HasRead, Finds, AreBeside, Plays}
+use Rattle.pa_core_run.specs.Playing.{read_by, count_event, step_event, read_events, mark_events, told_events, HasRead, Finds, AreBeside, Plays}
 use Rattle.pa_machine.proofs.Holding.{own_title, ref_title}
 
 abbrev no_title : Title
@@ -32,7 +33,8 @@ pub play_none : (Made : Title → Type 0) (x : Played) (s next : State) (first :
     → IsRunTo s first next → AreBeside (x.thread + 1) first → Plays Made x s next
 play_none Made x s next first none good run beside =
     let good2 = run_good s next first good run in
-    let told : told_events x no_title ≡ [] = ap (λ o. mark_events (x.thread + 1) no_title o (read_by x.op x.answer)) none in
+    let told : told_events x no_title ≡ [] =
+    ap (λ o. mark_events (is_plain_op x.rules x.op) (x.thread + 1) no_title o (read_by x.op x.answer)) none in
     let stays : IsRunTo next (told_events x no_title) next = subst (λ es. IsRunTo next es next) (sym told) (run_start next good2) in (
       first ++ (told_events x no_title ++ []),
       record {
@@ -80,10 +82,10 @@ read_run s k t (Some read) good has holds found =
     let inside = found.0 in
     load_run s k t (content_place t read.0) good has holds (omega arith, omega arith)
 
-look_run : (s : State) (k : ℕ) (t : Title) (read : Option (ℕ × ℕ)) → IsGoodState s → HasActor s k → HasHandle s k t →
+look_run : (s : State) (plain : Bool) (k : ℕ) (t : Title) (read : Option (ℕ × ℕ)) → IsGoodState s → HasActor s k → HasHandle s k t →
     HasRead s.words t read →
-    IsRunTo s (step_event k t None ∷ read_events k t read) s
-look_run s k t read good has holds found =
+    IsRunTo s (step_event plain k t None ∷ read_events k t read) s
+look_run s plain k t read good has holds found =
     let well = good.divided.well t (handle_held s k t holds) in
     let a = well.start_aligned in
     let b = well.len_aligned in
@@ -98,8 +100,9 @@ pub play_look : (Made : Title → Type 0) (x : Played) (s : State) (m : Mark) (t
 play_look Made x s m t is look good has holds made name word read =
     let k = x.thread + 1 in
     let by = read_by x.op x.answer in
-    let told : told_events x t ≡ step_event k t None ∷ read_events k t by =
-    ap (λ o. mark_events k t o by) is ∙ ap (λ o. step_event k t o ∷ read_events k t by) look in (
+    let plain = is_plain_op x.rules x.op in
+    let told : told_events x t ≡ step_event plain k t None ∷ read_events k t by =
+    ap (λ o. mark_events plain k t o by) is ∙ ap (λ o. step_event plain k t o ∷ read_events k t by) look in (
       [] ++ (told_events x t ++ []),
       record {
         title = t;
@@ -110,7 +113,7 @@ play_look Made x s m t is look good has holds made name word read =
         parts = refl;
         prepares = run_start s good;
         finds = subst (λ o. Finds Made s.words t o by) (sym is) (made, name, word, read);
-        tells = subst (λ es. IsRunTo s es s) (sym told) (look_run s k t by good has holds read);
+        tells = subst (λ es. IsRunTo s es s) (sym told) (look_run s plain k t by good has holds read);
         clears = run_start s good;
         prepared_beside = tt;
         cleared_beside = tt;
@@ -124,14 +127,17 @@ pub play_step : (Made : Title → Type 0) (x : Played) (s from to next : State) 
     (before first last : List Event) →
     mark_of x ≡ Some m → m.step ≡ Some p → read_by x.op x.answer ≡ None → IsGoodState s → Made t → name_of t ≡ m.slot →
     count_word from.words t ≡ m.found →
-    IsRunTo s before from → IsDone from (x.thread + 1) t p (Count (x.thread + 1) t p) lost gained first to → IsRunTo to last next →
+    IsRunTo s before from →
+    IsDone from (x.thread + 1) t p (count_event (is_plain_op x.rules x.op) (x.thread + 1) t p) lost gained first to → IsRunTo to last next →
     AreBeside (x.thread + 1) before → AreBeside (x.thread + 1) first → AreBeside (x.thread + 1) last → Plays Made x s next
 play_step Made x s from to next m t p lost gained before first last is step none good made name word run done clears beside prepared
     cleared =
     let k = x.thread + 1 in
-    let told : told_events x t ≡ Count k t p ∷ [] =
-    ap (λ o. mark_events k t o (read_by x.op x.answer)) is ∙
-    (ap (λ o. step_event k t o ∷ read_events k t (read_by x.op x.answer)) step ∙ ap (λ o. Count k t p ∷ read_events k t o) none) in (
+    let plain = is_plain_op x.rules x.op in
+    let told : told_events x t ≡ count_event plain k t p ∷ [] =
+    ap (λ o. mark_events plain k t o (read_by x.op x.answer)) is ∙
+    (ap (λ o. step_event plain k t o ∷ read_events k t (read_by x.op x.answer)) step ∙
+    ap (λ o. count_event plain k t p ∷ read_events k t o) none) in (
       (before ++ first) ++ (told_events x t ++ last),
       record {
         title = t;

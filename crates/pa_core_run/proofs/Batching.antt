@@ -74,7 +74,7 @@ module _ (names : Titles) (actors bytes k : ℕ) (some : 0 < k) (below : k < act
       } in
       hand_shown (keeping names K) (kept_with K (t ∷ [])) actors bytes b (asking b free) s k 0 (FreeItem t) false t h below
       (omega arith) has tt
-      (free_title s k t has) (free_pieces t) paid refl
+      (free_title s k t has) (free_pieces names.plain t) paid refl
       (λ u kept.
       let l = of_actor_apart k 0 (FreePiece t ∷ []) (FreeTitle u) (λ z. omega arith) in
       let g = of_actor_here 0 (FreePiece t ∷ []) (FreeTitle u) in

@@ -1,5 +1,5 @@
 -- The core at the start: all words are 0, and actor 0 has every byte.
-use Rattle.std.proofs.Common.{◌≡◌, ℕ, zero, suc, ◌+◌, ◌-◌, ◌*◌, ◌/◌, ◌%◌, ◌<◌, ◌≤◌, List, [], ◌∷◌, length, get_or, replicate, refl, sym, ◌∙◌, ap, subst, arith, inl, inr}
+use Rattle.std.proofs.Common.{◌≡◌, ℕ, zero, suc, ◌+◌, ◌-◌, ◌*◌, ◌/◌, ◌%◌, ◌<◌, ◌≤◌, if◌then◌else◌, List, [], ◌∷◌, length, get_or, replicate, refl, sym, ◌∙◌, ap, subst, arith, inl, inr}
 use Rattle.std.proofs.lemmas.List.Sums.{sum_by-cons}
 use Rattle.std.proofs.lemmas.List.{length-replicate, get_or-replicate}
 use Rattle.pa_slot.specs.declared.title.Title.{Title}
@@ -18,7 +18,7 @@ use Rattle.pa_record.specs.Spans.{name_of}
 use Rattle.pa_record.specs.Root.{Root, new_root, root_replayed}
 use Rattle.pa_rules.specs.Flow.{listed_times}
 use Rattle.pa_lists.proofs.Members.{not_in_none}
-use Rattle.pa_rules.specs.Registers.{no_regs}
+use Rattle.pa_rules.specs.Registers.{no_regs, plain_in}
 use Rattle.pa_rules.specs.Caches.{no_caches}
 use Rattle.pa_rules.proofs.Counted.{listed_none}
 use Rattle.pa_slot_effects.specs.Shown.{owns, points, over}
@@ -26,7 +26,7 @@ use Rattle.pa_one_run.proofs.lines.Sorting.{none_below}
 use Rattle.pa_one_run.proofs.Filed.{IsFiled}
 use Rattle.pa_core_run.specs.Standing.{Standing, in_registers, in_lists}
 use Rattle.pa_core_run.specs.Fronts.{ShowsFront}
-use Rattle.pa_core_steps.proofs.Exchanging.{none_of}
+use Rattle.pa_core_run.proofs.Showing.{no_seals, seals_of}
 use Rattle.pa_core_steps.proofs.Pieces.{raw_cases}
 use Rattle.pa_core_steps.proofs.Possible.{single}
 use Rattle.pa_one_run.specs.Parts.{Parts, entry_line, cell_line}
@@ -155,7 +155,11 @@ start_shows a h =
         words = λ t held. absurd (start_unheld bytes actors t held);
         contents = λ t some. absurd (no_own t Clean some);
         clean = λ t o some. absurd (no_own t o some);
-        sealed = λ k t below. start.held k (SealedOwn t) below ∙ none_of 0 k (RawPiece 0 bytes ∷ []) (SealedOwn t) refl;
+        sealed = λ k below t.
+            let at : (x : Thing) → held_by s k x ≡ held_in (of_actor 0 (RawPiece 0 bytes ∷ []) k) x = λ x. start.held k x below in
+            let none = seals_of (λ u. plain_in a.ps (name_of u)) 0 k (RawPiece 0 bytes ∷ [])
+            (no_seals (λ u. plain_in a.ps (name_of u)) (RawPiece 0 bytes ∷ []) (λ u. refl) (λ u. refl)) t in
+            at (SealedOwn t) ∙ (none ∙ ap (λ n. if plain_in a.ps (name_of t) then n else 0) (sym (at (OwnOf t))));
         raw = λ k byte some below. start.held k (RawByte byte) below ∙
             of_actor_apart 0 k (RawPiece 0 bytes ∷ []) (RawByte byte) (λ z. omega arith);
         there = λ t held. absurd (start_unheld bytes actors t held);

@@ -106,7 +106,8 @@ module _ (a : Parts) (before rest : List Played) (x : Played) (h : IsFiled a) (p
               (λ y. refl) (λ y. refl)
               (renamed (keeping (with_titles names_old new) (kept_without Cut taken))
               (names_next a before rest x h parts st f s shown) actors bytes
-              (asking (ledger_of a.partitions st) (λ j y. in_lists a.partitions after y j)) mid (λ u made. made) b.there b.next m.shown);
+              (asking (ledger_of a.partitions st) (λ j y. in_lists a.partitions after y j)) mid (λ u. refl) (λ u made. made) b.there b.next
+              m.shown);
         },
       )
 

@@ -1,5 +1,5 @@
 -- A title that is cut out of raw bytes, and one that becomes raw bytes again: by actor 0, which has them all.
-use Rattle.std.proofs.Common.{◌≡◌, ℕ, suc, ◌+◌, ◌*◌, ◌/◌, ◌<◌, List, [], ◌∷◌, length, get_or, set, refl, sym, ◌∙◌, ap, arith, ◌⊎◌, inl, inr}
+use Rattle.std.proofs.Common.{◌≡◌, ℕ, suc, ◌+◌, ◌*◌, ◌/◌, ◌<◌, Bool, List, [], ◌∷◌, length, get_or, set, refl, sym, ◌∙◌, ap, arith, ◌⊎◌, inl, inr}
 use Rattle.std.proofs.lemmas.List.{get_or-set_other, get_or-set_same}
 use Rattle.std.proofs.lemmas.Bool.{cases_lt}
 use Rattle.pa_slot.specs.declared.title.Title.{Title}
@@ -21,16 +21,18 @@ use Rattle.pa_record.specs.Spans.{name_of}
 use Rattle.pa_core_steps.proofs.Joining.{run_good, run_one, run_join}
 use Rattle.pa_core_steps.proofs.Exchanging.{exchanges_then, none_of, nothing_of}
 use Rattle.pa_core_steps.proofs.Possible.{lose_free, lose_raw, lose_nothing, after_of}
-use Rattle.pa_core_run.specs.Ledger.{Ledger, Titles, IsShown, IsPaid}
+use Rattle.pa_core_run.specs.Ledger.{Ledger, Titles, AreSealed, IsShown, IsPaid}
 use Rattle.pa_core_run.specs.Moves.{CanBeCut}
-use Rattle.pa_core_run.proofs.Showing.{IsChangeOf, shown_after}
+use Rattle.pa_core_run.proofs.Showing.{no_seals, seals_of, IsChangeOf, shown_after}
 
 -- the titles that are there after one came, and those without one
 abbrev pub with_title : Titles → Title → (Title → Type 0) → Titles
-with_title names t K = record { Made = names.Made; There = λ u. names.There u ⊎ (t ≡ u); Kept = K }
+with_title names t K =
+    record { Made = names.Made; There = λ u. names.There u ⊎ (t ≡ u); Kept = K; plain = names.plain }
 
 abbrev pub without_title : Titles → Title → (Title → Type 0) → Titles
-without_title names t K = record { Made = names.Made; There = λ u. names.There u × (t ≡ u → ⊥); Kept = K }
+without_title names t K =
+    record { Made = names.Made; There = λ u. names.There u × (t ≡ u → ⊥); Kept = K; plain = names.plain }
 
 -- actor 0 loses no handle: that pays for itself
 nothing_paid : (Made : Title → Type 0) (b : Ledger) (t : Title) (lost gained : List Piece) → ((u : Title) → held_in lost (OwnOf u) ≡ 0) →
@@ -44,6 +46,11 @@ nothing_paid Made b t lost gained own ref = record {
   words = λ x ne. refl;
   contents = λ x ne. refl;
 }
+
+-- what actor 0 gets or gives that is no Own has no seal
+no_seals_of : (plain : Title → Bool) (k : ℕ) (p : Piece) → ((u : Title) → held_in (p ∷ []) (SealedOwn u) ≡ 0) →
+    ((u : Title) → held_in (p ∷ []) (OwnOf u) ≡ 0) → AreSealed plain (held_in (of_actor 0 (p ∷ []) k))
+no_seals_of plain k p seals owns = seals_of plain 0 k (p ∷ []) (no_seals plain (p ∷ []) seals owns)
 
 -- the bytes of a title that can be cut are raw, and actor 0 has them
 all_raw : (names : Titles) (actors bytes : ℕ) (b : Ledger) (s : State) (t : Title) → IsShown names actors bytes b s → 0 < actors →
@@ -159,7 +166,7 @@ cut_shown names K actors bytes b s t h some can word_zero keeps =
       after,
       run,
       shown_after names (with_title names t K) actors bytes b b s after t (of_actor 0 (RawPiece t.start t.len ∷ []))
-          (of_actor 0 (FreePiece t ∷ [])) (b.word (name_of t)) h (λ u m. m) (inr free_now) change ex
+          (of_actor 0 (FreePiece t ∷ [])) (b.word (name_of t)) h (λ u m. m) (λ u. refl) (inr free_now) change ex
           (nothing_paid names.Made b t (RawPiece t.start t.len ∷ []) (FreePiece t ∷ []) (λ u. refl) (λ u. refl))
           (λ u k.
           let e = ex.1 0 (FreeTitle u) has in
@@ -173,7 +180,8 @@ cut_shown names K actors bytes b s t h some can word_zero keeps =
           (λ own. absurd (let z = no_own Clean in omega arith))
           (λ a own. absurd (let z = no_own a in omega arith))
           (λ k byte up below. none_of 0 k (FreePiece t ∷ []) (RawByte byte) refl)
-          (λ k u. none_of 0 k (FreePiece t ∷ []) (SealedOwn u) refl)
+          (λ k. no_seals_of names.plain k (RawPiece t.start t.len) (λ u. refl) (λ u. refl))
+          (λ k. no_seals_of names.plain k (FreePiece t) (λ u. refl) (λ u. refl))
           (λ u ne there. inl there)
           (λ other. inr refl),
     )
@@ -227,7 +235,7 @@ uncut_shown names K actors bytes b s t h some holds keeps =
       after,
       run,
       shown_after names (without_title names t K) actors bytes b b s after t (of_actor 0 (FreePiece t ∷ []))
-          (of_actor 0 (RawPiece t.start t.len ∷ [])) (b.word (name_of t)) h (λ u m. m) (inl held) change ex
+          (of_actor 0 (RawPiece t.start t.len ∷ [])) (b.word (name_of t)) h (λ u m. m) (λ u. refl) (inl held) change ex
           (nothing_paid names.Made b t (FreePiece t ∷ []) (RawPiece t.start t.len ∷ []) (λ u. refl) (λ u. refl))
           (λ u k.
           let (old, ne) = keeps u k in
@@ -241,7 +249,8 @@ uncut_shown names K actors bytes b s t h some holds keeps =
           (λ own. absurd (gone (let p = own_of_state (total_of after) t Clean (tally_of after.holdings) own in omega arith)))
           (λ a own. absurd (gone (let p = own_of_state (total_of after) t a (tally_of after.holdings) own in omega arith)))
           (λ k byte up below. of_actor_apart 0 k (RawPiece t.start t.len ∷ []) (RawByte byte) (λ z. omega arith))
-          (λ k u. none_of 0 k (RawPiece t.start t.len ∷ []) (SealedOwn u) refl)
+          (λ k. no_seals_of names.plain k (FreePiece t) (λ u. refl) (λ u. refl))
+          (λ k. no_seals_of names.plain k (RawPiece t.start t.len) (λ u. refl) (λ u. refl))
           (λ u ne there. (there, ne))
           (λ other. absurd (gone other)),
     )

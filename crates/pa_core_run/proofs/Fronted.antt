@@ -20,7 +20,7 @@ use Rattle.pa_record.specs.Spans.{name_of}
 use Rattle.pa_rules.specs.declared.register.Register.TheVariants.{Own}
 use Rattle.pa_rules.specs.declared.played.Played.{Played}
 use Rattle.pa_rules.specs.Played.{mark_of, mark_at}
-use Rattle.pa_rules.specs.Registers.{Becomes, with}
+use Rattle.pa_rules.specs.Registers.{Becomes, with, is_plain_op, plain_in}
 use Rattle.pa_rules.specs.Caches.{Cache, NoActs, ReturnRow, MadeRow, with_cache}
 use Rattle.pa_rules.specs.Contents.{IsContent}
 use Rattle.pa_rules.specs.Flow.{listed_times}
@@ -42,6 +42,7 @@ use Rattle.pa_core_run.proofs.Showing.{own_piece}
 use Rattle.pa_core_run.proofs.Stepping.{issue_stands}
 use Rattle.pa_core_run.proofs.Named.{made_unique, HasTitle, class_title, direct_title}
 use Rattle.pa_core_run.proofs.Contents.{content_made}
+use Rattle.pa_core_run.proofs.Plain.{made_plain}
 use Rattle.pa_core_run.proofs.Listing.{free_piece, lists_grow, lists_fall}
 use Rattle.pa_core_run.proofs.NextFronts.{among, regs_left, cache_left, found_word, can_step, set_by, right_after}
 use Rattle.pa_core_run.proofs.Records.{Outcome}
@@ -127,8 +128,10 @@ module _ (a : Parts) (before rest : List Played) (x : Played) (h : IsFiled a) (p
       let one : once (name_of t) seen.slot ≡ 1 = rw (same_slot_yes (name_of t) seen.slot name) refl in
       let free : Holds s (suc x.thread) (FreeTitle t) = omega arith in
       let names = names_here a before rest x h parts st f s shown in
+      let sealed = is_plain_op x.rules x.op in
+      let plain = ap (plain_in a.ps) name ∙ made_plain a h x seen usable here answer in
       let turned = issue_stands names a.partitions (a.threads + 1) (bytes_here a before rest x h parts st f s shown) st s shown
-      (made_unique a h) (next_st a before rest x h parts st f s shown content) x.thread reg t down made none can set
+      (made_unique a h) (next_st a before rest x h parts st f s shown content) x.thread reg t sealed plain down made none can set
       (ap content name ∙ now) free
       (λ u m2.
       let less = fall (name_of u) in
@@ -139,7 +142,7 @@ module _ (a : Parts) (before rest : List Played) (x : Played) (h : IsFiled a) (p
       let found = found_word a before rest x h parts st f m is in
       let P : ℕ → Type 0 = λ w. IsContent a.ps seen.slot (number_of w + 1) (content seen.slot) in
       let Q : ℕ → Type 0 = λ v. IsContent a.ps seen.slot (number_of seen.found.0 + 1) v in
-      turned_plays a before rest x h parts st f s shown m Issue t (FreePiece t ∷ []) (own_piece t ∷ [])
+      turned_plays a before rest x h parts st f s shown m Issue t (FreePiece t ∷ []) (own_piece sealed t ∷ [])
       (λ k. stores (content_count t) 0 k t 0) content is refl (rw op refl) made name (shown.words t held)
       (λ k. stores_beside (content_count t) 0 k t 0) no_acts
       (right_after a before rest x h parts st f m Issue content is refl kept

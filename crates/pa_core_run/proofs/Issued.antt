@@ -4,7 +4,6 @@ use Rattle.std.proofs.lemmas.Bool.{eq-eqb}
 use Rattle.pa_slot.specs.declared.word.SlotName.{SlotName}
 use Rattle.pa_slot.specs.declared.word.Step.TheVariants.{Issue}
 use Rattle.pa_machine.specs.declared.event.Event.{Event}
-use Rattle.pa_machine.specs.declared.event.Event.TheVariants.{Count}
 use Rattle.pa_slot.specs.Count.{number_of, stepped, CanStep}
 use Rattle.pa_slot.specs.Run.{Mark}
 use Rattle.pa_slot.specs.Titles.{content_count}
@@ -20,7 +19,7 @@ use Rattle.pa_record.specs.Spans.{name_of}
 use Rattle.pa_rules.specs.declared.register.Register.TheVariants.{Own}
 use Rattle.pa_rules.specs.declared.played.Played.{Played}
 use Rattle.pa_rules.specs.Played.{mark_of, mark_at}
-use Rattle.pa_rules.specs.Registers.{Becomes, with}
+use Rattle.pa_rules.specs.Registers.{Becomes, with, is_plain_op, plain_in}
 use Rattle.pa_rules.specs.Caches.{Cache, with_cache}
 use Rattle.pa_rules.specs.Contents.{IsContent}
 use Rattle.pa_rules.specs.Flow.{listed_times}
@@ -29,7 +28,7 @@ use Rattle.pa_slot_effects.specs.Turns.{HoldsNone}
 use Rattle.pa_slot_effects.proofs.Balance.{at_slot, at_other_slot}
 use Rattle.pa_one_run.proofs.Filed.{IsFiled}
 use Rattle.pa_one_run.proofs.roots.Classes.{made_class}
-use Rattle.pa_core_steps.specs.Turns.{IsDone, stores}
+use Rattle.pa_core_steps.specs.Turns.{IsDone, stores, issue_event}
 use Rattle.pa_rules.specs.Once.{once}
 use Rattle.pa_one_run.specs.Parts.{Parts}
 use Rattle.pa_one_run.specs.Before.{root_at}
@@ -43,6 +42,7 @@ use Rattle.pa_core_run.proofs.Paying.{IsSet}
 use Rattle.pa_core_run.proofs.Stepping.{issue_stands}
 use Rattle.pa_core_run.proofs.Named.{made_unique, HasTitle, class_title, direct_title}
 use Rattle.pa_core_run.proofs.Contents.{content_made}
+use Rattle.pa_core_run.proofs.Plain.{made_plain}
 use Rattle.pa_core_run.proofs.Listing.{free_piece}
 use Rattle.pa_core_run.proofs.NextFronts.{among, lists_beside, regs_left, cache_left, front_next, found_word, can_step, set_by, right_after}
 use Rattle.pa_core_run.proofs.Records.{Outcome}
@@ -122,8 +122,10 @@ module _ (a : Parts) (before rest : List Played) (x : Played) (h : IsFiled a) (p
       let lists = lists_mine list (name_of t) in
       let one : once (name_of t) seen.slot ≡ 1 = rw (same_slot_yes (name_of t) seen.slot name) refl in
       let free : Holds mid (suc x.thread) (FreeTitle t) = omega arith in
+      let sealed = is_plain_op x.rules x.op in
+      let plain = ap (plain_in a.ps) name ∙ made_plain a h x seen usable here answer in
       let turned = issue_stands names_next a.partitions (a.threads + 1) (2097152 * a.supers) (listing list) mid brought.now
-      (made_unique a h) st2 x.thread reg t down made none can set (ap content name ∙ now) free
+      (made_unique a h) st2 x.thread reg t sealed plain down made none can set (ap content name ∙ now) free
       (λ u m2.
       let less = fall (name_of u) in
       let after = lists_here a before rest x h parts st f s shown content (name_of u) in
@@ -138,12 +140,12 @@ module _ (a : Parts) (before rest : List Played) (x : Played) (h : IsFiled a) (p
       (λ held2. subst P found (subst Q (sym now) (content_made a h x seen usable here answer))) in
       let e : suc x.thread ≡ x.thread + 1 = omega arith in
       let T : ℕ → Type 0 = λ k.
-      ((after : State) × IsDone mid k t Issue (Count k t Issue) (FreePiece t ∷ []) (own_piece t ∷ [])
+      ((after : State) × IsDone mid k t Issue (issue_event sealed k t) (FreePiece t ∷ []) (own_piece sealed t ∷ [])
       (stores (content_count t) 0 k t 0) after
       × IsShown names_next (a.threads + 1) (2097152 * a.supers) (ledger_of a.partitions st2) after) in
       let (after, done, last) = subst T e turned in (
         after,
-        play_step (MadeIn a) x s mid after after m t Issue (FreePiece t ∷ []) (own_piece t ∷ []) brought.events
+        play_step (MadeIn a) x s mid after after m t Issue (FreePiece t ∷ []) (own_piece sealed t ∷ []) brought.events
             (stores (content_count t) 0 (x.thread + 1) t 0) [] is refl (rw op refl) shown.good made name
             (brought.now.words t held ∙ (ap st.word name ∙ sym found)) brought.run done (run_start after last.good)
             (subst (λ k. AreBeside k brought.events) e brought.beside) (stores_beside (content_count t) 0 (x.thread + 1) t 0) tt,

@@ -15,6 +15,7 @@ pub mod Stepped
 pub mod Listing
 pub mod Exchanged
 pub mod Values
+pub mod Plain
 pub mod Lengths
 pub mod Fronted
 pub mod Quiet

@@ -1,8 +1,9 @@
 -- Titles that are cut one after the other: what a root makes on a line is in the core.
-use Rattle.std.proofs.Common.{◌≡◌, ℕ, ◌<◌, List, [], ◌∷◌, ◌++◌, refl, subst, ◌⊎◌, inl, inr}
+use Rattle.std.proofs.Common.{◌≡◌, ℕ, ◌<◌, if◌then◌else◌, List, [], ◌∷◌, ◌++◌, refl, sym, subst, ◌⊎◌, inl, inr}
 use Rattle.std.specs.Prelude.{Contains}
 use Rattle.pa_slot.specs.declared.title.Title.{Title}
-use Rattle.pa_machine.specs.Events.{State}
+use Rattle.pa_slot.specs.Holdings.{OwnOf, SealedOwn}
+use Rattle.pa_machine.specs.Events.{State, held_by}
 use Rattle.pa_machine.proofs.Lasting.{run_start}
 use Rattle.pa_record.specs.Spans.{name_of}
 use Rattle.pa_record.specs.Sound.{TitlesApart}
@@ -16,13 +17,19 @@ use Rattle.pa_core_run.proofs.Batching.{kept_with}
 
 -- the titles with these, which actor 0 has
 abbrev pub with_titles : Titles → List Title → Titles
-with_titles names ts = record { Made = names.Made; There = λ u. names.There u ⊎ Contains ts u; Kept = kept_with names.Kept ts }
+with_titles names ts = record {
+  Made = names.Made;
+  There = λ u. names.There u ⊎ Contains ts u;
+  Kept = kept_with names.Kept ts;
+  plain = names.plain;
+}
 
 -- more titles may be there, and fewer asked of actor 0
-pub renamed : (names next : Titles) (actors bytes : ℕ) (b : Ledger) (s : State) → ((u : Title) → next.Made u → names.Made u)
+pub renamed : (names next : Titles) (actors bytes : ℕ) (b : Ledger) (s : State) → ((u : Title) → next.plain u ≡ names.plain u)
+    → ((u : Title) → next.Made u → names.Made u)
     → ((u : Title) → names.There u → next.There u) → ((u : Title) → next.Kept u → names.Kept u) →
     IsShown names actors bytes b s → IsShown next actors bytes b s
-renamed names next actors bytes b s made there kept h = record {
+renamed names next actors bytes b s plain made there kept h = record {
   good = h.good;
   many = h.many;
   long = h.long;
@@ -33,7 +40,8 @@ renamed names next actors bytes b s made there kept h = record {
   words = h.words;
   contents = h.contents;
   clean = h.clean;
-  sealed = h.sealed;
+  sealed = λ k below u. subst (λ p. held_by s k (SealedOwn u) ≡ (if p then held_by s k (OwnOf u) else 0)) (sym (plain u))
+      (h.sealed k below u);
   raw = h.raw;
   there = λ t held. there t (h.there t held);
 }
@@ -48,7 +56,7 @@ cuts_go [] names actors bytes b s k h some can apart = (
     events = [];
     run = run_start s h.good;
     beside = tt;
-    shown = renamed names (with_titles names []) actors bytes b s (λ u m. m) (λ u there. inl there)
+    shown = renamed names (with_titles names []) actors bytes b s (λ u. refl) (λ u m. m) (λ u there. inl there)
         (λ u kept. elim kept [ inl old ↦ old | inr new ↦ absurd (not_in_none u new) ]) h;
   },
 )
@@ -78,7 +86,8 @@ cuts_go (t ∷ ts) names actors bytes b s k h some can apart =
         events = cutting t ++ more.1.events;
         run = run_join s first.0 more.0 (cutting t) more.1.events h.good first.1 more.1.run;
         beside = beside_both k (cutting t) more.1.events (inl refl, (inl refl, tt)) more.1.beside;
-        shown = renamed (with_titles (with_title names t K) ts) (with_titles names (t ∷ ts)) actors bytes b more.0 (λ u m. m)
+        shown = renamed (with_titles (with_title names t K) ts) (with_titles names (t ∷ ts)) actors bytes b more.0 (λ u. refl)
+            (λ u m. m)
             (λ u there. elim there [
               | inl old ↦ elim old [
                 | inl before ↦ inl before

@@ -1,5 +1,5 @@
 -- The kinds of change: a turn of a thread on a title, an item that is handed over, a title that is cut, and one that is uncut.
-use Rattle.std.proofs.Common.{◌≡◌, ℕ, ◌+◌, ◌*◌, ◌<◌, Bool, List, [], ◌∷◌, length, sym, ◌∙◌, ap, arith, inl, inr}
+use Rattle.std.proofs.Common.{◌≡◌, ℕ, ◌+◌, ◌*◌, ◌<◌, Bool, List, [], ◌∷◌, length, refl, sym, ◌∙◌, ap, arith, inl, inr}
 use Rattle.std.proofs.lemmas.Bool.{cases_lt}
 use Rattle.pa_slot.specs.declared.title.Title.{Title}
 use Rattle.pa_slot.specs.declared.title.OwnState.TheVariants.{Clean}
@@ -18,7 +18,7 @@ use Rattle.pa_core_steps.proofs.Joining.{run_good, run_one}
 use Rattle.pa_core_steps.proofs.Exchanging.{none_of}
 use Rattle.pa_core_steps.proofs.Possible.{hand_can_happen}
 use Rattle.pa_core_run.specs.Ledger.{Ledger, Titles, IsShown, IsPaid}
-use Rattle.pa_core_run.proofs.Showing.{ArePieces, IsChangeOf, shown_after}
+use Rattle.pa_core_run.proofs.Showing.{ArePieces, seals_of, IsChangeOf, shown_after}
 
 -- words outside a title that is held don't touch another that is held
 away : (s : State) (t u : Title) (q : ℕ) → IsGoodState s → IsTitleHeld (total_of s) t → IsTitleHeld (total_of s) u → (t ≡ u → ⊥) →
@@ -28,10 +28,10 @@ away s t u q good held other ne within covers =
 
 -- ---- a turn
 
-turn_change : (s after : State) (actor : ℕ) (t : Title) (lost gained : List Piece) (w : ℕ) (es : List Event) → IsGoodState s →
-    HasActor s actor → IsTitleHeld (total_of s) t →
-    ArePieces t lost → ArePieces t gained → IsTurn s actor t lost gained w es after → IsChangeOf s t after
-turn_change s after actor t lost gained w es good has held out into turn = record {
+turn_change : (plain : Title → Bool) (s after : State) (actor : ℕ) (t : Title) (lost gained : List Piece) (w : ℕ) (es : List Event) →
+    IsGoodState s → HasActor s actor → IsTitleHeld (total_of s) t →
+    ArePieces plain t lost → ArePieces plain t gained → IsTurn s actor t lost gained w es after → IsChangeOf s t after
+turn_change plain s after actor t lost gained w es good has held out into turn = record {
   good = run_good s after es good turn.run;
   many = turn.run.shape.1;
   long = turn.run.shape.0;
@@ -63,7 +63,8 @@ turn_change s after actor t lost gained w es good has held out into turn = recor
 -- a thread's turn, if the ledger pays for it
 pub turn_shown : (names : Titles) (actors bytes : ℕ) (b next : Ledger) (s after : State) (actor : ℕ) (t : Title) (lost gained : List Piece)
     (w : ℕ) (es : List Event) →
-    IsShown names actors bytes b s → 0 < actor → actor < actors → IsTitleHeld (total_of s) t → ArePieces t lost → ArePieces t gained →
+    IsShown names actors bytes b s → 0 < actor → actor < actors → IsTitleHeld (total_of s) t → ArePieces names.plain t lost →
+    ArePieces names.plain t gained →
     IsTurn s actor t lost gained w es after → IsPaid names.Made b next (of_actor actor lost) (of_actor actor gained) t w →
     (0 < total_of after (OwnAs t Clean) → HasContentFrom after.words t 0 (next.content (name_of t))) → IsShown names actors bytes next after
 turn_shown names actors bytes b next s after actor t lost gained w es h some below held out into turn paid content =
@@ -71,8 +72,8 @@ turn_shown names actors bytes b next s after actor t lost gained w es h some bel
     let has : HasActor s actor = omega arith in
     let totals : (x : Thing) → total_of after x + held_in lost x ≡ total_of s x + held_in gained x =
     λ x. total_exchanged s.holdings after.holdings actor actor lost gained turn.holdings has has x in
-    shown_after names names actors bytes b next s after t (of_actor actor lost) (of_actor actor gained) w h (λ u m. m) (inl held)
-    (turn_change s after actor t lost gained w es h.good has held out into turn) turn.holdings paid
+    shown_after names names actors bytes b next s after t (of_actor actor lost) (of_actor actor gained) w h (λ u m. m) (λ u. refl)
+    (inl held) (turn_change names.plain s after actor t lost gained w es h.good has held out into turn) turn.holdings paid
     (λ u kept.
     let e = turn.holdings.1 0 (FreeTitle u) (omega arith) in
     let l = of_actor_apart actor 0 lost (FreeTitle u) (λ z. omega arith) in
@@ -86,7 +87,8 @@ turn_shown names actors bytes b next s after actor t lost gained w es h some bel
       | inr none ↦ let e = totals (OwnAs t a) in into.clean a (omega arith)
     ])
     (λ k byte up k_below. none_of actor k gained (RawByte byte) (into.raw byte))
-    (λ k u. none_of actor k gained (SealedOwn u) (into.unsealed u))
+    (λ k. seals_of names.plain actor k lost out.sealed)
+    (λ k. seals_of names.plain actor k gained into.sealed)
     (λ u ne there. there)
     (λ after_held. h.there t held)
 
@@ -94,7 +96,7 @@ turn_shown names actors bytes b next s after actor t lost gained w es h some bel
 
 -- the titles with others that actor 0 has for the roots
 abbrev pub keeping : Titles → (Title → Type 0) → Titles
-keeping names K = record { Made = names.Made; There = names.There; Kept = K }
+keeping names K = record { Made = names.Made; There = names.There; Kept = K; plain = names.plain }
 
 -- What a hand leaves: a run of one event, which changes no word, and the core shows the next ledger.
 pub record IsHanded (names : Titles) (actors bytes : ℕ) (next : Ledger) (s : State) (from to : ℕ) (item : Item) (sealed : Bool)
@@ -108,7 +110,7 @@ pub hand_shown : (names : Titles) (K : Title → Type 0) (actors bytes : ℕ) (b
     (sealed : Bool) (t : Title) →
     IsShown names actors bytes b s → from < actors → to < actors → HoldsItem s from item → IsItemSealed s from item sealed →
     IsTitleHeld (total_of s) t →
-    ArePieces t (piece_of sealed item ∷ []) →
+    ArePieces names.plain t (piece_of sealed item ∷ []) →
     IsPaid names.Made b next (of_actor from (piece_of sealed item ∷ [])) (of_actor to (piece_of sealed item ∷ [])) t (b.word (name_of t)) →
     next.content (name_of t) ≡ b.content (name_of t) →
     ((u : Title) → K u → held_in (of_actor from (piece_of sealed item ∷ []) 0) (FreeTitle u) < held_by s 0 (FreeTitle u) + held_in
@@ -143,14 +145,15 @@ hand_shown names K actors bytes b next s from to item sealed t h from_below to_b
         words = words;
         holdings = ex;
         shown = shown_after names (keeping names K) actors bytes b next s after t (of_actor from (p ∷ [])) (of_actor to (p ∷ []))
-            (b.word (name_of t)) h (λ u m. m) (inl held) change ex paid
+            (b.word (name_of t)) h (λ u m. m) (λ u. refl) (inl held) change ex paid
             (λ u k. let e = ex.1 0 (FreeTitle u) (omega arith) in let some = kept u k in omega arith)
             (λ other. ap (λ ws. count_word ws t) words ∙ h.words t held)
             (λ own. let e = same (OwnAs t Clean) in let had = h.contents t (omega arith) in
             λ i low inside. ap (λ ws. content_at ws t i) words ∙ (had i low inside ∙ sym content))
             (λ a own. let e = same (OwnAs t a) in h.clean t a (omega arith))
             (λ k byte up below. none_of to k (p ∷ []) (RawByte byte) (pieces.raw byte))
-            (λ k u. none_of to k (p ∷ []) (SealedOwn u) (pieces.unsealed u))
+            (λ k. seals_of names.plain from k (p ∷ []) pieces.sealed)
+            (λ k. seals_of names.plain to k (p ∷ []) pieces.sealed)
             (λ u ne there. there)
             (λ other. h.there t held);
       },

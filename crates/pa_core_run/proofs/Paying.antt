@@ -1,5 +1,5 @@
 -- What a change of one register, and of a thread's lists, pays for in the ledger.
-use Rattle.std.proofs.Common.{◌≡◌, ℕ, zero, suc, ◌+◌, ◌<◌, ◌≤◌, false, List, [], ◌∷◌, refl, sym, ◌∙◌, ap, subst, arith, inl, inr}
+use Rattle.std.proofs.Common.{◌≡◌, ℕ, zero, suc, ◌+◌, ◌<◌, ◌≤◌, Bool, List, [], ◌∷◌, refl, sym, ◌∙◌, ap, subst, arith, inl, inr}
 use Rattle.std.proofs.lemmas.Bool.{cases_eq, eq-eqb, ne_eqb}
 use Rattle.pa_slot.specs.declared.word.SlotName.{SlotName}
 use Rattle.pa_slot.specs.declared.title.Title.{Title}
@@ -25,12 +25,12 @@ use Rattle.pa_slot_effects.proofs.Handles.{over_same, over_one}
 
 -- ---- pieces by name
 
-pub owns_piece : (Made : Title → Type 0) (t u : Title) → HaveNames Made → Made t → Made u →
-    held_in (own_piece t ∷ []) (OwnOf u) ≡ owns (name_of u) (Own (name_of t))
-owns_piece Made t u one m n = elim (title_tells t u) [
-  | inl y ↦ subst (λ (v : Title). held_in (own_piece t ∷ []) (OwnOf v) ≡ owns (name_of v) (Own (name_of t))) y.1
-      (own_self false t Clean ∙ sym (rw (same_slot_yes (name_of t) (name_of t) refl) refl))
-  | inr x ↦ (own_none false t u Clean x.1).own ∙ sym (rw (same_slot_no (name_of t) (name_of u) (λ e. x.1 (one t u m n e))) refl)
+pub owns_piece : (sealed : Bool) (Made : Title → Type 0) (t u : Title) → HaveNames Made → Made t → Made u →
+    held_in (own_piece sealed t ∷ []) (OwnOf u) ≡ owns (name_of u) (Own (name_of t))
+owns_piece sealed Made t u one m n = elim (title_tells t u) [
+  | inl y ↦ subst (λ (v : Title). held_in (own_piece sealed t ∷ []) (OwnOf v) ≡ owns (name_of v) (Own (name_of t))) y.1
+      (own_self sealed t Clean ∙ sym (rw (same_slot_yes (name_of t) (name_of t) refl) refl))
+  | inr x ↦ (own_none sealed t u Clean x.1).own ∙ sym (rw (same_slot_no (name_of t) (name_of u) (λ e. x.1 (one t u m n e))) refl)
 ]
 
 pub points_piece : (Made : Title → Type 0) (t u : Title) → HaveNames Made → Made t → Made u →

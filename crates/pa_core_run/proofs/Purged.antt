@@ -89,7 +89,7 @@ module _ (a : Parts) (before rest : List Played) (x : Played) (h : IsFiled a) (s
           st = next;
           front = front_next a before rest x h parts st f st.content (right_same a before rest x h parts st f words);
           shown = renamed (keeping (titles_in a (root_at a x.line)) (kept_with Kept ts)) (names_next a before rest x h parts st f s shown)
-              (a.threads + 1) (2097152 * a.supers) (ledger_of a.partitions next) after (λ u made. made)
+              (a.threads + 1) (2097152 * a.supers) (ledger_of a.partitions next) after (λ u. refl) (λ u made. made)
               (there_given a before rest x h parts st f (giving a before rest x h parts st f s shown slots answer))
               (kept_next a before rest x h parts st f s shown slots answer) r.shown;
         },

@@ -1,5 +1,5 @@
 -- Each record on a line without an entry of a journal can be played, whatever its op and answer.
-use Rattle.std.proofs.Common.{◌≡◌, ℕ, zero, suc, ◌+◌, ◌*◌, ◌<◌, ◌≤◌, List, [], ◌∷◌, ◌++◌, length, Some, None, refl, sym, ◌∙◌, ap, subst, arith, ◌⊎◌, inl, inr}
+use Rattle.std.proofs.Common.{◌≡◌, ℕ, zero, suc, ◌+◌, ◌*◌, ◌<◌, ◌≤◌, Bool, true, false, List, [], ◌∷◌, ◌++◌, length, Some, None, refl, sym, ◌∙◌, ap, subst, arith, ◌⊎◌, inl, inr}
 use Rattle.std.proofs.lemmas.List.{length-append}
 use Rattle.std.proofs.lemmas.List.Elements.{All-contains}
 use Rattle.pa_slot.specs.declared.word.SlotName.{SlotName}
@@ -23,7 +23,7 @@ use Rattle.pa_rules.specs.Roots.{Journals}
 use Rattle.pa_rules.specs.declared.register.Register.TheVariants.{Empty, Own, Ref, Freed, Cleared}
 use Rattle.pa_rules.specs.declared.played.Played.{Played}
 use Rattle.pa_rules.specs.Played.{mark_of, mark_at, mark_of_answer, step_of}
-use Rattle.pa_rules.specs.Registers.{Reg, Regs, Row, usable_in, Becomes, with, AllocRow, RequestRow, CopyRow, CopyToRow, ResetRow, FreeRow, WriteRow, ReadRow, ReadFromRow}
+use Rattle.pa_rules.specs.Registers.{Reg, Regs, Row, usable_in, plain_in, Becomes, with, AllocRow, RequestRow, CopyRow, CopyToRow, PointRow, ResetRow, FreeRow, WriteRow, ReadRow, ReadFromRow}
 use Rattle.pa_rules.specs.Caches.{Cache, CacheRow, SameLists, NoActs, acts_of, DoneRow, purge_acts, gives}
 use Rattle.pa_rules.specs.Contents.{IsContent, IsReadExact}
 use Rattle.pa_rules.specs.Sizes.{usable_of}
@@ -139,37 +139,52 @@ module _ (a : Parts) (before rest : List Played) (x : Played) (h : IsFiled a) (s
   not_swap op is other k r e = other k r (sym is ∙ e)
 
   copied : (from to : ℕ) (y : SlotName) → x.op ≡ ops.Copy from to → from < 64 → to < 64 → (st.regs x.thread from ≡ Own y) ⊎
-      (st.regs x.thread from ≡ Ref y) → HoldsNone (st.regs x.thread to) →
+      (st.regs x.thread from ≡ Ref y) → (st.regs x.thread from ≡ Own y → plain_in a.ps y ≡ false) → HoldsNone (st.regs x.thread to) →
       (seen : Seen) × (seen.slot ≡ y) × (x.answer ≡ answers.Done seen) × Becomes new_regs (with (st.regs x.thread) to (Ref y)) → Plays_it
-  copied from to y op from_few to_few names free (seen, slot, is, becomes) =
+  copied from to y op from_few to_few names counted free (seen, slot, is, becomes) =
       let row : DoneRow a.roots x (Some Copy) seen old_cache new_cache =
       subst (λ o. DoneRow a.roots x o seen old_cache new_cache) (ap step_of op) (cache_as (answers.Done seen) is) in
       let P : SlotName → Type 0 = λ z. (st.regs x.thread from ≡ Own z) ⊎ (st.regs x.thread from ≡ Ref z) in
       let Q : SlotName → Type 0 = λ z. Becomes new_regs (with (st.regs x.thread) to (Ref z)) in
+      let Counted : SlotName → Type 0 = λ z. st.regs x.thread from ≡ Own z → plain_in a.ps z ≡ false in
       elim row [
         | inl (returning, back) ↦ absurd returning
         | inr (stays, no_acts, lists) ↦
-            copy_plays a before rest x h parts st f s shown from to seen op is from_few to_few (subst P (sym slot) names) free
-            (subst Q (sym slot) becomes) lists none
+            copy_plays a before rest x h parts st f s shown from to seen op is from_few to_few (subst P (sym slot) names)
+            (subst Counted (sym slot) counted) free (subst Q (sym slot) becomes) lists none
       ]
 
-  copy_to : (r : Reg) (from to : ℕ) (y : SlotName) → x.op ≡ ops.Copy from to → from < 64 → to < 64 → (st.regs x.thread from ≡ Own y) ⊎
-      (st.regs x.thread from ≡ Ref y) → st.regs x.thread to ≡ r →
-      CopyToRow r y (st.regs x.thread) to x.answer new_regs → Plays_it
-  copy_to Empty from to y op from_few to_few names is row = copied from to y op from_few to_few names (subst HoldsNone (sym is) tt) row
-  copy_to Freed from to y op from_few to_few names is row = copied from to y op from_few to_few names (subst HoldsNone (sym is) tt) row
-  copy_to Cleared from to y op from_few to_few names is row = copied from to y op from_few to_few names (subst HoldsNone (sym is) tt) row
-  copy_to (Own z) from to y op from_few to_few names is (answer, becomes) =
+  -- a copy into a register without a handle, of an owner that is plain so or of a raw_ptr
+  points_to : (plain : Bool) (from to : ℕ) (y : SlotName) → x.op ≡ ops.Copy from to → from < 64 → to < 64 →
+      (st.regs x.thread from ≡ Own y) ⊎ (st.regs x.thread from ≡ Ref y) → (st.regs x.thread from ≡ Own y → plain_in a.ps y ≡ plain) →
+      HoldsNone (st.regs x.thread to) → PointRow plain y (st.regs x.thread) to x.answer new_regs → Plays_it
+  points_to true from to y op from_few to_few names so free (answer, becomes) =
+      quiet answers.Uncounted answer refl (cache_as answers.Uncounted answer).1 (not_swap _ op (λ k r e. absurd cc)) becomes
+  points_to false from to y op from_few to_few names so free row = copied from to y op from_few to_few names so free row
+
+  copy_to : (r : Reg) (plain : Bool) (from to : ℕ) (y : SlotName) → x.op ≡ ops.Copy from to → from < 64 → to < 64 →
+      (st.regs x.thread from ≡ Own y) ⊎ (st.regs x.thread from ≡ Ref y) → (st.regs x.thread from ≡ Own y → plain_in a.ps y ≡ plain) →
+      st.regs x.thread to ≡ r → CopyToRow r plain y (st.regs x.thread) to x.answer new_regs → Plays_it
+  copy_to Empty plain from to y op from_few to_few names so is row =
+      points_to plain from to y op from_few to_few names so (subst HoldsNone (sym is) tt) row
+  copy_to Freed plain from to y op from_few to_few names so is row =
+      points_to plain from to y op from_few to_few names so (subst HoldsNone (sym is) tt) row
+  copy_to Cleared plain from to y op from_few to_few names so is row =
+      points_to plain from to y op from_few to_few names so (subst HoldsNone (sym is) tt) row
+  copy_to (Own z) plain from to y op from_few to_few names so is (answer, becomes) =
       quiet answers.Filled answer refl (cache_as answers.Filled answer).1 (not_swap _ op (λ k r e. absurd cc)) becomes
-  copy_to (Ref z) from to y op from_few to_few names is (answer, becomes) =
+  copy_to (Ref z) plain from to y op from_few to_few names so is (answer, becomes) =
       quiet answers.Filled answer refl (cache_as answers.Filled answer).1 (not_swap _ op (λ k r e. absurd cc)) becomes
 
   copies : (r : Reg) (from to : ℕ) → x.op ≡ ops.Copy from to → from < 64 → to < 64 → st.regs x.thread from ≡ r →
-      CopyRow r (st.regs x.thread) to x.answer new_regs → Plays_it
+      CopyRow r (facts_of a) (st.regs x.thread) to x.answer new_regs → Plays_it
   copies Empty from to op from_few to_few is (answer, becomes) =
       quiet answers.Nothing answer refl (cache_as answers.Nothing answer).1 (not_swap _ op (λ k r e. absurd cc)) becomes
-  copies (Own y) from to op from_few to_few is row = copy_to (st.regs x.thread to) from to y op from_few to_few (inl is) refl row
-  copies (Ref y) from to op from_few to_few is row = copy_to (st.regs x.thread to) from to y op from_few to_few (inr is) refl row
+  copies (Own y) from to op from_few to_few is row =
+      copy_to (st.regs x.thread to) (plain_in a.ps y) from to y op from_few to_few (inl is) (λ own. refl) refl row
+  copies (Ref y) from to op from_few to_few is row =
+      copy_to (st.regs x.thread to) false from to y op from_few to_few (inr is)
+      (λ own. (let both : Own y ≡ Ref y = sym own ∙ is in absurd cc)) refl row
   copies Freed from to op from_few to_few is (answer, becomes) =
       quiet (answers.StaleUse None) answer refl (cache_as (answers.StaleUse None) answer).1 (not_swap _ op (λ k r e. absurd cc)) becomes
   copies Cleared from to op from_few to_few is (answer, becomes) =

@@ -1,5 +1,5 @@
 -- A slot that came to the front of a list which spills: what doesn't stay of the list goes back to the root.
-use Rattle.std.proofs.Common.{◌≡◌, ℕ, suc, ◌+◌, ◌*◌, ◌<◌, ◌≤◌, List, ◌∷◌, ◌++◌, sym, ◌∙◌, ap, subst, arith, inl, inr}
+use Rattle.std.proofs.Common.{◌≡◌, ℕ, suc, ◌+◌, ◌*◌, ◌<◌, ◌≤◌, List, ◌∷◌, ◌++◌, refl, sym, ◌∙◌, ap, subst, arith, inl, inr}
 use Rattle.std.proofs.lemmas.Bool.{cases_eq}
 use Rattle.pa_slot.specs.declared.word.SlotName.{SlotName}
 use Rattle.pa_slot.specs.declared.title.Title.{Title}
@@ -121,6 +121,6 @@ module _ (a : Parts) (before rest : List Played) (x : Played) (h : IsFiled a) (p
           beside = r.beside;
           shown = renamed (keeping (titles_in a (root_at a x.line)) (kept_with (KeptIn (root_at a x.line)) ts))
               (names_next a before rest x h parts st f s shown) (a.threads + 1) (2097152 * a.supers) (ledger_of a.partitions st2) last
-              (λ u made. made) (there_given a before rest x h parts st f giving) kept_next r.shown;
+              (λ u. refl) (λ u made. made) (there_given a before rest x h parts st f giving) kept_next r.shown;
         },
       )

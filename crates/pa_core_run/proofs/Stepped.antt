@@ -1,5 +1,5 @@
 -- Records of counted steps: a copy, a write, and a reset and a free up to the lists that they leave.
-use Rattle.std.proofs.Common.{◌≡◌, ℕ, zero, suc, ◌+◌, ◌*◌, ◌<◌, ◌≤◌, List, [], ◌∷◌, ◌++◌, Some, None, refl, sym, ◌∙◌, ap, subst, arith, ◌⊎◌, inl, inr}
+use Rattle.std.proofs.Common.{◌≡◌, ℕ, zero, suc, ◌+◌, ◌*◌, ◌<◌, ◌≤◌, false, List, [], ◌∷◌, ◌++◌, Some, None, refl, sym, ◌∙◌, ap, subst, arith, ◌⊎◌, inl, inr}
 use Rattle.std.proofs.lemmas.Bool.{cases_eq}
 use Rattle.pa_slot.specs.declared.word.SlotName.{SlotName}
 use Rattle.pa_slot.specs.declared.word.Step.{Step}
@@ -7,7 +7,6 @@ use Rattle.pa_slot.specs.declared.word.Step.TheVariants.{Issue, Copy, Reset, Fre
 use Rattle.pa_slot.specs.declared.title.Title.{Title}
 use Rattle.pa_slot.specs.declared.title.OwnState.TheVariants.{Clean}
 use Rattle.pa_machine.specs.declared.event.Event.{Event}
-use Rattle.pa_machine.specs.declared.event.Event.TheVariants.{Count}
 use Rattle.pa_slot.specs.Count.{number_of, held_of, refs_of, stepped, CanStep}
 use Rattle.pa_slot.specs.Run.{Mark}
 use Rattle.pa_slot.specs.Titles.{content_count, count_word}
@@ -22,7 +21,7 @@ use Rattle.pa_record.specs.Spans.{name_of}
 use Rattle.pa_rules.specs.declared.register.Register.TheVariants.{Own, Ref, Freed, Cleared}
 use Rattle.pa_rules.specs.declared.played.Played.{Played}
 use Rattle.pa_rules.specs.Played.{mark_of, mark_at}
-use Rattle.pa_rules.specs.Registers.{Reg, Becomes, with}
+use Rattle.pa_rules.specs.Registers.{Reg, Becomes, with, is_plain_op, plain_in}
 use Rattle.pa_rules.specs.Caches.{Cache, SameLists, NoActs}
 use Rattle.pa_rules.specs.Contents.{IsContent}
 use Rattle.pa_slot_effects.specs.Shown.{with_slot}
@@ -31,7 +30,7 @@ use Rattle.pa_slot_effects.proofs.Contents.{held_before}
 use Rattle.pa_slot_effects.proofs.Balance.{at_slot, at_other_slot}
 use Rattle.pa_one_run.proofs.Filed.{IsFiled}
 use Rattle.pa_core_steps.specs.Turns.{IsDone, left_by, poisons, stores}
-use Rattle.pa_core_run.specs.Playing.{read_by, AreBeside, Plays}
+use Rattle.pa_core_run.specs.Playing.{read_by, count_event, AreBeside, Plays}
 use Rattle.pa_core_run.specs.Ledger.{Titles, IsShown}
 use Rattle.pa_core_run.specs.Standing.{Standing, in_lists, ledger_of}
 use Rattle.pa_core_run.specs.Fronts.{MadeIn, titles_in, IsFrontOf}
@@ -85,7 +84,7 @@ module _ (a : Parts) (before rest : List Played) (x : Played) (h : IsFiled a) (p
   -- a step p of the slot that a register names, whose turn the core can make
   abbrev pub Turned : (t : Title) (p : Step) (lost gained : List Piece) (first : List Event) (content : SlotName → ℕ) (k : ℕ) → Type 0
   Turned t p lost gained first content k =
-      (after : State) × IsDone s k t p (Count k t p) lost gained first after ×
+      (after : State) × IsDone s k t p (count_event (is_plain_op x.rules x.op) k t p) lost gained first after ×
       IsShown names_here (a.threads + 1) bytes_here (ledger_of a.partitions (next_st content)) after
 
   -- is the record's, if it has no entry
@@ -124,10 +123,11 @@ module _ (a : Parts) (before rest : List Played) (x : Played) (h : IsFiled a) (p
 
   pub copy_plays : (from to : ℕ) (seen : Seen) → x.op ≡ ops.Copy from to → x.answer ≡ answers.Done seen → from < 64 → to < 64
       → (st.regs x.thread from ≡ Own seen.slot) ⊎ (st.regs x.thread from ≡ Ref seen.slot) →
-      HoldsNone (st.regs x.thread to) → Becomes (regs_left a before rest x h parts st f) (with (st.regs x.thread) to (Ref seen.slot))
+      (st.regs x.thread from ≡ Own seen.slot → plain_in a.ps seen.slot ≡ false) → HoldsNone (st.regs x.thread to) →
+      Becomes (regs_left a before rest x h parts st f) (with (st.regs x.thread) to (Ref seen.slot))
       → SameLists (cache_left a before rest x h parts st f) (st.caches x.thread) → NoActs a.roots x.line →
       Outcome a before rest x h parts st f s shown
-  copy_plays from to seen op answer from_few to_few names none becomes lists no_acts =
+  copy_plays from to seen op answer from_few to_few names counted none becomes lists no_acts =
       let m : Mark = mark_at x.line seen (Some Copy) in
       let is : mark_of x ≡ Some m = rw (answer, op) refl in
       let (t, made, name) = named_title a before rest x h parts st f s shown from seen.slot
@@ -139,8 +139,10 @@ module _ (a : Parts) (before rest : List Played) (x : Played) (h : IsFiled a) (p
       let P : SlotName → Type 0 = λ y. (st.regs x.thread from ≡ Own y) ⊎ (st.regs x.thread from ≡ Ref y) in
       let can = subst (λ y. CanStep Copy (st.word y)) (sym name) (can_step a before rest x h parts st f m Copy is refl) in
       let names_it : P (name_of t) = subst P (sym name) names in
+      let Counted : SlotName → Type 0 = λ y. st.regs x.thread from ≡ Own y → plain_in a.ps y ≡ false in
+      let counts_it : Counted (name_of t) = subst Counted (sym name) counted in
       let turned = copy_stands names_here a.partitions (a.threads + 1) bytes_here st s shown (made_unique a h) (next_st st.content)
-      x.thread from to t below from_few made names_it none can set refl (same_lists st.content lists) in
+      x.thread from to t below from_few made names_it counts_it none can set refl (same_lists st.content lists) in
       let held = handle_held s (suc x.thread) t
       (has_handle names_here a.partitions (a.threads + 1) bytes_here st s shown
       (made_unique a h) x.thread from t below from_few made names_it) in
@@ -190,7 +192,7 @@ module _ (a : Parts) (before rest : List Played) (x : Played) (h : IsFiled a) (p
   -- a step of the slot that a register names, whose turn the core can make
   abbrev GivenTurn : (t : Title) (p : Step) (lost : List Piece) (first : List Event) (list : Cache) (k : ℕ) → Type 0
   GivenTurn t p lost first list k =
-      (mid : State) × IsDone s k t p (Count k t p) lost (left_by p s t) first mid ×
+      (mid : State) × IsDone s k t p (count_event (is_plain_op x.rules x.op) k t p) lost (left_by p s t) first mid ×
       IsShown names_here (a.threads + 1) bytes_here (ledger_of a.partitions (given_st list)) mid
 
   turned_given : (m : Mark) (p : Step) (t : Title) (lost : List Piece) (first : ℕ → List Event) (list : Cache) → mark_of x ≡ Some m →
@@ -258,7 +260,7 @@ module _ (a : Parts) (before rest : List Played) (x : Played) (h : IsFiled a) (p
       (made_unique a h) x.thread reg t below reg_few made names_it) in
       let turned = free_stands names_here a.partitions (a.threads + 1) bytes_here st s shown (made_unique a h) (given_st list) x.thread
       reg t below made names_it can set (lists t made name (shown.words t held)) in
-      turned_given m Free t (own_piece t ∷ []) (λ k. poisons (content_count t) k t) list is refl (rw op refl) made name
+      turned_given m Free t (own_piece (names_here.plain t) t ∷ []) (λ k. poisons (content_count t) k t) list is refl (rw op refl) made name
       (shown.words t held) (λ k. poisons_beside (content_count t) k t)
       (right_after a before rest x h parts st f m Free st.content is refl (λ y ne. refl)
       (content_goes m Free is refl (λ e. absurd cc) (λ seen2 usable e.
@@ -309,8 +311,9 @@ module _ (a : Parts) (before rest : List Played) (x : Played) (h : IsFiled a) (p
       (made_unique a h) x.thread reg t below reg_few made names_it) in
       let P : ℕ → Type 0 = λ w. IsContent a.ps seen.slot (number_of w + 1) (content seen.slot) in
       let Q : ℕ → Type 0 = λ v. IsContent a.ps seen.slot (number_of seen.found.0 + 1) v in
-      turned_plays m Write t (own_piece t ∷ []) (own_piece t ∷ []) (λ k. stores (content_count t) 0 k t value) content is refl
-      (rw op refl) made name (shown.words t held) (λ k. stores_beside (content_count t) 0 k t value) no_acts
+      let own = own_piece (names_here.plain t) t in
+      turned_plays m Write t (own ∷ []) (own ∷ []) (λ k. stores (content_count t) 0 k t value) content is refl (rw op refl)
+      made name (shown.words t held) (λ k. stores_beside (content_count t) 0 k t value) no_acts
       (right_after a before rest x h parts st f m Write content is refl kept
       (λ held2. subst P found (subst Q (sym now) (content_written a h x seen reg value (among a before rest x h parts st f) op answer))))
       turned

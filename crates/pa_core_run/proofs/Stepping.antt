@@ -1,5 +1,5 @@
 -- The counted ops, one whole: the core can play each, and shows the state after it.
-use Rattle.std.proofs.Common.{◌≡◌, ℕ, suc, ◌+◌, ◌<◌, ◌≤◌, false, List, [], ◌∷◌, ◌++◌, get_or, refl, sym, ◌∙◌, ap, subst, arith, ◌⊎◌, inl, inr}
+use Rattle.std.proofs.Common.{◌≡◌, ℕ, suc, ◌+◌, ◌<◌, ◌≤◌, Bool, false, List, [], ◌∷◌, ◌++◌, get_or, refl, sym, ◌∙◌, ap, subst, arith, ◌⊎◌, inl, inr}
 use Rattle.std.proofs.lemmas.List.Sums.{sum_by-cons}
 use Rattle.pa_slot.specs.declared.word.SlotName.{SlotName}
 use Rattle.pa_slot.specs.declared.word.Step.{Step}
@@ -12,7 +12,7 @@ use Rattle.pa_machine.specs.declared.event.Event.TheVariants.{Count}
 use Rattle.pa_slot.specs.Count.{CanStep, stepped, refs_of}
 use Rattle.pa_slot.specs.Titles.{content_count, count_word, HasContentFrom}
 use Rattle.pa_slot.specs.Holdings.{Piece, RawPiece, FreePiece, OwnPiece, RefPiece, FreeTitle, OwnOf, OwnAs, RefOf, amount, held_in}
-use Rattle.pa_machine.specs.Events.{State, HasActor, Holds, of_actor, total_of}
+use Rattle.pa_machine.specs.Events.{State, HasActor, Holds, IsSealedAs, of_actor, total_of}
 use Rattle.pa_machine.specs.Trail.{IsGoodState}
 use Rattle.pa_slot.proofs.Same.{title_tells, state_self}
 use Rattle.pa_machine.proofs.Totals.{tally_of, total_exchanged}
@@ -26,7 +26,7 @@ use Rattle.pa_slot_effects.specs.Turns.{HoldsNone}
 use Rattle.pa_slot_effects.proofs.Handles.{over_part}
 use Rattle.pa_slot_effects.proofs.Words.{owns_one, points_one}
 use Rattle.pa_slot_effects.proofs.Balance.{none_owns}
-use Rattle.pa_core_steps.specs.Turns.{IsTurn, IsDone, left_by, poisons, stores}
+use Rattle.pa_core_steps.specs.Turns.{IsTurn, IsDone, left_by, poisons, stores, issue_event}
 use Rattle.pa_core_steps.proofs.Freeing.{frees_can_happen}
 use Rattle.pa_core_steps.proofs.Handling.{copies_can_happen, resets_can_happen}
 use Rattle.pa_core_steps.proofs.Storing.{writes_can_happen, issues_can_happen}
@@ -34,7 +34,7 @@ use Rattle.pa_core_steps.proofs.Turning.{turn_then}
 use Rattle.pa_core_run.specs.Ledger.{Titles, IsShown, IsPaid}
 use Rattle.pa_core_run.specs.Standing.{Standing, in_lists, ledger_of}
 use Rattle.pa_core_run.specs.Moves.{HaveNames}
-use Rattle.pa_core_run.proofs.Showing.{own_piece, no_pieces, free_pieces, ref_pieces, own_pieces, returned_pieces}
+use Rattle.pa_core_run.proofs.Showing.{own_piece, own_sealed, ArePieces, no_pieces, free_pieces, ref_pieces, own_pieces, returned_pieces}
 use Rattle.pa_core_run.proofs.Moving.{turn_shown}
 use Rattle.pa_core_run.proofs.Acting.{HasHandle, handle_held}
 use Rattle.pa_core_run.proofs.Paying.{owns_piece, points_piece, IsSet, set_paid}
@@ -104,6 +104,14 @@ module _ (names : Titles) (partitions actors bytes : ℕ) (st : Standing) (s : S
       let all = h.ref (suc k) t below made in
       omega arith
 
+  -- a clean Own that an actor has is sealed exactly if its title is plain
+  sealed_so : (k : ℕ) (t : Title) → k < actors → Holds s k (OwnAs t Clean) → IsSealedAs s k t (names.plain t)
+  sealed_so k t below own = own_sealed names actors bytes (ledger_of partitions st) s h k t below own
+
+  -- the piece of an Own of this title
+  abbrev pub owned : Title → Piece
+  owned t = own_piece (names.plain t) t
+
   -- a thread with an Own or a Ref of a made title's slot in a register has a handle to the title
   pub has_handle : (k reg : ℕ) (t : Title) → suc k < actors → reg < 64 → names.Made t → (st.regs k reg ≡ Own (name_of t)) ⊎
       (st.regs k reg ≡ Ref (name_of t)) → HasHandle s (suc k) t
@@ -122,22 +130,33 @@ module _ (names : Titles) (partitions actors bytes : ℕ) (st : Standing) (s : S
       let e = total_exchanged s.holdings after.holdings actor actor lost gained turn.holdings has has (OwnAs t Clean) in
       keeps (st.content (name_of t)) (h.contents t (omega arith))
 
-  -- a copy
+  -- an actor can copy with an Own that isn't sealed, or with a Ref
+  abbrev CanCopy : ℕ → Title → Type 0
+  CanCopy k t = (Holds s k (OwnAs t Clean) × IsSealedAs s k t false) ⊎ Holds s k (RefOf t)
+
+  -- a copy of a raw_ptr, or of an owner of a slot that isn't plain
   pub copy_stands : (next : Standing) (k from to : ℕ) (t : Title) → suc k < actors → from < 64 → names.Made t →
       (st.regs k from ≡ Own (name_of t)) ⊎ (st.regs k from ≡ Ref (name_of t)) →
-      HoldsNone (st.regs k to) → CanStep Copy (st.word (name_of t)) →
+      (st.regs k from ≡ Own (name_of t) → names.plain t ≡ false) → HoldsNone (st.regs k to) → CanStep Copy (st.word (name_of t)) →
       IsSet partitions st next k to (Ref (name_of t)) (name_of t) (stepped Copy (st.word (name_of t))) →
       next.content (name_of t) ≡ st.content (name_of t) →
       ((y : SlotName) → in_lists partitions next y (suc k) ≡ in_lists partitions st y (suc k)) →
       (after : State) × IsDone s (suc k) t Copy (Count (suc k) t Copy) [] (RefPiece t ∷ []) [] after ×
       IsShown names actors bytes (ledger_of partitions next) after
-  copy_stands next k from to t below few made names_it none can set content lists =
+  copy_stands next k from to t below few made names_it counted none can set content lists =
       let handle = has_handle k from t below few made names_it in
+      let unsealed : CanCopy (suc k) t = elim names_it [
+        | inl owner ↦ inl (
+          has_own k from t below few made owner,
+          subst (λ b. IsSealedAs s (suc k) t b) (counted owner)
+              (sealed_so (suc k) t below (has_own k from t below few made owner)),
+        )
+        | inr pointer ↦ inr (has_ref k from t below few made pointer)
+      ] in
       let held = handle_held s (suc k) t handle in
       let word = h.words t held in
       let has = has_actor (suc k) below in
-      let r = copies_can_happen s (suc k) t h.good has
-      (elim handle [ inl own ↦ inl (own, h.sealed (suc k) t below) | inr ref ↦ inr ref ]) (subst (λ w. CanStep Copy w) (sym word) can) in
+      let r = copies_can_happen s (suc k) t h.good has unsealed (subst (λ w. CanStep Copy w) (sym word) can) in
       let turn = done_turn s r.0 (suc k) t Copy (Count (suc k) t Copy) [] (RefPiece t ∷ []) [] h.good r.1 in
       let paid = set_paid names.Made partitions st next k to (Ref (name_of t)) t (stepped Copy (st.word (name_of t))) []
       (RefPiece t ∷ []) set
@@ -147,7 +166,8 @@ module _ (names : Titles) (partitions actors bytes : ℕ) (st : Standing) (s : S
         r.0,
         r.1,
         turn_shown names actors bytes (ledger_of partitions st) (ledger_of partitions next) s r.0 (suc k) t [] (RefPiece t ∷ [])
-            (stepped Copy (count_word s.words t)) (Count (suc k) t Copy ∷ []) h (omega arith) below held (no_pieces t) (ref_pieces t) turn
+            (stepped Copy (count_word s.words t)) (Count (suc k) t Copy ∷ []) h (omega arith) below held (no_pieces names.plain t)
+            (ref_pieces names.plain t) turn
             (subst (λ w. IsPaid names.Made (ledger_of partitions st) (ledger_of partitions next) (of_actor (suc k) [])
             (of_actor (suc k) (RefPiece t ∷ [])) t (stepped Copy w)) (sym word) paid)
             (λ some. subst (λ v. HasContentFrom r.0.words t 0 v) (sym content)
@@ -180,7 +200,7 @@ module _ (names : Titles) (partitions actors bytes : ℕ) (st : Standing) (s : S
         r.1,
         turn_shown names actors bytes (ledger_of partitions st) (ledger_of partitions next) s r.0 (suc k) t (RefPiece t ∷ [])
             (left_by Reset s t) (stepped Reset (count_word s.words t)) (Count (suc k) t Reset ∷ []) h (omega arith) below held
-            (ref_pieces t) (returned_pieces (stepped Reset (count_word s.words t)) t) turn
+            (ref_pieces names.plain t) (returned_pieces names.plain (stepped Reset (count_word s.words t)) t) turn
             (subst (λ w. IsPaid names.Made (ledger_of partitions st) (ledger_of partitions next) (of_actor (suc k) (RefPiece t ∷ []))
             (of_actor (suc k) (left_by Reset s t)) t (stepped Reset w)) (sym word) paid)
             (λ some. subst (λ v. HasContentFrom r.0.words t 0 v) (sym content)
@@ -195,7 +215,7 @@ module _ (names : Titles) (partitions actors bytes : ℕ) (st : Standing) (s : S
       ((u : Title) → names.Made u →
       in_lists partitions next (name_of u) (suc k) ≤ in_lists partitions st (name_of u) (suc k) + held_in (left_by Free s t)
       (FreeTitle u)) →
-      (after : State) × IsDone s (suc k) t Free (Count (suc k) t Free) (own_piece t ∷ []) (left_by Free s t)
+      (after : State) × IsDone s (suc k) t Free (Count (suc k) t Free) (owned t ∷ []) (left_by Free s t)
       (poisons (content_count t) (suc k) t) after ×
       IsShown names actors bytes (ledger_of partitions next) after
   free_stands next k reg t below made owner can set lists =
@@ -203,27 +223,27 @@ module _ (names : Titles) (partitions actors bytes : ℕ) (st : Standing) (s : S
       let held = own_title s (suc k) t Clean own in
       let word = h.words t held in
       let has = has_actor (suc k) below in
-      let r = frees_can_happen s (suc k) t false h.good has own (h.sealed (suc k) t below)
+      let r = frees_can_happen s (suc k) t (names.plain t) h.good has own (sealed_so (suc k) t below own)
       (subst (λ w. CanStep Free w) (sym word) can) in
-      let turn = done_turn s r.0 (suc k) t Free (Count (suc k) t Free) (own_piece t ∷ []) (left_by Free s t)
+      let turn = done_turn s r.0 (suc k) t Free (Count (suc k) t Free) (owned t ∷ []) (left_by Free s t)
       (poisons (content_count t) (suc k) t) h.good r.1 in
-      let paid = set_paid names.Made partitions st next k reg Freed t (stepped Free (st.word (name_of t))) (own_piece t ∷ [])
+      let paid = set_paid names.Made partitions st next k reg Freed t (stepped Free (st.word (name_of t))) (owned t ∷ [])
       (left_by Free s t) set
-      (λ u m. let p = owns_piece names.Made t u unique made m in let a = ap (owns (name_of u)) owner in omega arith)
-      (λ u m. let z : held_in (own_piece t ∷ []) (RefOf u) ≡ 0 = refl in omega arith)
-      (λ u m. let e = lists u m in let z : held_in (own_piece t ∷ []) (FreeTitle u) ≡ 0 = refl in omega arith) in (
+      (λ u m. let p = owns_piece (names.plain t) names.Made t u unique made m in let a = ap (owns (name_of u)) owner in omega arith)
+      (λ u m. let z : held_in (owned t ∷ []) (RefOf u) ≡ 0 = refl in omega arith)
+      (λ u m. let e = lists u m in let z : held_in (owned t ∷ []) (FreeTitle u) ≡ 0 = refl in omega arith) in (
         r.0,
         r.1,
-        turn_shown names actors bytes (ledger_of partitions st) (ledger_of partitions next) s r.0 (suc k) t (own_piece t ∷ [])
-            (left_by Free s t) (stepped Free (count_word s.words t)) _ h (omega arith) below held (own_pieces t)
-            (returned_pieces (stepped Free (count_word s.words t)) t) turn
+        turn_shown names actors bytes (ledger_of partitions st) (ledger_of partitions next) s r.0 (suc k) t (owned t ∷ [])
+            (left_by Free s t) (stepped Free (count_word s.words t)) _ h (omega arith) below held (own_pieces names.plain t)
+            (returned_pieces names.plain (stepped Free (count_word s.words t)) t) turn
             (subst (λ w. IsPaid names.Made (ledger_of partitions st) (ledger_of partitions next)
-            (of_actor (suc k) (own_piece t ∷ [])) (of_actor (suc k) (left_by Free s t)) t (stepped Free w)) (sym word) paid)
+            (of_actor (suc k) (owned t ∷ [])) (of_actor (suc k) (left_by Free s t)) t (stepped Free w)) (sym word) paid)
             (λ some.
-            let e = total_exchanged s.holdings r.0.holdings (suc k) (suc k) (own_piece t ∷ []) (left_by Free s t) turn.holdings has has
+            let e = total_exchanged s.holdings r.0.holdings (suc k) (suc k) (owned t ∷ []) (left_by Free s t) turn.holdings has has
             (OwnAs t Clean) in
             let z = returned_states (stepped Free (count_word s.words t)) t Clean in
-            let o = state_here false t Clean in
+            let o = state_here (names.plain t) t Clean in
             let part = (tally_of s.holdings).part t Clean in
             let few = few_owns s t h.good
             (own_of_state (total_of s) t Clean (tally_of s.holdings) (in_total s (suc k) (OwnAs t Clean) own)) in
@@ -237,7 +257,7 @@ module _ (names : Titles) (partitions actors bytes : ℕ) (st : Standing) (s : S
       IsSet partitions st next k reg (Own (name_of t)) (name_of t) (stepped Write (st.word (name_of t))) →
       next.content (name_of t) ≡ value →
       ((y : SlotName) → in_lists partitions next y (suc k) ≡ in_lists partitions st y (suc k)) →
-      (after : State) × IsDone s (suc k) t Write (Count (suc k) t Write) (own_piece t ∷ []) (own_piece t ∷ [])
+      (after : State) × IsDone s (suc k) t Write (Count (suc k) t Write) (owned t ∷ []) (owned t ∷ [])
       (stores (content_count t) 0 (suc k) t value) after
       × IsShown names actors bytes (ledger_of partitions next) after
   write_stands next k reg value t below made owner alone can set content lists =
@@ -245,52 +265,56 @@ module _ (names : Titles) (partitions actors bytes : ℕ) (st : Standing) (s : S
       let held = own_title s (suc k) t Clean own in
       let word = h.words t held in
       let has = has_actor (suc k) below in
-      let r = writes_can_happen s (suc k) t false value h.good has own (h.sealed (suc k) t below) (ap refs_of word ∙ alone)
-      (subst (λ w. CanStep Write w) (sym word) can) in
-      let turn = done_turn s r.0 (suc k) t Write (Count (suc k) t Write) (own_piece t ∷ []) (own_piece t ∷ [])
+      let r = writes_can_happen s (suc k) t (names.plain t) value h.good has own (sealed_so (suc k) t below own)
+      (ap refs_of word ∙ alone) (subst (λ w. CanStep Write w) (sym word) can) in
+      let turn = done_turn s r.0 (suc k) t Write (Count (suc k) t Write) (owned t ∷ []) (owned t ∷ [])
       (stores (content_count t) 0 (suc k) t value) h.good r.1 in
       let paid = set_paid names.Made partitions st next k reg (Own (name_of t)) t (stepped Write (st.word (name_of t)))
-      (own_piece t ∷ []) (own_piece t ∷ []) set
+      (owned t ∷ []) (owned t ∷ []) set
       (λ u m. let a = ap (owns (name_of u)) owner in omega arith)
-      (λ u m. let z : held_in (own_piece t ∷ []) (RefOf u) ≡ 0 = refl in omega arith)
+      (λ u m. let z : held_in (owned t ∷ []) (RefOf u) ≡ 0 = refl in omega arith)
       (λ u m. let e = lists (name_of u) in omega arith) in (
         r.0,
         r.1,
-        turn_shown names actors bytes (ledger_of partitions st) (ledger_of partitions next) s r.0 (suc k) t (own_piece t ∷ [])
-            (own_piece t ∷ []) (stepped Write (count_word s.words t)) _ h (omega arith) below held (own_pieces t) (own_pieces t) turn
+        turn_shown names actors bytes (ledger_of partitions st) (ledger_of partitions next) s r.0 (suc k) t (owned t ∷ [])
+            (owned t ∷ []) (stepped Write (count_word s.words t)) _ h (omega arith) below held (own_pieces names.plain t)
+            (own_pieces names.plain t) turn
             (subst (λ w. IsPaid names.Made (ledger_of partitions st) (ledger_of partitions next)
-            (of_actor (suc k) (own_piece t ∷ [])) (of_actor (suc k) (own_piece t ∷ [])) t (stepped Write w)) (sym word) paid)
+            (of_actor (suc k) (owned t ∷ [])) (of_actor (suc k) (owned t ∷ [])) t (stepped Write w)) (sym word) paid)
             (λ some. subst (λ v. HasContentFrom r.0.words t 0 v) (sym content) r.2),
       )
 
   -- an issue of a slot that the thread has in its lists
-  pub issue_stands : (next : Standing) (k reg : ℕ) (t : Title) → suc k < actors → names.Made t → HoldsNone (st.regs k reg) →
+  pub issue_stands : (next : Standing) (k reg : ℕ) (t : Title) (sealed : Bool) → names.plain t ≡ sealed → suc k < actors → names.Made t →
+      HoldsNone (st.regs k reg) →
       CanStep Issue (st.word (name_of t)) →
       IsSet partitions st next k reg (Own (name_of t)) (name_of t) (stepped Issue (st.word (name_of t))) → next.content (name_of t) ≡ 0 →
       Holds s (suc k) (FreeTitle t) →
       ((u : Title) → names.Made u →
       in_lists partitions next (name_of u) (suc k) + held_in (FreePiece t ∷ []) (FreeTitle u) ≤ in_lists partitions st (name_of u)
       (suc k)) →
-      (after : State) × IsDone s (suc k) t Issue (Count (suc k) t Issue) (FreePiece t ∷ []) (own_piece t ∷ [])
+      (after : State) × IsDone s (suc k) t Issue (issue_event sealed (suc k) t) (FreePiece t ∷ []) (own_piece sealed t ∷ [])
       (stores (content_count t) 0 (suc k) t 0) after
       × IsShown names actors bytes (ledger_of partitions next) after
-  issue_stands next k reg t below made none can set content free lists =
+  issue_stands next k reg t sealed plain below made none can set content free lists =
       let held = free_title s (suc k) t free in
       let word = h.words t held in
       let has = has_actor (suc k) below in
-      let r = issues_can_happen s (suc k) t false h.good has free (subst (λ w. CanStep Issue w) (sym word) can) in
-      let turn = done_turn s r.0 (suc k) t Issue (Count (suc k) t Issue) (FreePiece t ∷ []) (own_piece t ∷ [])
+      let r = issues_can_happen s (suc k) t sealed h.good has free (subst (λ w. CanStep Issue w) (sym word) can) in
+      let turn = done_turn s r.0 (suc k) t Issue (issue_event sealed (suc k) t) (FreePiece t ∷ []) (own_piece sealed t ∷ [])
       (stores (content_count t) 0 (suc k) t 0) h.good r.1 in
       let paid = set_paid names.Made partitions st next k reg (Own (name_of t)) t (stepped Issue (st.word (name_of t))) (FreePiece t ∷ [])
-      (own_piece t ∷ []) set
-      (λ u m. let p = owns_piece names.Made t u unique made m in let z : held_in (FreePiece t ∷ []) (OwnOf u) ≡ 0 = refl in omega arith)
+      (own_piece sealed t ∷ []) set
+      (λ u m. let p = owns_piece sealed names.Made t u unique made m in let z : held_in (FreePiece t ∷ []) (OwnOf u) ≡ 0 = refl in
+      omega arith)
       (λ u m. let z : held_in (FreePiece t ∷ []) (RefOf u) ≡ 0 = refl in omega arith)
       (λ u m. let e = lists u m in omega arith) in (
         r.0,
         r.1,
         turn_shown names actors bytes (ledger_of partitions st) (ledger_of partitions next) s r.0 (suc k) t (FreePiece t ∷ [])
-            (own_piece t ∷ []) (stepped Issue (count_word s.words t)) _ h (omega arith) below held (free_pieces t) (own_pieces t) turn
+            (own_piece sealed t ∷ []) (stepped Issue (count_word s.words t)) _ h (omega arith) below held (free_pieces names.plain t)
+            (subst (λ b. ArePieces names.plain t (own_piece b t ∷ [])) plain (own_pieces names.plain t)) turn
             (subst (λ w. IsPaid names.Made (ledger_of partitions st) (ledger_of partitions next) (of_actor (suc k) (FreePiece t ∷ []))
-            (of_actor (suc k) (own_piece t ∷ [])) t (stepped Issue w)) (sym word) paid)
+            (of_actor (suc k) (own_piece sealed t ∷ [])) t (stepped Issue w)) (sym word) paid)
             (λ some. subst (λ v. HasContentFrom r.0.words t 0 v) (sym content) r.2),
       )

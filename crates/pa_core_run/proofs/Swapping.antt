@@ -25,7 +25,7 @@ use Rattle.pa_core_steps.proofs.Joining.{run_join}
 use Rattle.pa_core_run.specs.Playing.{AreBeside}
 use Rattle.pa_core_run.specs.Ledger.{Ledger, Titles, IsShown, IsPaid}
 use Rattle.pa_core_run.specs.Moves.{HaveNames}
-use Rattle.pa_core_run.proofs.Showing.{own_piece, ref_pieces, own_pieces}
+use Rattle.pa_core_run.proofs.Showing.{own_piece, own_sealed, ref_pieces, own_pieces}
 use Rattle.pa_core_run.proofs.Moving.{hand_shown}
 use Rattle.pa_core_run.proofs.Stepping.{own_some}
 use Rattle.pa_core_run.proofs.Acting.{beside_both}
@@ -62,6 +62,10 @@ piece_at f k r ps thing x same j = elim (cases_eq j k) [
 ]
 
 module _ (names : Titles) (actors bytes : ℕ) (unique : HaveNames names.Made) where
+  -- the piece of an Own of this title
+  abbrev owned : Title → Piece
+  owned t = own_piece (names.plain t) t
+
   -- if nothing goes the ledger asks no more than before
   stays : (b next : Ledger) (s : State) (r : Reg) (from to : ℕ) → IsShown names actors bytes b s → ((x : SlotName) → owns x r ≡ 0)
       → ((x : SlotName) → points x r ≡ 0) → IsGone b next r from to → IsShown names actors bytes next s
@@ -127,35 +131,36 @@ module _ (names : Titles) (actors bytes : ℕ) (unique : HaveNames names.Made) w
       let clean = h.clean t some.0 (in_total s from (OwnAs t some.0) some.1) in
       let P : OwnState → Type 0 = λ a. Holds s from (OwnAs t a) in
       let has : Holds s from (OwnAs t Clean) = subst P clean some.1 in
-      let here : (u : Title) → names.Made u → held_in (own_piece t ∷ []) (OwnOf u) ≡ owns (name_of u) (Own x) = λ u m. owns_piece
-      names.Made t u unique made m ∙ ap (λ y. owns (name_of u) (Own y)) name in
-      let paid : IsPaid names.Made b next (of_actor from (own_piece t ∷ [])) (of_actor to (own_piece t ∷ [])) t
+      let here : (u : Title) → names.Made u → held_in (owned t ∷ []) (OwnOf u) ≡ owns (name_of u) (Own x) = λ u m. owns_piece
+      (names.plain t) names.Made t u unique made m ∙ ap (λ y. owns (name_of u) (Own y)) name in
+      let paid : IsPaid names.Made b next (of_actor from (owned t ∷ [])) (of_actor to (owned t ∷ [])) t
       (b.word (name_of t)) = record {
         own = λ j u m.
             let e = g.own j (name_of u) in
-            let p = piece_at owns from (Own x) (own_piece t ∷ []) (OwnOf u) (name_of u) (here u m) j in
-            let q = piece_at owns to (Own x) (own_piece t ∷ []) (OwnOf u) (name_of u) (here u m) j in
+            let p = piece_at owns from (Own x) (owned t ∷ []) (OwnOf u) (name_of u) (here u m) j in
+            let q = piece_at owns to (Own x) (owned t ∷ []) (OwnOf u) (name_of u) (here u m) j in
             omega arith;
         ref = λ j u m.
             let e = g.ref j (name_of u) in
-            let p = piece_at points from (Own x) (own_piece t ∷ []) (RefOf u) (name_of u) refl j in
-            let q = piece_at points to (Own x) (own_piece t ∷ []) (RefOf u) (name_of u) refl j in
+            let p = piece_at points from (Own x) (owned t ∷ []) (RefOf u) (name_of u) refl j in
+            let q = piece_at points to (Own x) (owned t ∷ []) (RefOf u) (name_of u) refl j in
             omega arith;
         free = λ j u up m.
             let e = g.free j (name_of u) in
-            let p = piece_at points from (Own x) (own_piece t ∷ []) (FreeTitle u) (name_of u) refl j in
-            let q = piece_at points to (Own x) (own_piece t ∷ []) (FreeTitle u) (name_of u) refl j in
+            let p = piece_at points from (Own x) (owned t ∷ []) (FreeTitle u) (name_of u) refl j in
+            let q = piece_at points to (Own x) (owned t ∷ []) (FreeTitle u) (name_of u) refl j in
             let z = no_points from x j (name_of u) in
             omega arith;
         word_left = g.word (name_of t);
         words = λ y ne. g.word y;
         contents = λ y ne. g.content y;
       } in
-      let r = hand_shown names names.Kept actors bytes b next s from to (OwnItem t) false t h from_below to_below has
-      (h.sealed from t from_below) (own_title s from t Clean has) (own_pieces t) paid (g.content (name_of t))
+      let r = hand_shown names names.Kept actors bytes b next s from to (OwnItem t) (names.plain t) t h from_below to_below has
+      (own_sealed names actors bytes b s h from t from_below has) (own_title s from t Clean has) (own_pieces names.plain t) paid
+      (g.content (name_of t))
       (λ u kept.
       let had = h.kept u kept in
-      let p = piece_at points from (Own x) (own_piece t ∷ []) (FreeTitle u) (name_of u) refl 0 in
+      let p = piece_at points from (Own x) (owned t ∷ []) (FreeTitle u) (name_of u) refl 0 in
       let z = no_points from x 0 (name_of u) in
       omega arith) in
       record {
@@ -206,7 +211,7 @@ module _ (names : Titles) (actors bytes : ℕ) (unique : HaveNames names.Made) w
         contents = λ y ne. g.content y;
       } in
       let r = hand_shown names names.Kept actors bytes b next s from to (RefItem t) false t h from_below to_below has tt
-      (ref_title s from t has) (ref_pieces t) paid (g.content (name_of t))
+      (ref_title s from t has) (ref_pieces names.plain t) paid (g.content (name_of t))
       (λ u kept.
       let had = h.kept u kept in
       let p = piece_at owns from (Ref x) (RefPiece t ∷ []) (FreeTitle u) (name_of u) refl 0 in

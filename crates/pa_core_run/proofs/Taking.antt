@@ -57,7 +57,7 @@ module _ (names : Titles) (actors bytes k : ℕ) (some : 0 < k) (below : k < act
       } in
       hand_shown (keeping names K) (kept_without K (t ∷ [])) actors bytes b (asking b free) s 0 k (FreeItem t) false t h
       (omega arith) below holds tt
-      (free_title s 0 t holds) (free_pieces t) paid refl
+      (free_title s 0 t holds) (free_pieces names.plain t) paid refl
       (λ u kept.
       let l = of_actor_here 0 (FreePiece t ∷ []) (FreeTitle u) in
       let none = (free_none t u (λ e. kept.1 (subst (λ (v : Title). Contains (t ∷ []) v) e (first_in t [])))).free in

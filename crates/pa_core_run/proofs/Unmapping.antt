@@ -161,7 +161,7 @@ module _ (a : Parts) (before rest : List Played) (x : Played) (h : IsFiled a) (p
           run = run_join mid back after b.events (Uncut 0 gone ∷ []) now.good b.run run;
           beside = beside_both (suc x.thread) b.events (Uncut 0 gone ∷ []) b.beside (inl refl, tt);
           shown = renamed (without_title names_mid gone (KeptIn (root_at a (x.line + 1))))
-              (names_next a before rest x h parts st f s shown) actors bytes ledger after (λ u made. made)
+              (names_next a before rest x h parts st f s shown) actors bytes ledger after (λ u. refl) (λ u made. made)
               (λ u there. there_next u there.0 there.1) (λ u kept. kept) raw;
         },
       )

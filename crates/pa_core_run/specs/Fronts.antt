@@ -11,7 +11,7 @@ use Rattle.pa_record.specs.Laws.{IsNameOut}
 use Rattle.pa_record.specs.Sound.{IsMade, IsMadeBy}
 use Rattle.pa_rules.specs.declared.played.Played.{Played}
 use Rattle.pa_rules.specs.Caches.{Caches, CachesTo, no_caches}
-use Rattle.pa_rules.specs.Registers.{AllRegs, RowsTo}
+use Rattle.pa_rules.specs.Registers.{AllRegs, RowsTo, plain_in}
 use Rattle.pa_rules.specs.Contents.{IsContent}
 use Rattle.pa_heap_effects.specs.Shared.{IsThere}
 use Rattle.pa_one_run.specs.Parts.{Parts, cell_line}
@@ -32,9 +32,11 @@ ThereIn root t = (p : ℕ) × IsThere (root p) t
 abbrev pub KeptIn : (ℕ → Root) → Title → Type 0
 KeptIn root t = (p : ℕ) × IsMade (root p) t × (IsNameOut (root p) (name_of t) → ⊥)
 
--- the titles of a run: those that its journals make, and those that exist and are kept in these roots
+-- The titles of a run: those that its journals make, and those that exist and are kept in these roots. One is plain if the run's
+-- records made its slot in a plain partition.
 abbrev pub titles_in : Parts → (ℕ → Root) → Titles
-titles_in a root = record { Made = MadeIn a; There = ThereIn root; Kept = KeptIn root }
+titles_in a root =
+    record { Made = MadeIn a; There = ThereIn root; Kept = KeptIn root; plain = λ t. plain_in a.ps (name_of t) }
 
 -- The state before line n, after some records and before the rest: the registers and lists to which these records lead and from which the
 -- rest goes on, what the last exchange of each cell gave, and the words and contents that the records left.

@@ -1,6 +1,6 @@
 -- Titles that come into the core and leave it, and free slots that go between a thread and the roots: what the lines that make
 -- entries of a journal do in the core besides their step.
-use Rattle.std.specs.Prelude.{◌≡◌, ℕ, ◌+◌, ◌%◌, ◌<◌, ◌≤◌, List, [], ◌∷◌, ◌++◌, Contains}
+use Rattle.std.specs.Prelude.{◌≡◌, ℕ, ◌+◌, ◌%◌, ◌<◌, ◌≤◌, Bool, List, [], ◌∷◌, ◌++◌, Contains}
 use Rattle.pa_slot.specs.declared.word.SlotName.{SlotName}
 use Rattle.pa_slot.specs.declared.title.Title.{Title}
 use Rattle.pa_machine.specs.declared.event.Event.{Event}
@@ -36,9 +36,10 @@ named_in x (t ∷ ts) = once x (name_of t) + named_in x ts
 abbrev pub asking : Ledger → (ℕ → SlotName → ℕ) → Ledger
 asking b free = record b { free = free }
 
--- titles by lists: those that are made at some time, those that exist, and those that actor 0 has for the roots
-abbrev pub listed_titles : List Title → List Title → List Title → Titles
-listed_titles made there kept = record { Made = Contains made; There = Contains there; Kept = Contains kept }
+-- titles by lists: those that are made at some time, those that exist, and those that actor 0 has for the roots; and which are plain
+abbrev pub listed_titles : (Title → Bool) → List Title → List Title → List Title → Titles
+listed_titles plain made there kept =
+    record { Made = Contains made; There = Contains there; Kept = Contains kept; plain = plain }
 
 -- What is required of a title that is cut: it is none of those that exist, and lies apart from them, well formed in the region.
 pub record CanBeCut (names : Titles) (bytes : ℕ) (t : Title) : Type 0 where
@@ -58,38 +59,40 @@ pub record IsReached (names : Titles) (actors bytes : ℕ) (b : Ledger) (s : Sta
 -- Titles whose slots' words are 0 can be cut out of raw bytes, one after the other.
 abbrev pub TitlesCanBeCut : Type 0
 TitlesCanBeCut =
-    (ts made there kept : List Title) (actors bytes k : ℕ) (b : Ledger) (s : State) →
-    IsShown (listed_titles made there kept) actors bytes b s → 0 < actors →
-    ((t : Title) → Contains ts t → CanBeCut (listed_titles made there kept) bytes t × (b.word (name_of t) ≡ 0)) → AllApart ts →
-    (after : State) × IsReached (listed_titles made (there ++ ts) (kept ++ ts)) actors bytes b s k after
+    (plain : Title → Bool) (ts made there kept : List Title) (actors bytes k : ℕ) (b : Ledger) (s : State) →
+    IsShown (listed_titles plain made there kept) actors bytes b s → 0 < actors →
+    ((t : Title) → Contains ts t → CanBeCut (listed_titles plain made there kept) bytes t × (b.word (name_of t) ≡ 0)) → AllApart ts →
+    (after : State) × IsReached (listed_titles plain made (there ++ ts) (kept ++ ts)) actors bytes b s k after
 
 -- A free title that actor 0 has can be uncut: it exists no more, and actor 0 has it for the roots no more.
 abbrev pub TitlesCanBeUncut : Type 0
 TitlesCanBeUncut =
-    (t : Title) (made there kept there_then kept_then : List Title) (actors bytes k : ℕ) (b : Ledger) (s : State) →
-    IsShown (listed_titles made there kept) actors bytes b s → 0 < actors → Holds s 0 (FreeTitle t) →
+    (plain : Title → Bool) (t : Title) (made there kept there_then kept_then : List Title) (actors bytes k : ℕ) (b : Ledger)
+    (s : State) →
+    IsShown (listed_titles plain made there kept) actors bytes b s → 0 < actors → Holds s 0 (FreeTitle t) →
     ((u : Title) → Contains there u → (t ≡ u → ⊥) → Contains there_then u) →
     ((u : Title) → Contains kept_then u → Contains kept u × (t ≡ u → ⊥)) →
-    (after : State) × IsReached (listed_titles made there_then kept_then) actors bytes b s k after
+    (after : State) × IsReached (listed_titles plain made there_then kept_then) actors bytes b s k after
 
 -- What a ledger loses of a thread's free slots can go to the roots: actor 0 has these titles then.
 abbrev pub SlotsCanGoBack : Type 0
 SlotsCanGoBack =
-    (ts made there kept : List Title) (actors bytes k : ℕ) (b : Ledger) (rest : ℕ → SlotName → ℕ) (s : State) →
-    0 < k → k < actors → HaveNames (Contains made) → IsShown (listed_titles made there kept) actors bytes b s →
+    (plain : Title → Bool) (ts made there kept : List Title) (actors bytes k : ℕ) (b : Ledger) (rest : ℕ → SlotName → ℕ) (s : State) →
+    0 < k → k < actors → HaveNames (Contains made) → IsShown (listed_titles plain made there kept) actors bytes b s →
     ((t : Title) → Contains ts t → Contains made t) →
     ((x : SlotName) → rest k x + named_in x ts ≤ b.free k x) → ((j : ℕ) (x : SlotName) → (j ≡ k → ⊥) → rest j x ≤ b.free j x) →
-    (after : State) × IsReached (listed_titles made there (kept ++ ts)) actors bytes (asking b rest) s k after
+    (after : State) × IsReached (listed_titles plain made there (kept ++ ts)) actors bytes (asking b rest) s k after
 
 -- Titles that actor 0 has for the roots can come to a thread.
 abbrev pub SlotsCanCome : Type 0
 SlotsCanCome =
-    (ts made there kept kept_then : List Title) (actors bytes k : ℕ) (b : Ledger) (later : ℕ → SlotName → ℕ) (s : State) →
-    0 < k → k < actors → HaveNames (Contains made) → IsShown (listed_titles made there kept) actors bytes b s →
+    (plain : Title → Bool) (ts made there kept kept_then : List Title) (actors bytes k : ℕ) (b : Ledger) (later : ℕ → SlotName → ℕ)
+    (s : State) →
+    0 < k → k < actors → HaveNames (Contains made) → IsShown (listed_titles plain made there kept) actors bytes b s →
     ((t : Title) → Contains ts t → Contains made t × Contains kept t) → StandOnce ts →
     ((u : Title) → Contains kept_then u → Contains kept u × (Contains ts u → ⊥)) →
     ((x : SlotName) → later k x ≤ b.free k x + named_in x ts) → ((j : ℕ) (x : SlotName) → (j ≡ k → ⊥) → later j x ≤ b.free j x) →
-    (after : State) × IsReached (listed_titles made there kept_then) actors bytes (asking b later) s k after
+    (after : State) × IsReached (listed_titles plain made there kept_then) actors bytes (asking b later) s k after
 
 -- The four laws of this file hold: titles can be cut and uncut, and free slots can go back and come.
 pub record TitlesComeAndGo : Type 0 where

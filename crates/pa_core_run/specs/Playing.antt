@@ -1,7 +1,8 @@
 -- How the records of a run are played as events of the core: each op of a thread by its own actor, and by actor 0, which has
 -- the raw bytes, the free slots of the roots, and what lies in cells. Thread k is actor k + 1.
-use Rattle.std.specs.Prelude.{◌≡◌, ℕ, ◌+◌, ◌*◌, ◌<◌, ◌⊎◌, List, [], ◌∷◌, ◌++◌, Option, Some, None}
+use Rattle.std.specs.Prelude.{◌≡◌, ℕ, ◌+◌, ◌*◌, ◌<◌, ◌⊎◌, Bool, List, [], ◌∷◌, ◌++◌, Option, Some, None}
 use Rattle.pa_slot.specs.declared.word.Step.{Step}
+use Rattle.pa_slot.specs.declared.word.Step.TheVariants.{Issue, Copy, Reset, Free, Write}
 use Rattle.pa_slot.specs.declared.title.Title.{Title}
 use Rattle.pa_machine.specs.declared.event.Event.{Event}
 use Rattle.pa_machine.specs.declared.event.Event.TheVariants.{Count, Sealed, Store, Poison, Load, Hand, Cut, Uncut}
@@ -9,6 +10,7 @@ use Rattle.pa_slot.specs.Run.{Mark}
 use Rattle.pa_slot.specs.Titles.{content_count, content_place, count_place, content_at, count_word}
 use Rattle.pa_machine.specs.Events.{State, IsStart}
 use Rattle.pa_machine.specs.Trail.{IsGoodState, IsRunTo}
+use Rattle.pa_core_steps.specs.Turns.{issue_event}
 use Rattle.pa_trace.specs.declared.script.Op.{Op}
 use Rattle.pa_trace.specs.declared.script.Op.TheVariants as ops
 use Rattle.pa_trace.specs.declared.script.Trace.{Trace}
@@ -20,6 +22,7 @@ use Rattle.pa_record.specs.Spans.{name_of}
 use Rattle.pa_record.specs.Sound.{IsMadeBy}
 use Rattle.pa_rules.specs.declared.played.Played.{Played}
 use Rattle.pa_rules.specs.Played.{mark_of}
+use Rattle.pa_rules.specs.Registers.{is_plain_op}
 use Rattle.pa_rules.specs.Told.{Told, told_by, records_of}
 use Rattle.pa_rules.specs.Legal.{IsFileRun}
 
@@ -29,10 +32,18 @@ read_by (ops.Read reg place) (answers.Value seen value) = Some (place, value)
 read_by (ops.Read reg place) (answers.Dangling seen value) = Some (place, value)
 read_by op answer = None
 
--- the event of an actor's step on the count word of a title, or of a look at it if there is no step
-abbrev pub step_event : ℕ → Title → Option Step → Event
-step_event actor t None = Load actor (8 * count_place t)
-step_event actor t (Some step) = Count actor t step
+-- the event of an actor's step on the count word of a title; an issue seals the Own if it is of a plain slot
+abbrev pub count_event : Bool → ℕ → Title → Step → Event
+count_event plain actor t Issue = issue_event plain actor t
+count_event plain actor t Copy = Count actor t Copy
+count_event plain actor t Reset = Count actor t Reset
+count_event plain actor t Free = Count actor t Free
+count_event plain actor t Write = Count actor t Write
+
+-- the event of such a step, or of a look at the count word if there is no step
+abbrev pub step_event : Bool → ℕ → Title → Option Step → Event
+step_event plain actor t None = Load actor (8 * count_place t)
+step_event plain actor t (Some step) = count_event plain actor t step
 
 -- the load of the word of the content that was read, if one was
 abbrev pub read_events : ℕ → Title → Option (ℕ × ℕ) → List Event
@@ -40,13 +51,14 @@ read_events actor t None = []
 read_events actor t (Some read) = Load actor (8 * content_place t read.0) ∷ []
 
 -- the step on the count word, or the look at it, and then the read, and no events if no slot is reported
-abbrev pub mark_events : ℕ → Title → Option Mark → Option (ℕ × ℕ) → List Event
-mark_events actor t None read = []
-mark_events actor t (Some mark) read = step_event actor t mark.step ∷ read_events actor t read
+abbrev pub mark_events : Bool → ℕ → Title → Option Mark → Option (ℕ × ℕ) → List Event
+mark_events plain actor t None read = []
+mark_events plain actor t (Some mark) read = step_event plain actor t mark.step ∷ read_events actor t read
 
--- the events that a record reports of a slot with this title, by the actor of its thread
+-- The events that a record reports of a slot with this title, by the actor of its thread. One that made a slot in a plain
+-- partition reports an issue with a sealed Own.
 abbrev pub told_events : Played → Title → List Event
-told_events x t = mark_events (x.thread + 1) t (mark_of x) (read_by x.op x.answer)
+told_events x t = mark_events (is_plain_op x.rules x.op) (x.thread + 1) t (mark_of x) (read_by x.op x.answer)
 
 -- the words have what was read of the title's content, if anything was
 abbrev pub HasRead : List ℕ → Title → Option (ℕ × ℕ) → Type 0

@@ -34,3 +34,4 @@ pub mod PurgeFiled
 pub mod Only
 pub mod Knowing
 pub mod PlayedRuns
+pub mod Plain

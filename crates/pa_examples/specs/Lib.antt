@@ -6,6 +6,8 @@ pub mod WorkedHeld
 pub mod WorkedKnown
 pub mod WorkedEarly
 pub mod WorkedPlayed
+pub mod WorkedPlain
 pub mod WrongRuns
 pub mod FirstVersion
+pub mod Plain
 pub mod told

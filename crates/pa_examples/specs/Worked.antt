@@ -79,6 +79,7 @@ direct_map_trace =
       region = 1;
       partitions = 1;
       threads = 1;
+      plain = 0;
       lines =
           Do 0 (ops.Alloc 0 0 2000000)
           ∷ Do 0 (ops.Free 0)
@@ -129,6 +130,7 @@ two_threads_trace =
       region = 1;
       partitions = 1;
       threads = 2;
+      plain = 0;
       lines =
           Do 0 (ops.Alloc 0 0 8)
           ∷ Do 0 (ops.Copy 0 1)

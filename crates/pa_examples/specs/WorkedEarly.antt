@@ -25,6 +25,7 @@ early_read_trace =
       region = 1;
       partitions = 1;
       threads = 2;
+      plain = 0;
       lines =
           Do 0 (ops.Alloc 0 0 8)
           ∷ Do 0 (ops.Copy 0 1)

@@ -19,6 +19,7 @@ purge_trace =
       region = 1;
       partitions = 1;
       threads = 1;
+      plain = 0;
       lines =
           Do 0 (ops.Alloc 0 0 8)
           ∷ Do 0 (ops.Free 0)

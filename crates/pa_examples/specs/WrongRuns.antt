@@ -37,6 +37,7 @@ maps_trace = record {
   region = 1;
   partitions = 1;
   threads = 1;
+  plain = 0;
   lines = Do 0 (ops.Alloc 0 0 2000000) ∷ Do 0 (ops.Free 0) ∷ Do 0 (ops.Alloc 0 0 2000000) ∷ Do 0 (ops.Free 0) ∷ [];
 }
 
@@ -55,7 +56,14 @@ MapsFail = (r : Run) → told_by r ≡ maps_told → FailsAt clauses.Caches maps
 
 -- Two entries of the journal name an entry of the pool that isn't there.
 abbrev pub refused_trace : Trace
-refused_trace = record { version = 1; region = 1; partitions = 1; threads = 1; lines = Do 0 (ops.Alloc 0 0 1) ∷ Do 0 (ops.Free 0) ∷ [] }
+refused_trace = record {
+  version = 1;
+  region = 1;
+  partitions = 1;
+  threads = 1;
+  plain = 0;
+  lines = Do 0 (ops.Alloc 0 0 1) ∷ Do 0 (ops.Free 0) ∷ [];
+}
 
 -- where eight slots start: 16 bytes apart from byte 16384 on, in super page 0
 abbrev pub first_slots : List ℕ
@@ -76,7 +84,14 @@ RefusedFails =
 
 -- An allocation from partition 1 says that it got a slot that partition 0 filled.
 abbrev pub astray_trace : Trace
-astray_trace = record { version = 1; region = 2; partitions = 2; threads = 1; lines = Do 0 (ops.Alloc 0 0 8) ∷ Do 0 (ops.Alloc 1 1 8) ∷ [] }
+astray_trace = record {
+  version = 1;
+  region = 2;
+  partitions = 2;
+  threads = 1;
+  plain = 0;
+  lines = Do 0 (ops.Alloc 0 0 8) ∷ Do 0 (ops.Alloc 1 1 8) ∷ [];
+}
 
 -- where eight slots start: 16 bytes apart from byte 2113536 on, in super page 1
 abbrev pub second_slots : List ℕ

@@ -1,9 +1,11 @@
 ghost use Rattle.pa_examples.specs.FirstVersion.{FirstVersionIsKept};
+ghost use Rattle.pa_examples.specs.Plain.{PlainPartitionsAreLast};
 ghost use Rattle.pa_examples.specs.Worked.{DirectMapIsFiled, DirectMapIsTold, TwoThreadsAreLegal, TwoThreadsAreTold};
 ghost use Rattle.pa_examples.specs.WorkedEarly.{EarlyReadIsLegal, EarlyReadIsTold};
 ghost use Rattle.pa_examples.specs.WorkedHeld.{MapIsHeld, WordsAreHeld};
 ghost use Rattle.pa_examples.specs.WorkedKnown.{DirectMapIsKnown, TwoThreadsAreKnown};
 ghost use Rattle.pa_examples.specs.WorkedOnly.{OnlyDirectMaps, OnlyPurge, OnlyWrites};
+ghost use Rattle.pa_examples.specs.WorkedPlain.{PlainRunIsRegistered};
 ghost use Rattle.pa_examples.specs.WorkedPlayed.{WorkedRunsArePlayed};
 ghost use Rattle.pa_examples.specs.WorkedPurge.{PurgeIsFiled, PurgeIsTold};
 ghost use Rattle.pa_examples.specs.WorkedWrites.{WritesAreFiled, WritesAreTold};
@@ -77,6 +79,12 @@ pub fn worked_runs_are_known()
 /// Three runs of one thread, which were worked out by hand, have a run of the core.
 pub fn worked_runs_are_played()
     ensures { WorkedRunsArePlayed }
+{}
+
+/// In a run of version 3 with a plain partition and one that isn't, which was worked out by hand, each answer is the one that
+/// its registers require: a copy of an owner is uncounted in the one, makes a raw_ptr in the other, and is filled before either.
+pub fn plain_run_is_registered()
+    ensures { PlainRunIsRegistered }
 {}
 
 /// A run that was worked out by hand, in which a direct map is said to come again, fails caches at the record that says so.
@@ -161,8 +169,14 @@ pub fn direct_map_closes()
     ensures { DirectMapIsClosed }
 {}
 
-/// Version 2 left version 1 as it was: which class a request has, how many slots of a class a thread keeps,
-/// and what sums and purges over all classes come to.
+/// Versions 2 and 3 left version 1 as it was: which class a request has, how many slots of a class a thread keeps, what sums and
+/// purges over all classes come to, and that each slot has a reference count: no partition is plain.
 pub fn first_version_is_kept()
     ensures { FirstVersionIsKept }
+{}
+
+/// The partitions without reference counts are the last ones of a trace, as many as it tells: an allocation asks for a slot there
+/// exactly if its partition is one of them.
+pub fn plain_partitions_are_last()
+    ensures { PlainPartitionsAreLast }
 {}

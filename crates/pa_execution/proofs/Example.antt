@@ -48,7 +48,7 @@ no_act o n fits q = elim (cases_lt q 4) [
 does : (n : ℕ) → Does small_stock small_stock (small_record n)
 does n = record {
   thread = refl;
-  same = (refl, refl);
+  same = (refl, refl, refl);
   version = refl;
   stakes = λ k. refl;
   logs = λ k. elim (cases_Bool (eqb k 0)) [
@@ -82,7 +82,7 @@ does n = record {
     told = refl;
     row = (refl, λ k. refl);
     lists = (no_act o n fits, λ p class. refl);
-    reader = tt;
+    reader = λ s own e. absurd cc;
     unmaps = λ seen p asked slot e is. absurd cc;
     makes = λ p m e low among. absurd (not_in_none m among);
     home = λ m is. absurd cc;
@@ -128,12 +128,20 @@ two_phases P a b n low high = elim (cases_eq n 1) [
 no_titles : (p class : ℕ) → titles_in (record { version = 1; lists = [] }) p class ≡ []
 no_titles p class = elim (cases_Bool (is_class 1 class)) [ inl y ↦ rw y refl | inr m ↦ rw m refl ]
 
-begins : BeginsNew 0 1 1 (small_worker [])
+begins : BeginsNew small_trace 0 (small_worker [])
 begins = record {
   lines = 2;
   view = small_view;
   new = record {
-    stock = record { thread_is = refl; partitions_are = refl; version_is = refl; view = refl; registers = λ i. refl; lists = no_titles };
+    stock = record {
+      thread_is = refl;
+      partitions_are = refl;
+      plain_is = refl;
+      version_is = refl;
+      view = refl;
+      registers = λ i. refl;
+      lists = no_titles;
+    };
     records = refl;
     room = refl;
     going = refl;
@@ -190,7 +198,7 @@ hears n k low high =
 
 course : IsCourse small_trace 2 small_course
 course = record {
-  begins = λ k few. let first : 0 ≡ k = omega arith in subst (λ j. BeginsNew j 1 1 (small_worker [])) first begins;
+  begins = λ k few. let first : 0 ≡ k = omega arith in subst (λ j. BeginsNew small_trace j (small_worker [])) first begins;
   plays = λ n k low high few. plays n low high;
   lines = lines;
   settled = λ n k low high few. refl;
@@ -205,7 +213,7 @@ closes = record { aware = seat_aware; every = every; logs = λ k. refl; sees = s
 limits : IsWithinLimits small_trace
 limits = record {
   version = (omega arith, omega arith);
-  head = ((omega arith, omega arith), (omega arith, omega arith), (omega arith, omega arith));
+  head = ((omega arith, omega arith), (omega arith, omega arith), (omega arith, omega arith), omega arith);
   lines = ((omega arith, (omega arith, omega arith)), (tt, ((omega arith, (omega arith, omega arith)), tt)));
   few = omega arith;
 }

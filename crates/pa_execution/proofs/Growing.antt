@@ -40,7 +40,7 @@ with_phase n starts plays ends seat c = record {
 abbrev no_phase : (ℕ → WorkerValue) → View → Course
 no_phase starts seat = record { starts = λ n k. starts k; plays = λ n k. []; ends = λ n k. starts k; seats = λ n. seat }
 
-begins : (t : Trace) (starts : ℕ → WorkerValue) → ((k : ℕ) → k < t.threads → BeginsNew k t.partitions t.version (starts k)) → (c : Course) ×
+begins : (t : Trace) (starts : ℕ → WorkerValue) → ((k : ℕ) → k < t.threads → BeginsNew t k (starts k)) → (c : Course) ×
     HasBegun t 0 c starts
 begins t starts new = (
   no_phase starts (starts 0).stock.view,
@@ -85,10 +85,10 @@ module _ (t : Trace) (n : ℕ) (c : Course) (starts ends : ℕ → WorkerValue) 
   last_seats : (m : ℕ) → m ≡ suc n → d.seats m ≡ seat
   last_seats m e = rw (eq-eqb m (suc n) e) refl
 
-  first_new : (k : ℕ) → k < t.threads → BeginsNew k t.partitions t.version (d.starts 1 k)
+  first_new : (k : ℕ) → k < t.threads → BeginsNew t k (d.starts 1 k)
   first_new k few = elim (cases_eq n 0) [
-    | inl e ↦ subst (λ w. BeginsNew k t.partitions t.version w) (sym (last_starts 1 k (omega arith))) (begun.new e k few)
-    | inr ne ↦ subst (λ w. BeginsNew k t.partitions t.version w) (sym (agree.starts 1 k (omega arith) (omega arith)))
+    | inl e ↦ subst (λ w. BeginsNew t k w) (sym (last_starts 1 k (omega arith))) (begun.new e k few)
+    | inr ne ↦ subst (λ w. BeginsNew t k w) (sym (agree.starts 1 k (omega arith) (omega arith)))
         (begun.course.begins k few)
   ]
 

@@ -95,7 +95,7 @@ pub keeps_rules : (w v : WorkerValue) (xs : List ToldRecord) → PlaysAll w xs v
 keeps_rules w v [] same = ap (λ (z : WorkerValue). rules_at z.stock) same
 keeps_rules w v (x ∷ xs) (next, one, more) =
     keeps_rules next v xs more
-    ∙ ap₂ (λ version partitions. record { version = version; plain_from = partitions }) one.does.version one.does.same.1
+    ∙ ap₂ (λ version plain_from. record { version = version; plain_from = plain_from }) one.does.version one.does.same.2
 
 -- its log has the log segments more
 abbrev pub stretches : List ToldRecord → List Entry

@@ -39,11 +39,11 @@ pub record HasSeenAll (first second : View) : Type 0 where
   pub lists : (q : ℕ) → IsBeginning (list_of q first) (list_of q second)
   pub seen : (u : Title) → seen_of first u ≤ seen_of second u
 
--- the worker of thread k before its first phase: it has played nothing, and its log is empty
-pub record BeginsNew (k partitions version : ℕ) (w : WorkerValue) : Type 0 where
+-- the worker of the trace's thread k before its first phase: it has played nothing, and its log is empty
+pub record BeginsNew (t : Trace) (k : ℕ) (w : WorkerValue) : Type 0 where
   pub lines : ℕ
   pub view : View
-  pub new : IsNewWorker k partitions version lines view w
+  pub new : IsNewWorker k t.partitions (rules_of t).plain_from t.version lines view w
   pub log : log_of k view ≡ []
 
 -- At a phase's end each worker has lent its stake to the main seat. That has every stake, each with its worker's log, or an empty log
@@ -71,7 +71,7 @@ pub record Hears (k : ℕ) (seat : View) (before after : WorkerValue) : Type 0 w
 --   tells, hears: then all lend their stakes to the main seat, and if a phase follows they get them back
 --   keeps: the main seat forgets nothing
 pub record IsCourse (t : Trace) (phases : ℕ) (c : Course) : Type 0 where
-  pub begins : (k : ℕ) → k < t.threads → BeginsNew k t.partitions t.version (c.starts 1 k)
+  pub begins : (k : ℕ) → k < t.threads → BeginsNew t k (c.starts 1 k)
   pub plays : (n k : ℕ) → 1 ≤ n → n ≤ phases → k < t.threads → PlaysAll (c.starts n k) (c.plays n k) (c.ends n k)
   pub lines : (n k : ℕ) → 1 ≤ n → n ≤ phases → k < t.threads → map op_line_of (played_in (c.plays n k)) ≡ lines_in (rules_of t) t.lines n k
   pub settled : (n k : ℕ) → 1 ≤ n → n ≤ phases → k < t.threads → (c.ends n k).owed ≡ none_owed

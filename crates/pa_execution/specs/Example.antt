@@ -30,6 +30,7 @@ small_trace = record {
   region = 1;
   partitions = 1;
   threads = 1;
+  plain = 0;
   lines = Do 0 (Copy 0 1) ∷ Phase ∷ Do 0 (Copy 0 1) ∷ [];
 }
 
@@ -53,7 +54,14 @@ small_view = record {
 
 -- the state of thread 0: one partition, this view, no registers and no caches
 abbrev pub small_stock : StockValue
-small_stock = record { thread = 0; partitions = 1; view = small_view; registers = []; caches = record { version = 1; lists = [] } }
+small_stock = record {
+  thread = 0;
+  partitions = 1;
+  plain_from = 1;
+  view = small_view;
+  registers = [];
+  caches = record { version = 1; lists = [] };
+}
 
 -- the worker with these records
 abbrev pub small_worker : List Entry → WorkerValue

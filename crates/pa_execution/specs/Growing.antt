@@ -20,7 +20,7 @@ pub record Agree (phases : ℕ) (c d : Course) : Type 0 where
 -- The first `phases` phases went so, and these workers begin the next one: new ones in the first phase, else those of the last one.
 pub record HasBegun (t : Trace) (phases : ℕ) (c : Course) (starts : ℕ → WorkerValue) : Type 0 where
   pub course : IsCourse t phases c
-  pub new : phases ≡ 0 → (k : ℕ) → k < t.threads → BeginsNew k t.partitions t.version (starts k)
+  pub new : phases ≡ 0 → (k : ℕ) → k < t.threads → BeginsNew t k (starts k)
   pub heard : 1 ≤ phases → (k : ℕ) → k < t.threads → Hears k (c.seats phases) (c.ends phases k) (starts k)
 
 -- The first `phases` phases went so, and left these workers, before they lent their stakes, and this main seat, after all had.
@@ -40,7 +40,7 @@ PlaysPhase t n k before after =
 --   ends: when each has played its lines of the next phase and lent its stake, that is over, and those before are what they were
 --   goes_on: when each has its stake back, the next one begins
 pub record CoursesGrow : Type 0 where
-  pub begins : (t : Trace) (starts : ℕ → WorkerValue) → ((k : ℕ) → k < t.threads → BeginsNew k t.partitions t.version (starts k)) →
+  pub begins : (t : Trace) (starts : ℕ → WorkerValue) → ((k : ℕ) → k < t.threads → BeginsNew t k (starts k)) →
       (c : Course) × HasBegun t 0 c starts
   pub ends : (t : Trace) (n : ℕ) (c : Course) (starts ends : ℕ → WorkerValue) (seat : View) → HasBegun t n c starts →
       ((k : ℕ) → k < t.threads → PlaysPhase t (n + 1) k (starts k) (ends k)) → HasHeardAll t.threads ends seat →

@@ -16,7 +16,7 @@ use Rattle.pa_region.specs.declared.view.View.{View}
 use Rattle.pa_region.specs.Views.{stake_of}
 use Rattle.pa_region.specs.Hands.{united}
 use Rattle.pa_region.specs.Aware.{IsAware}
-use Rattle.pa_region.specs.Leaves.{CountLeaves}
+use Rattle.pa_region.specs.Leaves.{CountLeaves, SealedLeaves}
 use Rattle.pa_cells.specs.declared.handle.Handle.{Handle}
 use Rattle.pa_op_specs.specs.Stocks.{StockValue, IsStock, HasNoHandle, register_in, listed_slot}
 use Rattle.pa_op_specs.specs.Workers.{HasItsStake}
@@ -62,14 +62,14 @@ front_issues p c r t s mid front low came = record {
   budget = let e : mid.view.budget ≡ s.view.budget = ap (λ (z : StockValue). z.view.budget) front.after_is in omega arith;
 }
 
-pub front_does : CountLeaves → (line size p c r : ℕ) (t : Title) (s mid after : StockValue) (answer : Answer) → TakesFront p c t s mid →
-    p < s.partitions → Came s mid r →
+pub front_does : CountLeaves → SealedLeaves → (line size p c r : ℕ) (t : Title) (s mid after : StockValue) (answer : Answer) →
+    TakesFront p c t s mid → p < s.partitions → Came s mid r →
     size ≤ greatest_size → IsClassIn s.caches.version (max size 1 + 8) c → Issues (listed_slot p c t) r answer mid after →
     DoesOp line (ops.Alloc r p size) answer s after
-front_does counts line size p c r t s mid after answer front inner came few class issue =
+front_does counts seals line size p c r t s mid after answer front inner came few class issue =
     let low : p < 4 = let most = came.stock.partitions in omega arith in
     let can = front_issues p c r t s mid front low came in
-    issued_does counts line size r (listed_slot p c t) [] [] s mid after s.view (with_listed p c front.rest s.caches) answer
+    issued_does counts seals line size r (listed_slot p c t) [] [] s mid after s.view (with_listed p c front.rest s.caches) answer
     (front_brings line size p c t s mid front came.stock low class) front.after_is came.now can.stake can.back issue inner
     came.below came.bare few
 
@@ -104,11 +104,11 @@ fill_issues line p c r t s mid f low came =
           let k = asking.keeps.budget in omega arith;
     }
 
-pub fill_does : CountLeaves → (line size p c r words : ℕ) (t : Title) (s mid after : StockValue) (answer : Answer) →
+pub fill_does : CountLeaves → SealedLeaves → (line size p c r words : ℕ) (t : Title) (s mid after : StockValue) (answer : Answer) →
     FillsList line p c t s mid → p < s.partitions → Came s mid r →
     size ≤ greatest_size → IsClassIn s.caches.version (max size 1 + 8) c → IsWellFormed words t →
     Issues (listed_slot p c t) r answer mid after → DoesOp line (ops.Alloc r p size) answer s after
-fill_does counts line size p c r words t s mid after answer f inner came few class well issue =
+fill_does counts seals line size p c r words t s mid after answer f inner came few class well issue =
     let low : p < 4 = let most = came.stock.partitions in omega arith in
     let can = fill_issues line p c r t s mid f low came in
     let awares = fill_awares line p c t s mid f came.aware in
@@ -116,7 +116,7 @@ fill_does counts line size p c r words t s mid after answer f inner came few cla
     let sound = stock_relinked (record s { view = mid.view; caches = with_listed p c f.rest s.caches }) both
     (relinked_back both mid.view f.loaded.relinked)
     (subst (λ (z : StockValue). IsStock z) f.loaded.after_is came.now) in
-    issued_does counts line size r (listed_slot p c t) _ _ s mid after mid.view (with_listed p c f.rest s.caches) answer
+    issued_does counts seals line size r (listed_slot p c t) _ _ s mid after mid.view (with_listed p c f.rest s.caches) answer
     (brings_relinked line size (listed_slot p c t) _ _ s both mid.view (with_listed p c f.rest s.caches) f.loaded.relinked
     (fill_brings line size p c s f.asked f.note t f.rest f.gives came.stock awares f.long low f.real f.empty class sound words well))
     f.loaded.after_is came.now can.stake can.back issue inner came.below came.bare few
@@ -143,14 +143,14 @@ map_issues line p len r t s mid m low came =
           let k = asking.keeps.budget in omega arith;
     }
 
-pub map_does : CountLeaves → (line size p len r : ℕ) (t : Title) (s mid after : StockValue) (answer : Answer) →
+pub map_does : CountLeaves → SealedLeaves → (line size p len r : ℕ) (t : Title) (s mid after : StockValue) (answer : Answer) →
     MapsTitle line p len t s mid → p < s.partitions → Came s mid r →
     IsMapSize s.caches.version size → len ≡ (shape_of size).slot → Issues (mapped_slot p t) r answer mid after →
     DoesOp line (ops.Alloc r p size) answer s after
-map_does counts line size p len r t s mid after answer m inner came direct shape issue =
+map_does counts seals line size p len r t s mid after answer m inner came direct shape issue =
     let low : p < 4 = let most = came.stock.partitions in omega arith in
     let can = map_issues line p len r t s mid m low came in
     let awares = map_awares line p len t s mid m came.aware came.now_aware in
-    issued_does counts line size r (mapped_slot p t) _ _ s mid after (united m.asked m.note) s.caches answer
+    issued_does counts seals line size r (mapped_slot p t) _ _ s mid after (united m.asked m.note) s.caches answer
     (map_brings line size p len s m.asked m.note t m.gives came.stock awares m.long low direct shape) m.after_is came.now can.stake can.back
     issue inner came.below came.bare direct.1

@@ -105,7 +105,7 @@ reset_listed counts s r word c h is aware stake budget below ref found back clas
     (record { room = λ j e. cc; no_swap = λ j e. cc; cells = λ list x none. none })
     (owes_done s.registers (ops.Reset r) (seen_at h word) t.len (Counted t steps.Reset word 0 ∷ []) ([], tt, refl) (ap bytes_in ref))
     (λ refused. absurd refused)
-    (λ line phase o run sees none.
+    (λ line phase o run rules sees none.
     let slot = slot_in_run o w h run sees (made_kept h s.view w touched.lists knows.1) in
     record {
       told = ([], tt, ap (λ u. Counted u steps.Reset word 0 ∷ []) (sym slot.title));
@@ -144,7 +144,7 @@ free_listed counts owns states s r word c h is aware stake budget below own foun
     (record { room = λ j e. cc; no_swap = λ j e. cc; cells = λ list x none. none })
     (owes_done s.registers (ops.Free r) (seen_at h word) t.len (Counted t steps.Free word 0 ∷ []) ([], tt, refl) (ap bytes_in own))
     (λ refused. absurd refused)
-    (λ line phase o run sees none.
+    (λ line phase o run rules sees none.
     let slot = slot_in_run o w h run sees (made_kept h s.view w touched.lists knows.1) in
     record {
       told = ([], tt, ap (λ u. Counted u steps.Free word 0 ∷ []) (sym slot.title));

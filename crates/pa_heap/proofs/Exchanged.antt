@@ -83,6 +83,7 @@ pub record Swapping (line cell reg index : ℕ) (given found : Option ParkedHand
   caches : d.caches ≡ s.caches
   threads : (a.thread ≡ s.thread) × (d.thread ≡ s.thread)
   partitions : d.partitions ≡ s.partitions
+  plain : d.plain_from ≡ s.plain_from
   awares : IsAware a.view × IsAware b.view
 
 -- an entry of the cells' list is in no other
@@ -142,7 +143,7 @@ swap_does line cell reg index given found s a b d is phase = (
   refl,
   record {
     thread = refl;
-    same = (is.threads.1, is.partitions);
+    same = (is.threads.1, is.partitions, is.plain);
     version = ap (λ (ls : WorkerLists). ls.version) is.caches;
     stakes = λ k. is.last.stakes k ∙ (swap.lends.keeps.stakes k ∙ is.first.stakes k);
     logs = λ k. is.last.logs k ∙ (swap.lends.logs k
@@ -292,6 +293,7 @@ gave_is s a reg (Some p) parks = given_is p ∙ ap (λ (r : StockRegister). hand
 record Frames (reg : ℕ) (s a : StockValue) : Type 0 where
   thread : a.thread ≡ s.thread
   partitions : a.partitions ≡ s.partitions
+  plain : a.plain_from ≡ s.plain_from
   caches : a.caches ≡ s.caches
   count : length a.registers ≡ length s.registers
   others : (k : ℕ) → (k == reg) ≡ false → register_in a.registers k ≡ register_in s.registers k
@@ -301,6 +303,7 @@ frame_set : (s : StockValue) (v : View) (reg : ℕ) (r : StockRegister) → reg 
 frame_set s v reg r within = record {
   thread = refl;
   partitions = refl;
+  plain = refl;
   caches = refl;
   count = length-set s.registers reg r;
   others = λ k other. set_at s.registers reg k r Empty within ∙ go k (k == reg) other;
@@ -313,7 +316,7 @@ frame_set s v reg r within = record {
 parks_frame : (s a : StockValue) (reg : ℕ) (given : Option ParkedHandle) → reg < length s.registers → Parks reg given s a → Frames reg s a
 parks_frame s a reg None within parks =
     subst (λ (z : StockValue). Frames reg s z) (sym parks.0)
-    (record { thread = refl; partitions = refl; caches = refl; count = refl; others = λ k other. refl })
+    (record { thread = refl; partitions = refl; plain = refl; caches = refl; count = refl; others = λ k other. refl })
 parks_frame s a reg (Some p) within parks =
     subst (λ (z : StockValue). Frames reg s z) (sym parks.2) (frame_set s (left_after (handle_parcel p) s.view) reg Empty within)
 
@@ -351,6 +354,7 @@ exchange_does law joins seen stay line cell reg index given found s a b d is bel
       caches = ap (λ (z : StockValue). z.caches) at_end ∙ (ap (λ (z : StockValue). z.caches) swap.same ∙ frame.caches);
       threads = (frame.thread, ap (λ (z : StockValue). z.thread) at_end ∙ (ap (λ (z : StockValue). z.thread) swap.same ∙ frame.thread));
       partitions = ap (λ (z : StockValue). z.partitions) at_end ∙ (ap (λ (z : StockValue). z.partitions) swap.same ∙ frame.partitions);
+      plain = ap (λ (z : StockValue). z.plain_from) at_end ∙ (ap (λ (z : StockValue). z.plain_from) swap.same ∙ frame.plain);
       awares = (aware_a, aware_b);
     })
   where

@@ -52,7 +52,7 @@ alloc_refuses : (s : StockValue) (i p size : ℕ) (answer : Answer) → IsStock 
     (regs_of s.registers)) →
     (line : ℕ) → DoesOp line (ops.Alloc i p size) answer s s
 alloc_refuses s i p size answer is plain row =
-    plain_does s (ops.Alloc i p size) answer is tt plain (λ o run sees. row o) (λ o line phase run sees. tt)
+    plain_does s (ops.Alloc i p size) answer is tt plain (λ o run rules sees. row o) (λ o line phase run sees. tt)
 
 pub alloc_fills : (s : StockValue) (i p size : ℕ) → IsStock s → HasSomeHandle (register_in s.registers i) → (line : ℕ) →
     DoesOp line (ops.Alloc i p size) answers.Filled s s
@@ -91,7 +91,7 @@ pub full_does : (line size r p j count : ℕ) (class : Option ℕ) (s : StockVal
     FullRow roots x (listed_in s) after) →
     DoesOp line (ops.Alloc r p size) (answers.Full j) s (record s { view = w })
 full_does line size r p j count class s w full is aware now inner bare few makes row =
-    entered_does s (record s { view = w }) line op (answers.Full j) es refl refl refl
+    entered_does s (record s { view = w }) line op (answers.Full j) es refl refl refl refl
     (two_enters full.asked j s.thread p line [] taken a s.view w two (omega arith) refl (λ e among. absurd (not_in_none e among)))
     (λ phase. let x = quiet_record s w line phase op (answers.Full j) es in let it = it_asks line p (a ∷ []) es w x asks (λ q. refl) in
     record {

@@ -121,15 +121,16 @@ gives_name_none xs act among = let (slots, is) = in_gives xs act among in ap ask
 pub gives_does : SlotsStaySeen →
     (op : Op) (step : Step) (h : Handle) (class word line : ℕ) (s after : StockValue) (w : View) (rs : List StockRegister)
     (ms : List Made) (gone : List Numbered) → HasReturned op step h word s w rs → h.class ≡ Some class →
-    after.thread ≡ s.thread → after.partitions ≡ s.partitions → after.caches.version ≡ s.caches.version → after.registers ≡ rs →
+    after.thread ≡ s.thread → after.partitions ≡ s.partitions → after.plain_from ≡ s.plain_from →
+    after.caches.version ≡ s.caches.version → after.registers ≡ rs →
     Entering s.thread line (map (Entered h.partition) ms) w after.view →
     map (λ (m : Made). m.numbers) ms ≡ map root_numbers (map (root_entry line) (gives gone)) →
     (HasClass s.caches.version class → (gone ≡ spilled class (left_at h word ∷ listed_in s h.partition class))
     × SameLists (listed_in after)
     (with_list (listed_in s) h.partition class (kept class (left_at h word ∷ listed_in s h.partition class)))) →
     DoesOp line op (answers.Done (seen_at h word)) s after
-gives_does stays op step h class word line s after w rs ms gone is of thread partitions version registers came says lists =
-    entered_does s after line op (answers.Done (seen_at h word)) es thread partitions version
+gives_does stays op step h class word line s after w rs ms gone is of thread partitions plain version registers came says lists =
+    entered_does s after line op (answers.Done (seen_at h word)) es thread partitions plain version
     (entering_both s.thread line (c ∷ []) (map (Entered p) ms) s.view w after.view
     (touched_enters s.thread line (c ∷ []) s.view w is.touched) came)
     (λ phase. record {

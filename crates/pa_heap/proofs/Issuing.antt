@@ -1,5 +1,5 @@
 -- An issue of a free title to a register: what the op says, whatever came before.
-use Rattle.std.proofs.Common.{◌≡◌, ℕ, ◌+◌, ◌-◌, ◌<◌, ◌≤◌, List, [], ◌∷◌, ◌++◌, length, Some, refl, sym, ◌∙◌, ap, subst, arith, inl, inr}
+use Rattle.std.proofs.Common.{Bool, true, false, ◌≡◌, ℕ, ◌+◌, ◌-◌, ◌<◌, ◌≤◌, ◌⊎◌, List, [], ◌∷◌, ◌++◌, length, Some, refl, sym, ◌∙◌, ap, subst, arith, inl, inr}
 use Rattle.std.specs.Prelude.{Contains, slice_set}
 use Rattle.std.proofs.lemmas.List.{append-nil, get_or-set_same}
 use Rattle.std.proofs.lemmas.List.Elements.{Contains-append_cases, filter-append, filter_map-append}
@@ -22,7 +22,7 @@ use Rattle.pa_region.specs.declared.view.View.{View}
 use Rattle.pa_region.specs.Views.{seen_of}
 use Rattle.pa_region.specs.Lists.{list_of, list_among, entered_in}
 use Rattle.pa_region.specs.Moves.{CanCount, IsFound}
-use Rattle.pa_region.specs.Leaves.{CountLeaves}
+use Rattle.pa_region.specs.Leaves.{CountLeaves, SealedLeaves, LeavesCount}
 use Rattle.pa_quarantine.specs.Filling.{zeroed}
 use Rattle.pa_rules.specs.declared.played.Played.{Played}
 use Rattle.pa_rules.specs.declared.register.Register.TheVariants as reg
@@ -32,8 +32,10 @@ use Rattle.pa_rules.specs.Caches.{Cache, SameLists, OnlyActs, MadeRow}
 use Rattle.pa_rules.specs.Roots.{Journals, MakesEntry}
 use Rattle.pa_rules.specs.Sizes.{usable_of}
 use Rattle.pa_trace.specs.declared.script.Rules.{Rules}
+use Rattle.pa_logs.specs.Indices.{AskedNone, AskedOnce}
 use Rattle.pa_logs.specs.Touches.{is_touch, touches}
 use Rattle.pa_cells.specs.declared.handle.Handle.{Handle}
+use Rattle.pa_cells.specs.Handles.{is_plain}
 use Rattle.pa_rules.specs.declared.register.Register.TheVariants.{Empty, Own, Ref, Freed, Cleared}
 use Rattle.pa_step_order.specs.Signs.{Stepped, sign_of}
 use Rattle.pa_step_order.proofs.Shaping.{shapes_have_signs}
@@ -42,7 +44,7 @@ use Rattle.pa_op_specs.specs.Workers.{HasItsStake}
 use Rattle.pa_op_specs.specs.Outcomes.{FillsFrom, row_facts}
 use Rattle.pa_op_specs.specs.Owing.{IsMadeIn}
 use Rattle.pa_thread_state.specs.Changes.{IsBack}
-use Rattle.pa_thread_state.specs.Allocating.{Issues}
+use Rattle.pa_thread_state.specs.Allocating.{Issues, after_issue}
 use Rattle.pa_op_specs.specs.Plays.{DoesOp}
 use Rattle.pa_op_specs.proofs.Registers.{regs_set}
 use Rattle.pa_op_specs.proofs.Seeing.{made_kept, slot_in_run, home_of, more_seen, same_seen, now_seen}
@@ -53,16 +55,16 @@ use Rattle.pa_op_specs.proofs.Owing.{owes_made}
 use Rattle.pa_op_specs.proofs.Quiet.{quiet_record, same_titles}
 use Rattle.pa_op_specs.proofs.Entered.{Entering, TellsOf, entering_both, entered_does, makes_each}
 use Rattle.pa_op_specs.proofs.AskedFor.{Asks, it_asks, only_acts, act_at, root_elsewhere}
-use Rattle.pa_thread_state.proofs.Issuing.{issued, issued_view, not_listed}
+use Rattle.pa_thread_state.proofs.Issuing.{issued, issued_view, issue_leaves, not_listed}
 use Rattle.pa_logs.proofs.Listing.{entered_append}
 
 -- what the step leaves of the view before the zeros
-pub issued_enters : CountLeaves → (s : StockValue) (line word : ℕ) (t : Title) → IsStock s → HasItsStake s →
+pub issued_enters : CountLeaves → SealedLeaves → (s : StockValue) (line word : ℕ) (plain : Bool) (t : Title) → IsStock s → HasItsStake s →
     CanCount steps.Issue t (zeroed t s.view) → IsFound t word (zeroed t s.view) →
-    Entering s.thread line (Counted t steps.Issue word 0 ∷ []) s.view (issued_view s.view t word)
-issued_enters counts s line word t is stake can found =
-    let w = issued_view s.view t word in
-    let leaves = counts steps.Issue t word (zeroed t s.view) can in
+    Entering s.thread line (Counted t steps.Issue word 0 ∷ []) s.view (issued_view plain s.view t word)
+issued_enters counts seals s line word plain t is stake can found =
+    let w = issued_view plain s.view t word in
+    let leaves = issue_leaves counts seals plain t word (zeroed t s.view) can in
     record {
       logs = λ k. entry_logs s.thread k (Counted t steps.Issue word 0) (zeroed t s.view) w leaves.entry
           (least_is s.thread s.view is.stake stake).0;
@@ -77,13 +79,13 @@ issued_enters counts s line word t is stake can found =
     }
 
 -- the lists stay as they are, each title at its number
-pub issued_lists : CountLeaves → (s : StockValue) (r word : ℕ) (h : Handle) →
+pub issued_lists : CountLeaves → SealedLeaves → (s : StockValue) (r word : ℕ) (h : Handle) →
     CanCount steps.Issue h.title (zeroed h.title s.view) → IsBack h s →
     SameLists (listed_in (issued s h r word)) (listed_in s)
-issued_lists counts s r word h can back p c =
+issued_lists counts seals s r word h can back p c =
     let t = h.title in
-    let w = issued_view s.view t word in
-    let leaves = counts steps.Issue t word (zeroed t s.view) can in
+    let w = issued_view (is_plain s.plain_from h) s.view t word in
+    let leaves = issue_leaves counts seals (is_plain s.plain_from h) t word (zeroed t s.view) can in
     same_titles s.view w (titles_in s.caches p c)
     (λ u among. same_seen t u (number_of word + 1) (seen_of w u) (seen_of s.view u) (not_listed s h back p c u among) (leaves.seen u))
 
@@ -133,7 +135,7 @@ not_full seen usable j e = cc
 not_done : (seen : Seen) (usable : ℕ) (other : Seen) → answers.Made seen usable ≡ answers.Done other → ⊥
 not_done seen usable other e = cc
 
-pub made_does : CountLeaves →
+pub made_does : CountLeaves → SealedLeaves →
     (line size r word : ℕ) (h : Handle) (acts : List RootAct) (es : List Entry) (s : StockValue) (v : View) (cs : WorkerLists) →
     Bringing line size h acts es s v cs → IsStock (record s { view = v; caches = cs }) → HasItsStake (record s { view = v; caches = cs }) →
     CanCount steps.Issue h.title (zeroed h.title v) → IsFound h.title word (zeroed h.title v) → number_of word ≡ seen_of v h.title →
@@ -142,16 +144,17 @@ pub made_does : CountLeaves →
     size ≤ greatest_size →
     DoesOp line (ops.Alloc r h.partition size) (answers.Made (seen_at h word) (h.title.len - 8)) s
     (issued (record s { view = v; caches = cs }) h r word)
-made_does counts line size r word h acts es s v cs before is stake can found number back inner below bare long few =
-    entered_does s (issued mid h r word) line op answer all refl refl before.version
+made_does counts seals line size r word h acts es s v cs before is stake can found number back inner below bare long few =
+    entered_does s (issued mid h r word) line op answer all refl refl refl before.version
     (entering_both s.thread line es (Counted t steps.Issue word 0 ∷ []) s.view v w before.entering
-    (issued_enters counts mid line word t is stake can found))
+    (issued_enters counts seals mid line word plain t is stake can found))
     (λ phase. let x = quiet_record s w line phase op answer all in let it = it_asks line h.partition acts es v x before.asks same in
     record {
       cells = λ list none. none;
       it = it;
       fills = λ p e low among. before.fills e.act (act_at line h.partition p acts e among).1;
-      asked = before.asks.asked x it (same 4) refl refl;
+      asked = subst (λ list. AskedNone x it ⊎ AskedOnce list x it) (sym (ap (list_among 4) leaves.lists))
+          (before.asks.asked x it (same 4) refl refl);
       refused = λ j q p n full is_op. absurd (not_full (seen_at h word) (h.title.len - 8) j full);
       uncuts = λ u among. absurd (elim (Contains-append_cases es (Counted t steps.Issue word 0 ∷ []) (Uncut u) among) [
         | inl first ↦ before.uncut u first
@@ -167,7 +170,7 @@ made_does counts line size r word h acts es s v cs before is stake can found num
       ) (omega arith);
       words = λ refused. absurd refused;
       answers = λ o run many rules sees line_acts.
-          let slot = slot_in_run o w h run sees (made_kept h v w refl back.made) in
+          let slot = slot_in_run o w h run sees (made_kept h v w leaves.lists back.made) in
           let only = only_acts o x it line h.partition acts line_acts back.made.partition refl in
           record {
             told = (
@@ -187,7 +190,7 @@ made_does counts line size r word h acts es s v cs before is stake can found num
                 (before.usable ∙ ap (λ (k : Rules). usable_of k.version size) rules)
                 (λ k. regs_set s.registers r (Own h) k inside));
             lists = before.rows o.roots x.played r (seen_at h word) (listed_in (issued mid h r word)) refl refl only refl number
-                (issued_lists counts mid r word h can back);
+                (issued_lists counts seals mid r word h can back);
             reader = tt;
             unmaps = λ seen p asked n e done among on act. absurd (not_done (seen_at h word) (h.title.len - 8) seen done);
             makes = makes_each x it o.pools (λ p e low among.
@@ -206,8 +209,14 @@ made_does counts line size r word h acts es s v cs before is stake can found num
     mid : StockValue
     mid = record s { view = v; caches = cs }
 
+    plain : Bool
+    plain = is_plain s.plain_from h
+
     w : View
-    w = issued_view v h.title word
+    w = issued_view (is_plain s.plain_from h) v h.title word
+
+    leaves : LeavesCount steps.Issue h.title word (zeroed h.title v) (issued_view (is_plain s.plain_from h) v h.title word)
+    leaves = issue_leaves counts seals (is_plain s.plain_from h) h.title word (zeroed h.title v) can
 
     op : Op
     op = ops.Alloc r h.partition size
@@ -224,20 +233,25 @@ made_does counts line size r word h acts es s v cs before is stake can found num
     same : (q : ℕ) → entered_in q (es ++ Counted h.title steps.Issue word 0 ∷ []) ≡ entered_in q es
     same q = entered_append q es (Counted h.title steps.Issue word 0 ∷ []) ∙ append-nil (entered_in q es)
 
+issue_budget : (plain : Bool) (t : Title) (word : ℕ) (v : View) → (after_issue plain t word v).budget ≡ v.budget - 1
+issue_budget true t word v = refl
+issue_budget false t word v = refl
+
 -- the budget is one less
 pub issued_budget : (h : Handle) (r n : ℕ) (answer : Answer) (mid after : StockValue) → Issues h r answer mid after →
     n ≤ mid.view.budget → n ≤ after.view.budget + 1
 issued_budget h r n answer mid after is more = let e : after.view.budget ≡ mid.view.budget - 1 =
-    ap (λ (z : StockValue). z.view.budget) is.after_is in omega arith
+    ap (λ (z : StockValue). z.view.budget) is.after_is
+    ∙ issue_budget (is_plain mid.plain_from h) h.title is.seen.found.0 (zeroed h.title mid.view) in omega arith
 
 -- the op that was played then
-pub issued_does : CountLeaves →
+pub issued_does : CountLeaves → SealedLeaves →
     (line size r : ℕ) (h : Handle) (acts : List RootAct) (es : List Entry) (s mid after : StockValue) (v : View) (cs : WorkerLists)
     (answer : Answer) →
     Bringing line size h acts es s v cs → mid ≡ record s { view = v; caches = cs } → IsStock mid → HasItsStake mid → IsBack h mid →
     Issues h r answer mid after → h.partition < s.partitions → r < 64 →
     HasNoHandle (register_in s.registers r) → size ≤ greatest_size → DoesOp line (ops.Alloc r h.partition size) answer s after
-issued_does counts line size r h acts es s mid after v cs answer before mid_is is stake back issue inner below bare few =
+issued_does counts seals line size r h acts es s mid after v cs answer before mid_is is stake back issue inner below bare few =
     let base : StockValue = record s { view = v; caches = cs } in
     let j : Issues h r answer base after = subst (λ (z : StockValue). Issues h r answer z after) mid_is issue in
     let word = j.seen.found.0 in
@@ -245,7 +259,7 @@ issued_does counts line size r h acts es s mid after v cs answer before mid_is i
     subst (λ (z : StockValue). DoesOp line (ops.Alloc r h.partition size) answer s z) (sym j.after_is)
     (subst (λ a. DoesOp line (ops.Alloc r h.partition size) a s (issued base h r word))
     (sym (j.answer_is ∙ ap (λ x. answers.Made x (h.title.len - 8)) seen_is))
-    (made_does counts line size r word h acts es s v cs before (subst (λ (z : StockValue). IsStock z) mid_is is)
+    (made_does counts seals line size r word h acts es s v cs before (subst (λ (z : StockValue). IsStock z) mid_is is)
     (subst (λ (z : StockValue). HasItsStake z) mid_is stake)
     j.able j.found j.number (subst (λ (z : StockValue). IsBack h z) mid_is back) inner below bare j.long few))
 

@@ -126,7 +126,7 @@ looked_does looks s op answer reg word h is aware stake below has found no_swap 
     (touched_look looks s.thread t word s.view least.1 found least.0 (user_not_free s.view t aware knows.0))
     (record { room = l.room; no_swap = l.no_swap; cells = enters_no_cells op no_swap })
     (l.owes s.registers t word) (λ refused q known. refl)
-    (λ line phase o run sees none same.
+    (λ line phase o run rules sees none same.
     let slot = slot_in_run o w h run sees (made_kept h s.view w refl knows.1) in
     record {
       told = l.told o.sizes (Looked t word ∷ []) (ap (λ u. Looked u word ∷ []) (sym slot.title), in_use t word s.view knows.0 found);

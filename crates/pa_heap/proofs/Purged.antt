@@ -91,6 +91,7 @@ pub record Purging (line n slots : ℕ) (s now : StockValue) : Type 0 where
   numbers : (m : ℕ) (t : Title) → IsWellFormed m t → 0 < free_of now.view t → seen_of now.view t ≡ seen_of s.view t
   fewer : (t : Title) → free_of now.view t ≤ free_of s.view t
   same : (now.thread ≡ s.thread) × (now.partitions ≡ s.partitions) × (now.registers ≡ s.registers)
+  plain : now.plain_from ≡ s.plain_from
   version : now.caches.version ≡ s.caches.version
   count : slots + all_listed (listed_in s) n (s.partitions - n) ≡ all_listed (listed_in s) 0 s.partitions
 
@@ -107,6 +108,7 @@ purging_none line s = record {
   numbers = λ m t well free. refl;
   fewer = λ t. omega arith;
   same = (refl, refl, refl);
+  plain = refl;
   version = refl;
   count =
       let e : s.partitions - 0 ≡ s.partitions = omega arith in
@@ -214,6 +216,7 @@ purging_more line n slots more s now next is some (more_is, given) below low = r
   numbers = λ m t well free. given.numbers m t well free ∙ some.numbers m t well (let e = given.fewer t in omega arith);
   fewer = λ t. let e = given.fewer t in let f = some.fewer t in omega arith;
   same = (given.same.0 ∙ some.same.0, given.same.1 ∙ some.same.1, given.same.2 ∙ some.same.2);
+  plain = given.plain ∙ some.plain;
   version = given.version ∙ some.version;
   count =
       let e : s.partitions - n ≡ suc (s.partitions - (n + 1)) = omega arith in
@@ -284,7 +287,7 @@ none_past o s q c run sees is past = go (titles_in s.caches q c) refl
 pub purge_does : (line slots : ℕ) (s now : StockValue) → IsStock s → IsStock now → Purging line s.partitions slots s now →
     DoesOp line ops.Purge (answers.Purged slots) s now
 purge_does line slots s now is still some =
-    entered_does s now line ops.Purge (answers.Purged slots) some.stretch some.same.0 some.same.1 some.version some.enters
+    entered_does s now line ops.Purge (answers.Purged slots) some.stretch some.same.0 some.same.1 some.plain some.version some.enters
     (λ phase. record {
       cells = λ list none. none;
       it = it phase;

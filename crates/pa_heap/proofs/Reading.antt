@@ -126,7 +126,7 @@ far_read_does s n reg place h is aware below has well far =
     let made = (register_has s reg h is below has).1 in
     let a = well.len_aligned in let b = well.long in
     plain_does s (ops.Read reg place) answers.OutOfRange is tt tt
-    (λ o run sees.
+    (λ o run rules sees.
     let slot = slot_in_run o s.view h run sees made in
     let long = slot.length in
     read_row (register_in s.registers reg) h (row_facts o) (regs_of s.registers) place answers.OutOfRange (regs_of s.registers) has
@@ -212,7 +212,7 @@ module _ (looks : LookLeaves) (entries : EntryLeaves) (s : StockValue) (n reg pl
       (quiet_does s w s.registers (ops.Read reg place) (answers.Value (seen_at h word) value) es is.lists (touched looks owns)
       (record { room = λ j e. cc; no_swap = λ j e. cc; cells = λ list x none. none })
       (λ q. refl) (λ refused. absurd refused)
-      (λ line phase o run sees none same.
+      (λ line phase o run rules sees none same.
       let slot = slot_in_run o w h run sees (made_kept h s.view w refl (register_has s reg h is below has).1) in
       let a = well.len_aligned in let b = well.long in let long = slot.length in
       record {
@@ -241,7 +241,7 @@ module _ (looks : LookLeaves) (entries : EntryLeaves) (s : StockValue) (n reg pl
       (quiet_does s w s.registers (ops.Read reg place) (answers.Dangling (seen_at h word) value) es is.lists (touched looks owns)
       (record { room = λ j e. cc; no_swap = λ j e. cc; cells = λ list x none. none })
       (λ q. refl) (λ refused. absurd refused)
-      (λ line phase o run sees none same.
+      (λ line phase o run rules sees none same.
       let slot = slot_in_run o w h run sees (made_kept h s.view w refl (register_has s reg h is below has).1) in
       let a = well.len_aligned in let b = well.long in let long = slot.length in
       record {

@@ -54,7 +54,7 @@ cleared_does counts s r word h is aware stake budget below ref found stays =
     (record { room = λ j e. cc; no_swap = λ j e. cc; cells = λ list x none. none })
     (owes_done s.registers (ops.Reset r) (seen_at h word) t.len (Counted t steps.Reset word 0 ∷ []) ([], tt, refl) (ap bytes_in ref))
     (λ refused. absurd refused)
-    (λ line phase o run sees none same.
+    (λ line phase o run rules sees none same.
     let slot = slot_in_run o w h run sees (made_kept h s.view w refl knows.1) in
     record {
       told = ([], tt, ap (λ u. Counted u steps.Reset word 0 ∷ []) (sym slot.title));

@@ -147,6 +147,9 @@ home_does stays op step h word line s after w rs is of bare home = by_class h.cl
     partitions : after.partitions ≡ s.partitions
     partitions = ap (λ (z : StockValue). z.partitions) home.same
 
+    plain : after.plain_from ≡ s.plain_from
+    plain = ap (λ (z : StockValue). z.plain_from) home.same
+
     version : after.caches.version ≡ s.caches.version
     version = ap (λ (z : StockValue). z.caches.version) home.same
 
@@ -160,7 +163,7 @@ home_does stays op step h word line s after w rs is of bare home = by_class h.cl
         ComesHome k s.thread h.partition line (without_title h.title w) after.view (note_of_title h.title w) h.title →
         DoesOp line op (answers.Done (seen_at h word)) s after
     by_class None direct takes =
-        unmap_does stays op step h word line s after w rs y note of direct thread partitions version registers takes
+        unmap_does stays op step h word line s after w rs y note of direct thread partitions plain version registers takes
         (entering_both s.thread line [] (behind h.title takes.enters.pool h.partition takes.enters.made) w y after.view
         (left_enters s.thread line h.title w)
         (two_enters takes.asked takes.index s.thread h.partition line (Uncut h.title ∷ [])
@@ -172,7 +175,7 @@ home_does stays op step h word line s after w rs is of bare home = by_class h.cl
         let acts_are : Give (numbered_by note (h.title ∷ [])) ∷ [] ≡ gives (left_at h word ∷ []) =
         ap (λ x. Give (x ∷ []) ∷ []) (in_note op step h word s w rs of) in
         gives_does stays op step h class word line s after w rs (one.made ∷ [])
-        (left_at h word ∷ []) of class_is thread partitions version registers
+        (left_at h word ∷ []) of class_is thread partitions plain version registers
         (entering_both s.thread line [] (Entered h.partition one.made ∷ []) w y after.view (left_enters s.thread line h.title w)
         (one_enters index s.thread h.partition line (Give (numbered_by note (h.title ∷ []))) y after.view one (omega arith)))
         (ap (λ n. n ∷ []) one.is_made.says ∙ ap (λ done. map root_numbers (map (root_entry line) done)) acts_are)
@@ -226,7 +229,7 @@ pub spill_does : SlotsStaySeen →
     Spills line h class (record s { view = w; registers = rs }) after → DoesOp line op (answers.Done (seen_at h word)) s after
 spill_does stays op step h class word line s after w rs is sound of class_is small some full spills =
     gives_does stays op step h class word line s after w rs ms gone of class_is
-    (thread ∙ given.same.0) (partitions ∙ given.same.1) (version ∙ given.version) (registers ∙ given.same.2)
+    (thread ∙ given.same.0) (partitions ∙ given.same.1) (plain ∙ given.plain) (version ∙ given.version) (registers ∙ given.same.2)
     (record {
       logs = λ k. ap (log_here k) view ∙ given.logs k;
       stakes = λ k. ap (stake_here k) view ∙ given.stakes k;
@@ -276,6 +279,9 @@ spill_does stays op step h class word line s after w rs is sound of class_is sma
 
     partitions : after.partitions ≡ spills.between.partitions
     partitions = ap (λ (z : StockValue). z.partitions) spills.front.after_is
+
+    plain : after.plain_from ≡ spills.between.plain_from
+    plain = ap (λ (z : StockValue). z.plain_from) spills.front.after_is
 
     registers : after.registers ≡ spills.between.registers
     registers = ap (λ (z : StockValue). z.registers) spills.front.after_is

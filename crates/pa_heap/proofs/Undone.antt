@@ -19,6 +19,7 @@ pub undone_none : (s : StockValue) → IsUndone s s
 undone_none s = record {
   thread = refl;
   partitions = refl;
+  plain = refl;
   registers = refl;
   caches = refl;
   frees = λ t. refl;
@@ -64,6 +65,7 @@ back gives takes joins seen longest stay s reg p is below has given aware both d
     record {
       thread = refl;
       partitions = refl;
+      plain = refl;
       registers = set_back s.registers reg (register_of p) (let n = is.handles.count in omega arith) has;
       caches = refl;
       frees = λ t. has_again.frees t ∙ lacks.frees t;

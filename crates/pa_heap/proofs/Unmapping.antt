@@ -76,14 +76,15 @@ same_unmap a b x y e = cc
 pub unmap_does : SlotsStaySeen →
     (op : Op) (step : Step) (h : Handle) (word line : ℕ) (s after : StockValue) (w : View) (rs : List StockRegister) (y note : View) →
     HasReturned op step h word s w rs → h.class ≡ None →
-    after.thread ≡ s.thread → after.partitions ≡ s.partitions → after.caches.version ≡ s.caches.version → after.registers ≡ rs →
+    after.thread ≡ s.thread → after.partitions ≡ s.partitions → after.plain_from ≡ s.plain_from →
+    after.caches.version ≡ s.caches.version → after.registers ≡ rs →
     (takes : UnmapTakes s.thread h.partition line y after.view note h.title) →
     Entering s.thread line (behind h.title takes.enters.pool h.partition takes.enters.made) w after.view →
     seen_of note h.title ≡ number_of word + 1 →
     SameLists (listed_in after) (listed_in s) →
     DoesOp line op (answers.Done (seen_at h word)) s after
-unmap_does stays op step h word line s after w rs y note is direct thread partitions version registers takes came number lists =
-    entered_does s after line op (answers.Done (seen_at h word)) es thread partitions version
+unmap_does stays op step h word line s after w rs y note is direct thread partitions plain version registers takes came number lists =
+    entered_does s after line op (answers.Done (seen_at h word)) es thread partitions plain version
     (entering_both s.thread line (c ∷ []) (behind h.title pool h.partition made) s.view w after.view
     (touched_enters s.thread line (c ∷ []) s.view w is.touched) came)
     (λ phase. record {

@@ -110,7 +110,7 @@ filled_does counts looks owns states fills n s reg value first word h is aware s
     (record { room = λ j e. cc; no_swap = λ j e. cc; cells = λ list x empty. empty })
     (owes_done s.registers (ops.Write reg value) (seen_at h word) t.len (Looked t first ∷ Counted t steps.Write word value ∷ [])
     (Looked t first ∷ [], ((first, refl), tt), refl) (ap bytes_in own)) (λ refused. absurd refused)
-    (λ line phase o run sees no_acts same.
+    (λ line phase o run rules sees no_acts same.
     let slot = slot_in_run o w h run sees (made_kept h s.view w refl knows.1) in
     record {
       told = (

@@ -18,7 +18,7 @@ use pa_buckets::{Class, class_in, raw_of};
 use pa_cells::Handle;
 use pa_direct::{GREATEST_SIZE, shape};
 use pa_record::Answer;
-use pa_region::{Name, counted_steps_leave};
+use pa_region::{Name, counted_steps_leave, sealed_steps_leave};
 use pa_root::FillFault;
 use pa_slot::{OutOfMemory, Step};
 use pa_thread_state::{Heap, Stock};
@@ -152,6 +152,7 @@ fn alloc_slot<N: Name, R: Wait>(
 {
     let _ = size;
     counted_steps_leave();
+    sealed_steps_leave();
     stock.kept();
     match stock.pop(heap.region(), partition, class) {
         Some(title) => {
@@ -194,6 +195,7 @@ fn alloc_filled<N: Name, R: Wait>(
 {
     let _ = size;
     counted_steps_leave();
+    sealed_steps_leave();
     stock.kept();
     match stock.fill_list(rt, heap, line, partition, class) {
         Ok(title) => {
@@ -238,6 +240,7 @@ fn alloc_map<N: Name, R: Wait>(
     ensures asks { OnErr result (AsksRoot reg partition size stock.old) }
 {
     counted_steps_leave();
+    sealed_steps_leave();
     stock.kept();
     let Some(shape) = shape(size) else {
         return Ok(Answer::TooLarge);

@@ -4,6 +4,7 @@ ghost use Rattle.pa_region.specs.Views.{HasEveryStake};
 ghost use Rattle.pa_region.specs.Waiting.{unclean_of};
 ghost use Rattle.pa_region.specs.Lending.{CanHost};
 ghost use Rattle.pa_region.specs.Shares.{byte_word_count};
+ghost use Rattle.pa_cells.specs.Cells.{IsOf};
 ghost use Rattle.pa_heap.specs.Closing.{IsWithin, TakesOthersIn, LeavesPool, LeavesRoot, LeavesCells, LeavesWorker, HasTold, IsClosedBy};
 
 use crate::left::Left;
@@ -124,15 +125,15 @@ fn take_cells<N: Name>(region: &Region, seat: &mut Seat, cells: Mutex<Cells<N>>)
     let (histories, parked, note) = cells.into_inner().close();
     take_in(region, seat, note);
     for waiting in parked {
-        take_parked(region, seat, waiting);
+        take_parked::<N>(region, seat, waiting);
     }
     histories
 }
 
 // Takes in the handle that is still in a cell.
-fn take_parked(region: &Region, seat: &mut Seat, waiting: Option<Parked>)
-    requires region { seat.old.region ≡ region.now }
-    requires notes { IfSome waiting (λ p. p.note.region ≡ region.now) }
+fn take_parked<N: Name>(region: &Region, seat: &mut Seat, waiting: Option<Parked>)
+    requires regions { (seat.old.region ≡ region.now) × (region.now ≡ N.region) }
+    requires waiting { IfSome waiting (IsOf N.region N.plain_from) }
     ensures region { seat.new.region ≡ seat.old.region }
     ensures takes { TakesOthersIn seat.old.view seat.new.view }
 {

@@ -13,7 +13,8 @@ use pa_region::{Name, Region, counted_steps_leave};
 use pa_thread_state::{Heap, Stock};
 
 impl<N: Name> Worker<N> {
-    /// A copy of the handle in register `from` into `to`, on this line. It waits for nobody.
+    /// A copy of the handle in register `from` into `to`, on this line. The owner of a slot of a plain partition isn't copied. It waits
+    /// for nobody.
     pub fn copy(&mut self, heap: &Heap<N>, line: u32, from: u32, to: u32) -> Answer
         requires ready { CanPlayOp self.old }
         requires registers { (from < register_count) × (to < register_count) }
@@ -42,7 +43,7 @@ fn copy<N: Name>(stock: &mut Stock<N>, region: &Region, from: u32, to: u32) -> A
     }
 }
 
-// A copy of this handle of the first register, if the second has none: it becomes a `raw_ptr` to the slot.
+// A copy of this handle of the first register, if the second has none and it would be counted: that becomes a `raw_ptr` to the slot.
 fn copy_to<N: Name>(
     stock: &mut Stock<N>,
     region: &Region,
@@ -61,8 +62,12 @@ fn copy_to<N: Name>(
     counted_steps_leave();
     stock.kept();
     let filled = stock.register(to).has_handle();
+    let owner = stock.register(from).is_owner();
+    let plain = stock.is_plain(&handle);
     if filled {
         Answer::Filled
+    } else if owner && plain {
+        Answer::Uncounted
     } else {
         let seen = stock.point(region, handle, from, to);
         Answer::Done { seen }

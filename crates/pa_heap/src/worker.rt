@@ -55,24 +55,26 @@ impl<N: Name> Model for Worker<N> {
 }
 
 impl<N: Name> Worker<N> {
-    /// A worker that has played nothing, of a trace of this version. It takes a note with the thread's stake, and a counted step in its
-    /// budget for each of its lines. All room for records is allocated here.
+    /// A worker that has played nothing, of a trace of this version with this first plain partition. It takes a note with the thread's
+    /// stake, and a counted step in its budget for each of its lines. All room for records is allocated here.
     pub fn open(
         alloc: Global,
         note: Note,
         thread: u32,
         partitions: u32,
+        plain_from: u32,
         version: u32,
         lines: u32,
     ) -> Result<Worker<N>, OutOfMemory>
         requires region { note.region ≡ N.region }
+        requires plain { plain_from ≡ N.plain_from }
         requires note { IsForThread thread note.view }
         requires budget { lines ≤ note.view.budget }
         requires partitions { partitions ≤ most_partitions }
-        ensures { IfOk result (IsNewWorker thread partitions version lines note.view) }
+        ensures { IfOk result (IsNewWorker thread partitions plain_from version lines note.view) }
     {
         let records = Vec::with_capacity(alloc, lines as usize)?;
-        let stock = Stock::open(alloc, note, thread, partitions, version)?;
+        let stock = Stock::open(alloc, note, thread, partitions, plain_from, version)?;
         stock.kept();
         Ok(Worker {
             stock,

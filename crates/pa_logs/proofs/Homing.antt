@@ -1,6 +1,6 @@
 -- Each slot that a record stepped on or looked at is one that a journal made and handed out.
-use Rattle.std.proofs.Common.{◌≡◌, ℕ, zero, suc, ◌<◌, true, List, [], ◌∷◌, Some, None, Option, refl, sym, ◌∙◌, ap, subst, arith, inl, inr}
-use Rattle.std.specs.Prelude.{Contains}
+use Rattle.std.proofs.Common.{◌≡◌, ℕ, zero, suc, ◌<◌, ◌⊎◌, Bool, true, List, [], ◌∷◌, length, Some, None, Option, refl, sym, ◌∙◌, ap, ap₂, subst, arith, inl, inr}
+use Rattle.std.specs.Prelude.{Contains, nat_le}
 use Rattle.std.specs.List.{list_any}
 use Rattle.std.proofs.lemmas.Bool.{true≢false, cases_Bool, cases_eq, or_cases, both_ways}
 use Rattle.pa_slot.specs.declared.title.Title.{Title}
@@ -11,7 +11,10 @@ use Rattle.pa_slot.specs.Count.{CanStep, number_of, held_of, refs_of}
 use Rattle.pa_slot.specs.Run.{Mark, IsFirstAt, IsRunFrom, IsOneRun, same_slot}
 use Rattle.pa_slot.proofs.Runs.{same_slot_eq, same_slot_yes, issue_first}
 use Rattle.pa_buckets.specs.Table.{slot_of}
+use Rattle.pa_trace.specs.declared.script.Op.TheVariants as ops
+use Rattle.pa_trace.specs.declared.script.Rules.{Rules}
 use Rattle.pa_record.specs.declared.entry.Seen.{Seen}
+use Rattle.pa_record.specs.declared.entry.Answer.{Answer}
 use Rattle.pa_record.specs.declared.entry.Answer.TheVariants as answers
 use Rattle.pa_record.specs.declared.numbered.Numbered.{Numbered}
 use Rattle.pa_record.specs.declared.pool.PoolEntry.{PoolEntry}
@@ -20,8 +23,10 @@ use Rattle.pa_record.specs.Spans.{name_of}
 use Rattle.pa_record.specs.Sound.{IsMadeBy}
 use Rattle.pa_record.specs.Laws.{leaves_by}
 use Rattle.pa_lists.proofs.Members.{not_in_none, first_in, later_in, in_cases}
+use Rattle.pa_region.specs.History.{Done}
 use Rattle.pa_rules.specs.declared.played.Played.{Played}
 use Rattle.pa_rules.specs.Played.{marks_of}
+use Rattle.pa_rules.specs.Registers.{made_of, is_plain_op, plain_or, plain_in}
 use Rattle.pa_rules.specs.Roots.{Journals, AreRoots, IsPoolOf}
 use Rattle.pa_rules.specs.Caches.{Cache, Caches, MadeRow, CacheRow, CachesTo, no_caches, with_cache}
 use Rattle.pa_rules.specs.Report.{HasSize}
@@ -32,6 +37,8 @@ use Rattle.pa_rules.proofs.Running.{mark_from}
 use Rattle.pa_legal.specs.Tallies.{AreHomes}
 use Rattle.pa_logs.specs.Lengths.{titles_by, lengths_by}
 use Rattle.pa_logs.specs.Homes.{homes_by, HaveSlots, HomesFollow}
+use Rattle.pa_logs.specs.Steps.{AreSteps}
+use Rattle.pa_logs.proofs.OneSlot.{issue_at}
 use Rattle.pa_logs.proofs.Sizing.{made_listed, listed_made, is_partition, lengths_follow}
 use Rattle.pa_logs.proofs.StepMarks.{mark_step, issue_is}
 
@@ -93,30 +100,81 @@ module _ (supers partitions : ℕ) (ps : List Played) (pools : List PoolEntry) (
       home_is pools roots partitions p s t (is_partition supers partitions ps pools roots r h p t by) by name
       (λ q u made named. all.owned q p u t made by (ap (λ (z : SlotName). z.born) (named ∙ sym name)))
 
+-- ---- a slot that is plain by the records
+
+-- by the record, if that made the slot, and by the others if not
+plain_by : (s : SlotName) (b other : Bool) (x : Played) (a : Answer) → ((seen : Seen) (usable : ℕ) → a ≡ answers.Made seen usable →
+    seen.slot ≡ s → is_plain_op x.rules x.op ≡ b) → (plain_or (made_of a) x s other ≡ b) ⊎ (plain_or (made_of a) x s other ≡ other)
+plain_by s b other x (answers.Made seen usable) each = elim (cases_Bool (same_slot seen.slot s)) [
+  | inl y ↦ inl (rw y (each seen usable refl (same_slot_eq seen.slot s y)))
+  | inr n ↦ inr (rw n refl)
+]
+plain_by s b other x a each = inr refl
+
+plain_here : (s : SlotName) (b other : Bool) (x : Played) (a : Answer) (seen : Seen) (usable : ℕ) → a ≡ answers.Made seen usable →
+    seen.slot ≡ s → is_plain_op x.rules x.op ≡ b → plain_or (made_of a) x s other ≡ b
+plain_here s b other x a seen usable made slot is =
+    ap (λ c. plain_or (made_of c) x s other) made ∙ rw (same_slot_yes seen.slot s slot) is
+
+-- if each record that made the slot says so, and one did
+plain_made : (s : SlotName) (b : Bool) (ps : List Played) → ((x : Played) (seen : Seen) (usable : ℕ) → Contains ps x →
+    x.answer ≡ answers.Made seen usable → seen.slot ≡ s → is_plain_op x.rules x.op ≡ b) → (x : Played) (seen : Seen) (usable : ℕ) →
+    Contains ps x → x.answer ≡ answers.Made seen usable → seen.slot ≡ s → plain_in ps s ≡ b
+plain_made s b [] each x seen usable among made slot = absurd (not_in_none x among)
+plain_made s b (y ∷ ys) each x seen usable among made slot = elim (in_cases y x ys among) [
+  | inl same ↦
+      let answer : y.answer ≡ answers.Made seen usable = ap (λ (z : Played). z.answer) same ∙ made in
+      plain_here s b (plain_in ys s) y y.answer seen usable answer slot (each y seen usable (first_in y ys) answer slot)
+  | inr later ↦
+      let again = plain_made s b ys (λ z found n member. each z found n (later_in y z ys member)) x seen usable later made slot in
+      elim (plain_by s b (plain_in ys s) y y.answer (λ found n. each y found n (first_in y ys))) [
+        | inl here ↦ here
+        | inr others ↦ others ∙ again
+      ]
+]
+
 -- ---- the slot of a record
 
--- the slot of an answer that made one has a partition and a length
+-- a slot that has a partition and a length
 abbrev HasSome : Journals → SlotName → Type 0
 HasSome roots s = (p len : ℕ) × HasSize roots p s len
 
+-- the slot of a record that made one has the partition from which its op asked for it, and a length
+record IsMadeFor (roots : Journals) (x : Played) (s : SlotName) : Type 0 where
+  reg : ℕ
+  partition : ℕ
+  asked : ℕ
+  len : ℕ
+  op : x.op ≡ ops.Alloc reg partition asked
+  has : HasSize roots partition s len
+
 made_row : (roots : Journals) (x : Played) (seen : Seen) (cache after : Cache) → IsKnown roots cache → MadeRow roots x seen cache after →
-    HasSome roots seen.slot
+    IsMadeFor roots x seen.slot
 made_row roots x seen cache after known (inl (p, class, xs, rest, asks, filled, front, becomes)) =
     let first = first_keeps seen.slot roots x.line p class (cache p class) xs (λ n. known p class n) filled in
     let head : Numbered = record { slot = seen.slot; number = number_of seen.found.0 } in
-    (p, slot_of class, inl (class, first.known head (subst (λ zs. Contains zs head) (sym front) (first_in head rest)), refl))
+    record {
+      reg = asks.0;
+      partition = p;
+      asked = asks.1;
+      len = slot_of class;
+      op = asks.2;
+      has = inl (class, first.known head (subst (λ zs. Contains zs head) (sym front) (first_in head rest)), refl);
+    }
 made_row roots x seen cache after known (inr (p, size, asked, len, asks, only, becomes)) =
     let (e, among, act) = entry_of_act roots x.line p (Map asked seen.slot len) only.0 in
-    (p, len, inr (e, asked, among, act))
+    record { reg = asks.0; partition = p; asked = size; len = len; op = asks.1; has = inr (e, asked, among, act) }
 
 made_in : (partitions : ℕ) (roots : Journals) (xs : List Played) (all after : Caches) (x : Played) (seen : Seen) (usable : ℕ) →
     ((t : ℕ) → IsKnown roots (all t)) →
-    CachesTo partitions roots all xs after → Contains xs x → x.answer ≡ answers.Made seen usable → HasSome roots seen.slot
+    CachesTo partitions roots all xs after → Contains xs x → x.answer ≡ answers.Made seen usable → IsMadeFor roots x seen.slot
 made_in partitions roots [] all after x seen usable known to among made = absurd (not_in_none x among)
 made_in partitions roots (y ∷ ys) all after x seen usable known (next, row, rest) among made = elim (in_cases y x ys among) [
   | inl e ↦
       let answer : y.answer ≡ answers.Made seen usable = ap (λ (z : Played). z.answer) e ∙ made in
-      made_row roots y seen (all y.thread) next (known y.thread) (subst (λ a. CacheRow partitions roots y a (all y.thread) next) answer row)
+      subst (λ (z : Played). IsMadeFor roots z seen.slot) e
+      (made_row roots y seen (all y.thread) next (known y.thread)
+      (subst (λ a. CacheRow partitions roots y a (all y.thread) next) answer row))
   | inr later ↦
       made_in partitions roots ys (with_cache all y.thread next) after x seen usable
       (known_with roots all y.thread next known (row_known partitions roots y y.answer (all y.thread) next (known y.thread) row)) rest later
@@ -125,6 +183,11 @@ made_in partitions roots (y ∷ ys) all after x seen usable known (next, row, re
 
 module _ (supers partitions : ℕ) (ps : List Played) (pools : List PoolEntry) (roots : Journals)
     (h : HaveSlots supers partitions ps pools roots) where
+  made_for : (x : Played) (seen : Seen) (usable : ℕ) → Contains ps x → x.answer ≡ answers.Made seen usable → IsMadeFor roots x seen.slot
+  made_for x seen usable among answer =
+      let (after, to) = h.caches in
+      made_in partitions roots ps no_caches after x seen usable (λ t q c n none. absurd (not_in_none n none)) to among answer
+
   -- the step at the word 0 is the issue of a slot that was made
   first_step : (s : SlotName) (m : Mark) (p : Step) → IsFirstAt (marks_of ps) s 0 m p → CanStep p 0 → HasSome roots s
   first_step s m p first can =
@@ -133,10 +196,8 @@ module _ (supers partitions : ℕ) (ps : List Played) (pools : List PoolEntry) (
       let issue : p ≡ steps.Issue = issue_first p 0 can refl in
       let step : d.step ≡ steps.Issue = some_is d.step steps.Issue (sym (ap (λ (z : Mark). z.step) is) ∙ (first.step ∙ ap Some issue)) in
       let issued = issue_is x.op x.answer d stepped step in
-      let (after, to) = h.caches in
-      subst (λ n. HasSome roots n) (issued.slot ∙ (sym (ap (λ (z : Mark). z.slot) is) ∙ first.slot))
-      (made_in partitions roots ps no_caches after x issued.seen issued.usable
-      (λ t q c n none. absurd (not_in_none n none)) to among issued.answer)
+      let made = made_for x issued.seen issued.usable among issued.answer in
+      subst (λ n. HasSome roots n) (issued.slot ∙ (sym (ap (λ (z : Mark). z.slot) is) ∙ first.slot)) (made.partition, made.len, made.has)
     where
       some_is : (a b : Step) → Some a ≡ Some b → a ≡ b
       some_is a b e = cc
@@ -176,8 +237,27 @@ module _ (supers partitions : ℕ) (ps : List Played) (pools : List PoolEntry) (
       subst (λ q. HasSize roots q m.slot (lengths_by partitions pools roots m.slot)) (sym home)
       (subst (λ n. HasSize roots p m.slot n) (sym size) has)
 
+  -- a record that made a slot asked for it from a plain partition, exactly if its partition is
+  plain_asked : (rules : Rules) (x : Played) (seen : Seen) (usable : ℕ) → x.rules ≡ rules → Contains ps x →
+      x.answer ≡ answers.Made seen usable → is_plain_op x.rules x.op ≡ nat_le rules.plain_from (homes_by partitions pools roots seen.slot)
+  plain_asked rules x seen usable same among answer =
+      let made = made_for x seen usable among answer in
+      let home = home_named supers partitions ps pools roots h.journals h.pool made.partition made.len seen.slot made.has in
+      ap₂ is_plain_op same made.op ∙ ap (nat_le rules.plain_from) (sym home)
+
+  is_plain : (rules : Rules) (s : SlotName) (history : List Done) → ((x : Played) → Contains ps x → x.rules ≡ rules) →
+      AreSteps ps s history → 0 < length history → plain_in ps s ≡ nat_le rules.plain_from (homes_by partitions pools roots s)
+  is_plain rules s history ruled are some_step =
+      let (x, seen, usable, among, answer, slot) = issue_at ps s history are some_step in
+      plain_made s (nat_le rules.plain_from (homes_by partitions pools roots s)) ps
+      (λ y found n member made named. plain_asked rules y found n (ruled y member) member made
+      ∙ ap (λ z. nat_le rules.plain_from (homes_by partitions pools roots z)) named)
+      x seen usable among answer slot
+
 pub homes_follow : HomesFollow
 homes_follow = record {
   named = λ supers partitions p len ps pools roots s r h has. home_named supers partitions ps pools roots r h p len s has;
   homes = are_homes;
+  plain = λ supers partitions rules ps pools roots s history h ruled are some_step.
+      is_plain supers partitions ps pools roots h rules s history ruled are some_step;
 }

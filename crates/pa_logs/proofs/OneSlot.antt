@@ -5,18 +5,21 @@ use Rattle.pa_slot.specs.declared.word.SlotName.{SlotName}
 use Rattle.pa_slot.specs.declared.word.Step.{Step}
 use Rattle.pa_slot.specs.Count.{CanStep, number_of}
 use Rattle.pa_slot.specs.Run.{Mark, IsFirstAt}
+use Rattle.pa_slot.proofs.Runs.{issue_first}
+use Rattle.pa_record.specs.declared.entry.Seen.{Seen}
+use Rattle.pa_record.specs.declared.entry.Answer.TheVariants as answers
 use Rattle.pa_lists.proofs.Members.{of_some}
-use Rattle.pa_region.specs.History.{Done, IsLegal}
+use Rattle.pa_region.specs.History.{Done, IsLegal, reached}
 use Rattle.pa_region.specs.Contents.{up_to, word_at_number}
 use Rattle.pa_region.proofs.LogPart.{reached_number}
-use Rattle.pa_region.proofs.AtNumber.{up_to_length, up_to_legal}
+use Rattle.pa_region.proofs.AtNumber.{up_to_length, up_to_legal, up_to_none}
 use Rattle.pa_rules.specs.declared.played.Played.{Played}
 use Rattle.pa_rules.specs.Played.{marks_of}
 use Rattle.pa_rules.proofs.Running.{mark_from}
 use Rattle.pa_rules.proofs.Phases.{mark_in}
 use Rattle.pa_logs.specs.Touches.{StepMade, step_by}
 use Rattle.pa_logs.specs.Steps.{AreSteps}
-use Rattle.pa_logs.proofs.StepMarks.{mark_made, step_mark, mark_step}
+use Rattle.pa_logs.proofs.StepMarks.{mark_made, step_mark, mark_step, issue_is}
 
 some_step : (o : Option Step) → IsSome o → (p : Step) × (o ≡ Some p)
 some_step None h = absurd (none_is None refl h)
@@ -56,6 +59,15 @@ module _ (ps : List Played) (s : SlotName) (history : List Done) (steps : AreSte
       let stands : up_to (k + 1) history ≡ there ∷ up_to k history =
       subst (λ j. up_to (j + 1) history ≡ there ∷ up_to j history) n at.next in
       (x, d, record { among = among; is = is; slot = slot; found = found; number = n; stands = stands; can = can_at k there stands })
+
+  -- the first step is the issue: a record made the slot
+  pub issue_at : 0 < length history →
+      (x : Played) × (seen : Seen) × (usable : ℕ) × Contains ps x × (x.answer ≡ answers.Made seen usable) × (seen.slot ≡ s)
+  issue_at some_step =
+      let (x, d, at) = step_at 0 some_step in
+      let zero_word : word_at_number 0 history ≡ 0 = ap reached (up_to_none history) in
+      let is = issue_is x.op x.answer d at.is (issue_first d.step (word_at_number 0 history) at.can zero_word) in
+      (x, is.seen, is.usable, at.among, is.answer, is.slot ∙ at.slot)
 
   -- a step that a record made could be made
   pub can_made : (x : Played) (d : StepMade) → Contains ps x → step_by x ≡ Some d → d.slot ≡ s → CanStep d.step d.found

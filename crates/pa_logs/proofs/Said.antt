@@ -1,12 +1,13 @@
 -- What all layers say gives all that is known of a run that was played out. So it is legal, and the closed region holds it.
-use Rattle.std.proofs.Common.{◌≡◌, ℕ, ◌-◌, ◌<◌, ◌≤◌, leb, List, filter, length, refl, subst, arith, sym}
+use Rattle.std.proofs.Common.{◌≡◌, ℕ, ◌<◌, ◌≤◌, leb, List, filter, length, refl, subst, arith, sym, inl, inr}
 use Rattle.std.specs.Prelude.{Contains}
 use Rattle.std.proofs.lemmas.Bool.{le-leb}
 use Rattle.pa_slot.specs.declared.word.SlotName.{SlotName}
 use Rattle.pa_slot.specs.Run.{Slots}
 use Rattle.pa_trace.specs.Rules.{rules_of}
-use Rattle.pa_rules.proofs.Ruling.{told_once}
+use Rattle.pa_rules.proofs.Ruling.{told_rules, told_once}
 use Rattle.pa_region.specs.declared.view.View.{View}
+use Rattle.pa_region.specs.History.{Done}
 use Rattle.pa_region.specs.Lists.{list_of}
 use Rattle.pa_region.specs.Ends.{IsEnd}
 use Rattle.pa_trace.specs.declared.script.Trace.{Trace}
@@ -19,7 +20,7 @@ use Rattle.pa_rules.specs.Played.{marks_of}
 use Rattle.pa_rules.specs.Caches.{Caches, CachesTo, AreCaches, no_caches}
 use Rattle.pa_rules.specs.Held.{IsHeldIn}
 use Rattle.pa_rules.specs.Legal.{phases_in, IsLegalTold}
-use Rattle.pa_rules.specs.Registers.{AreRegisters, no_regs, usable_in}
+use Rattle.pa_rules.specs.Registers.{AreRegisters, no_regs}
 use Rattle.pa_rules.specs.Report.{IsReport, until}
 use Rattle.pa_rules.specs.Roots.{AreRoots, IsPoolOf}
 use Rattle.pa_rules.specs.Seen.{IsSeenInOrder}
@@ -30,12 +31,14 @@ use Rattle.pa_legal.specs.Known.{UnmapsNext}
 use Rattle.pa_legal.specs.Tallies.{AreHomes}
 use Rattle.pa_logs.specs.Told.{ToldRecord, played_in, is_of_thread}
 use Rattle.pa_logs.specs.Touches.{title_of}
+use Rattle.pa_logs.specs.Homes.{HaveSlots}
 use Rattle.pa_logs.specs.Reads.{HaveReaders}
+use Rattle.pa_logs.specs.Steps.{AreSteps}
 use Rattle.pa_logs.specs.Viewed.{IsOrdered}
 use Rattle.pa_logs.specs.Swaps.{place_of}
 use Rattle.pa_logs.specs.Reported.{AreReported, IsLineTold}
 use Rattle.pa_logs.specs.Whole.{IsPlayedOut}
-use Rattle.pa_logs.specs.Said.{sizes_in, homes_in, HasToldRows, LayersSay, CloseSays, LayersTellAll}
+use Rattle.pa_logs.specs.Said.{sizes_in, homes_in, plains_in, HasToldRows, LayersSay, CloseSays, LayersTellAll}
 use Rattle.pa_logs.proofs.Celling.{cells_follow}
 use Rattle.pa_logs.proofs.Closing.{closes_holding}
 use Rattle.pa_logs.proofs.Due.{place_is}
@@ -48,7 +51,7 @@ use Rattle.pa_logs.proofs.Reporting.{leads, report_follows}
 use Rattle.pa_logs.proofs.Saying.{are_lines, rising, within, knows, have_ends, cut_at, cuts, are_lists, swapped, answered, viewed}
 use Rattle.pa_logs.proofs.Slots.{slots_follow}
 use Rattle.pa_logs.proofs.Swapping.{swaps_follow}
-use Rattle.pa_logs.proofs.Through.{by_records, rows_same, merged, have_readers}
+use Rattle.pa_logs.proofs.Through.{by_records, IsSlotOf, AgreesAt, rows_same, merged, have_readers}
 use Rattle.pa_logs.proofs.Usable.{usable_follows}
 use Rattle.pa_logs.proofs.Viewing.{seen_follows}
 use Rattle.pa_logs.proofs.Whole.{looks_in_use, in_phases, legal_is_told}
@@ -116,29 +119,42 @@ module _ (t : Trace) (r : Told) (v : View) (ts : List ToldRecord) (says : Layers
 
   -- ---- slots and registers
 
+  abbrev history : SlotName → List Done
+  history s = (knows t r v ts says).all.history (title_of sizes s)
+
+  steps : (s : SlotName) → AreSteps ps s (history s)
+  steps s = let all = knows t r v ts says in histories_follow sizes v ts all.all.history all.logs says.heap.told all.all.chain s
+
   slots : Slots (marks_of ps)
-  slots =
-      let all = knows t r v ts says in
-      slots_follow ps (λ s. all.all.history (title_of sizes s))
-      (histories_follow sizes v ts all.all.history all.logs says.heap.told all.all.chain)
+  slots = slots_follow ps history steps
 
   -- what a seat had seen was stepped on
-  usable_there : (x : ToldRecord) (s : SlotName) → Contains ts x → 1 ≤ x.saw (title_of sizes s) → usable_in ps s ≡ sizes s - 8
-  usable_there x s among some =
-      let all = knows t r v ts says in
+  stepped_on : (x : ToldRecord) (s : SlotName) → Contains ts x → IsSlotOf sizes x s → 0 < length (history s)
+  stepped_on x s among (inl some) =
       let u = title_of sizes s in
-      let chain = (all.all.chain u).all in
+      let chain = ((knows t r v ts says).all.chain u).all in
       let grown = says.heap.seen.grows x u among in
       let heard = says.runner.heard x u among in
       let logged = says.runner.has.aware.all_seen says.runner.has.every u in
-      let long : 0 < length (all.all.history u) = omega arith in
-      let is = usable_follows sizes ts s (all.all.history u) says.heap.told
-      (histories_follow sizes v ts all.all.history all.logs says.heap.told all.all.chain s) long in
+      omega arith
+  stepped_on x s among (inr (d, step, slot)) =
+      let below = ((steps s).stand x.played d (map_in (λ (z : ToldRecord). z.played) ts x among) step slot).below in
       omega arith
 
+  have_slots : HaveSlots t.region t.partitions ps r.pools r.roots
+  have_slots =
+      record { journals = roots; pool = pool; caches = caches; slots = slots; used = looks_in_use sizes ts says.heap.told }
+
+  agrees : (x : ToldRecord) (s : SlotName) → Contains ts x → IsSlotOf sizes x s → AgreesAt (plains_in t r) sizes ps s
+  agrees x s among of =
+      let long = stepped_on x s among of in
+      let usable = usable_follows sizes ts s (history s) says.heap.told (steps s) long in
+      let ruled = subst (λ xs. (y : Played) → Contains xs y → y.rules ≡ rules_of t) (sym says.runner.records) (told_rules t r) in
+      (omega arith, homes_follow.plain t.region t.partitions (rules_of t) ps r.pools r.roots s (history s) have_slots ruled (steps s) long)
+
   rows : (k : ℕ) → HasToldRows sizes (by_records t.version ps r.cells) (no_regs k) (filter (is_of_thread k) ts)
-  rows k = rows_same t.version sizes ps r.cells (no_regs k) (filter (is_of_thread k) ts)
-      (λ x s among some. usable_there x s (filter_cases (is_of_thread k) ts x among).0 some) (says.heap.rows k)
+  rows k = rows_same t.version (plains_in t r) sizes ps r.cells (no_regs k) (filter (is_of_thread k) ts)
+      (λ x s among of. agrees x s (filter_cases (is_of_thread k) ts x among).0 of) (says.heap.rows k)
 
   registers : AreRegisters (usable_of t.version) r.cells ps
   registers = merged sizes (by_records t.version ps r.cells) no_regs ts rows
@@ -167,8 +183,7 @@ module _ (t : Trace) (r : Told) (v : View) (ts : List ToldRecord) (says : Layers
   -- ---- the report
 
   homes : AreHomes r.roots (homes_in t r) sizes (marks_of ps)
-  homes = homes_follow.homes t.region t.partitions ps r.pools r.roots
-      (record { journals = roots; pool = pool; caches = caches; slots = slots; used = looks_in_use sizes ts says.heap.told })
+  homes = homes_follow.homes t.region t.partitions ps r.pools r.roots have_slots
 
   reported : AreReported t.region t.partitions t.threads (homes_in t r) sizes (λ q. list_of q v) r.pools r.roots ts
   reported = record {

@@ -1,8 +1,9 @@
 -- The registers of the run, and through which one each read was, from the rows of each thread.
-use Rattle.std.proofs.Common.{◌≡◌, ℕ, ◌-◌, ◌*◌, ◌<◌, ◌≤◌, Bool, true, List, [], ◌∷◌, ◌++◌, filter, refl, sym, ◌∙◌, ap, subst, inl, inr}
+use Rattle.std.proofs.Common.{◌≡◌, ℕ, ◌-◌, ◌*◌, ◌<◌, ◌≤◌, ◌⊎◌, Bool, true, false, List, [], ◌∷◌, ◌++◌, Some, filter, refl, sym, ◌∙◌, ap, ap₂, subst, inl, inr}
 use Rattle.std.specs.Prelude.{Contains}
 use Rattle.std.proofs.lemmas.Bool.{cases_eq, eq-eqb, ne_eqb}
 use Rattle.pa_slot.specs.declared.word.SlotName.{SlotName}
+use Rattle.pa_slot.specs.declared.word.Step.TheVariants as steps
 use Rattle.pa_region.specs.declared.view.Entry.{Entry}
 use Rattle.pa_region.specs.declared.view.Entry.TheVariants.{Looked, Read}
 use Rattle.pa_trace.specs.declared.script.Op.{Op}
@@ -14,68 +15,113 @@ use Rattle.pa_record.specs.declared.history.CellEntry.{CellEntry}
 use Rattle.pa_lists.proofs.Members.{not_in_none, first_in, later_in, in_cases}
 use Rattle.pa_rules.specs.declared.register.Register.TheVariants.{Empty, Own, Ref, Freed, Cleared}
 use Rattle.pa_rules.specs.declared.played.Played.{Played}
-use Rattle.pa_rules.specs.Registers.{Reg, Regs, AllRegs, Facts, Row, RowsTo, AllocRow, ReadRow, ReadFromRow, with_thread, no_regs, usable_in}
+use Rattle.pa_rules.specs.Registers.{Reg, Regs, AllRegs, Facts, Row, RowsTo, AllocRow, PointRow, CopyToRow, CopyRow, ReadRow, ReadFromRow, with_thread, no_regs, usable_in, plain_in, facts_with}
 use Rattle.pa_rules.specs.Sizes.{usable_of}
 use Rattle.pa_logs.specs.Told.{ToldRecord, played_in, is_of_thread}
-use Rattle.pa_logs.specs.Touches.{title_of, IsReadTold, IsToldBy, AreTold}
+use Rattle.pa_logs.specs.Touches.{title_of, StepMade, step_in, step_by, IsReadTold, IsToldBy, AreTold}
 use Rattle.pa_logs.specs.Reads.{ReadsThrough, HaveReaders}
 use Rattle.pa_logs.specs.Said.{HoldsHandle, IsReadThrough, ReadsIts, HasToldRows}
 
--- ---- the usable bytes of slots
+-- ---- what is known of slots
 
--- a slot's usable bytes by its length, and by the records, where a version says what is usable of a request
-abbrev pub by_length : ℕ → (SlotName → ℕ) → (ℕ → List CellEntry) → Facts
-by_length version sizes cells = record { usable_of = usable_of version; usable_at = λ s. sizes s - 8; cells = cells }
+-- a slot's usable bytes by its length and whether it is plain, and both by the records, where a version says what is usable of a request
+abbrev pub by_length : ℕ → (SlotName → Bool) → (SlotName → ℕ) → (ℕ → List CellEntry) → Facts
+by_length version plain sizes cells =
+    record { usable_of = usable_of version; usable_at = λ s. sizes s - 8; plain_at = plain; cells = cells }
 
 abbrev pub by_records : ℕ → List Played → (ℕ → List CellEntry) → Facts
-by_records version ps cells = record { usable_of = usable_of version; usable_at = usable_in ps; cells = cells }
+by_records version ps cells = facts_with (usable_of version) ps cells
 
-module _ (version : ℕ) (sizes : SlotName → ℕ) (ps : List Played) (cells : ℕ → List CellEntry) where
-  alloc_row : (r : Reg) (regs : Regs) (reg size : ℕ) (a : Answer) (after : Regs)
-      → AllocRow r (by_length version sizes cells) regs reg size a after → AllocRow r (by_records version ps cells) regs reg size a after
+-- the record's seat had seen the issue of the slot, or the record made a step on it
+abbrev pub IsSlotOf : (SlotName → ℕ) → ToldRecord → SlotName → Type 0
+IsSlotOf sizes x s = (1 ≤ x.saw (title_of sizes s)) ⊎ ((d : StepMade) × (step_by x.played ≡ Some d) × (d.slot ≡ s))
+
+-- the records say of the slot what its length and its partition do
+abbrev pub AgreesAt : (SlotName → Bool) → (SlotName → ℕ) → List Played → SlotName → Type 0
+AgreesAt plain sizes ps s = (usable_in ps s ≡ sizes s - 8) × (plain_in ps s ≡ plain s)
+
+module _ (version : ℕ) (plain : SlotName → Bool) (sizes : SlotName → ℕ) (ps : List Played) (cells : ℕ → List CellEntry) where
+  abbrev lengths : Facts
+  lengths = by_length version plain sizes cells
+
+  abbrev records : Facts
+  records = by_records version ps cells
+
+  alloc_row : (r : Reg) (regs : Regs) (reg size : ℕ) (a : Answer) (after : Regs) → AllocRow r lengths regs reg size a after →
+      AllocRow r records regs reg size a after
   alloc_row Empty regs reg size a after h = h
   alloc_row (Own s) regs reg size a after h = h
   alloc_row (Ref s) regs reg size a after h = h
   alloc_row Freed regs reg size a after h = h
   alloc_row Cleared regs reg size a after h = h
 
+  -- a register becomes a raw_ptr to the slot, or no raw_ptr to it would be counted
+  point_row : (b c : Bool) (s : SlotName) (regs : Regs) (to : ℕ) (a : Answer) (after : Regs) → (a ≡ answers.Uncounted → c ≡ b) →
+      ((seen : Seen) → a ≡ answers.Done seen → seen.slot ≡ s → c ≡ b) → PointRow b s regs to a after → PointRow c s regs to a after
+  point_row true c s regs to a after refused done h = subst (λ d. PointRow d s regs to a after) (sym (refused h.0)) h
+  point_row false c s regs to a after refused done h = subst (λ d. PointRow d s regs to a after) (sym (done h.0 h.2 h.1)) h
+
+  copy_to_row : (q : Reg) (b c : Bool) (s : SlotName) (regs : Regs) (to : ℕ) (a : Answer) (after : Regs) →
+      (PointRow b s regs to a after → PointRow c s regs to a after) → CopyToRow q b s regs to a after → CopyToRow q c s regs to a after
+  copy_to_row Empty b c s regs to a after points h = points h
+  copy_to_row (Own t) b c s regs to a after points h = h
+  copy_to_row (Ref t) b c s regs to a after points h = h
+  copy_to_row Freed b c s regs to a after points h = points h
+  copy_to_row Cleared b c s regs to a after points h = points h
+
+  copy_row : (r : Reg) (x : ToldRecord) (regs : Regs) (from to : ℕ) (after : Regs) → x.played.op ≡ ops.Copy from to →
+      ((s : SlotName) → IsSlotOf sizes x s → AgreesAt plain sizes ps s) →
+      ((s : SlotName) → r ≡ Own s → x.played.answer ≡ answers.Uncounted → 1 ≤ x.saw (title_of sizes s)) →
+      CopyRow r lengths regs to x.played.answer after → CopyRow r records regs to x.played.answer after
+  copy_row Empty x regs from to after op same knows h = h
+  copy_row (Own s) x regs from to after op same knows h =
+      copy_to_row (regs to) (plain s) (plain_in ps s) s regs to x.played.answer after
+      (point_row (plain s) (plain_in ps s) s regs to x.played.answer after (λ e. (same s (inl (knows s refl e))).1)
+      (λ seen e slot.
+      let d : StepMade = record { slot = seen.slot; step = steps.Copy; found = seen.found.0; value = 0 } in
+      let made : step_by x.played ≡ Some d = ap₂ step_in op e in
+      (same s (inr (d, made, slot))).1)) h
+  copy_row (Ref s) x regs from to after op same knows h = h
+  copy_row Freed x regs from to after op same knows h = h
+  copy_row Cleared x regs from to after op same knows h = h
+
   from_row : (s : SlotName) (regs : Regs) (place : ℕ) (a : Answer) (after : Regs) → usable_in ps s ≡ sizes s - 8 →
-      ReadFromRow s (by_length version sizes cells) regs place a after →
-      ReadFromRow s (by_records version ps cells) regs place a after
+      ReadFromRow s lengths regs place a after → ReadFromRow s records regs place a after
   from_row s regs place a after same (becomes, inl (past, is)) = (becomes, inl (subst (λ n. n ≤ 8 * place) (sym same) past, is))
   from_row s regs place a after same (becomes, inr (inside, seen, value, slot, is)) =
       (becomes, inr (subst (λ n. 8 * place < n) (sym same) inside, seen, value, slot, is))
 
-  read_row : (r : Reg) (regs : Regs) (place : ℕ) (a : Answer) (after : Regs)
-      → ((s : SlotName) → HoldsHandle r s → usable_in ps s ≡ sizes s - 8) → ReadRow r (by_length version sizes cells) regs place a after →
-      ReadRow r (by_records version ps cells) regs place a after
+  read_row : (r : Reg) (regs : Regs) (place : ℕ) (a : Answer) (after : Regs) →
+      ((s : SlotName) → HoldsHandle r s → usable_in ps s ≡ sizes s - 8) → ReadRow r lengths regs place a after →
+      ReadRow r records regs place a after
   read_row Empty regs place a after same h = h
   read_row (Own s) regs place a after same h = from_row s regs place a after (same s refl) h
   read_row (Ref s) regs place a after same h = from_row s regs place a after (same s refl) h
   read_row Freed regs place a after same h = h
   read_row Cleared regs place a after same h = h
 
-  one_row : (op : Op) (x : ToldRecord) (regs : Regs) (a : Answer) (after : Regs) →
-      ((s : SlotName) → 1 ≤ x.saw (title_of sizes s) → usable_in ps s ≡ sizes s - 8) →
-      Row (by_length version sizes cells) op regs a after → ReadsIts sizes regs op x → Row (by_records version ps cells) op regs a after
-  one_row (ops.Alloc reg partition size) x regs a after same h reads = alloc_row (regs reg) regs reg size a after h
-  one_row (ops.Copy from to) x regs a after same h reads = h
-  one_row (ops.Reset reg) x regs a after same h reads = h
-  one_row (ops.Free reg) x regs a after same h reads = h
-  one_row (ops.Write reg value) x regs a after same h reads = h
-  one_row (ops.Read reg place) x regs a after same h reads = read_row (regs reg) regs place a after (λ s has. same s (reads.issued s has)) h
-  one_row (ops.Swap cell reg) x regs a after same h reads = h
-  one_row ops.Purge x regs a after same h reads = h
+  one_row : (op : Op) (x : ToldRecord) (regs after : Regs) → x.played.op ≡ op →
+      ((s : SlotName) → IsSlotOf sizes x s → AgreesAt plain sizes ps s) → Row lengths op regs x.played.answer after →
+      ReadsIts sizes regs op x → Row records op regs x.played.answer after
+  one_row (ops.Alloc reg partition size) x regs after is same h reads = alloc_row (regs reg) regs reg size x.played.answer after h
+  one_row (ops.Copy from to) x regs after is same h reads = copy_row (regs from) x regs from to after is same reads h
+  one_row (ops.Reset reg) x regs after is same h reads = h
+  one_row (ops.Free reg) x regs after is same h reads = h
+  one_row (ops.Write reg value) x regs after is same h reads = h
+  one_row (ops.Read reg place) x regs after is same h reads =
+      read_row (regs reg) regs place x.played.answer after (λ s has. (same s (inl (reads.issued s has))).0) h
+  one_row (ops.Swap cell reg) x regs after is same h reads = h
+  one_row ops.Purge x regs after is same h reads = h
 
   pub rows_same : (regs : Regs) (xs : List ToldRecord) →
-      ((x : ToldRecord) (s : SlotName) → Contains xs x → 1 ≤ x.saw (title_of sizes s) → usable_in ps s ≡ sizes s - 8) →
-      HasToldRows sizes (by_length version sizes cells) regs xs → HasToldRows sizes (by_records version ps cells) regs xs
+      ((x : ToldRecord) (s : SlotName) → Contains xs x → IsSlotOf sizes x s → AgreesAt plain sizes ps s) →
+      HasToldRows sizes lengths regs xs → HasToldRows sizes records regs xs
   rows_same regs [] same h = tt
   rows_same regs (x ∷ xs) same (next, row, reads, rest) = (
     next,
-    one_row x.played.op x regs x.played.answer next (λ s seen. same x s (first_in x xs) seen) row reads,
+    one_row x.played.op x regs next refl (λ s of. same x s (first_in x xs) of) row reads,
     reads,
-    rows_same next xs (λ y s among seen. same y s (later_in x y xs among) seen) rest,
+    rows_same next xs (λ y s among of. same y s (later_in x y xs among) of) rest,
   )
 
 -- ---- the threads' rows are those of the run

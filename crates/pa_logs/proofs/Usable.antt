@@ -4,23 +4,19 @@ use Rattle.std.specs.Prelude.{Contains}
 use Rattle.std.proofs.lemmas.Bool.{cases_Bool}
 use Rattle.pa_slot.specs.declared.word.SlotName.{SlotName}
 use Rattle.pa_slot.specs.Run.{same_slot}
-use Rattle.pa_slot.proofs.Runs.{same_slot_eq, same_slot_yes, issue_first}
+use Rattle.pa_slot.proofs.Runs.{same_slot_eq, same_slot_yes}
 use Rattle.pa_trace.specs.declared.script.Op.{Op}
 use Rattle.pa_record.specs.declared.entry.Seen.{Seen}
 use Rattle.pa_record.specs.declared.entry.Answer.{Answer}
 use Rattle.pa_record.specs.declared.entry.Answer.TheVariants as answers
 use Rattle.pa_lists.proofs.Members.{not_in_none, first_in, later_in, in_cases}
-use Rattle.pa_region.specs.History.{reached}
-use Rattle.pa_region.specs.Contents.{word_at_number}
-use Rattle.pa_region.proofs.AtNumber.{up_to_none}
 use Rattle.pa_region.specs.declared.view.Entry.{Entry}
 use Rattle.pa_rules.specs.declared.played.Played.{Played}
 use Rattle.pa_rules.specs.Registers.{made_of, usable_or, usable_in}
 use Rattle.pa_logs.specs.Told.{ToldRecord, played_in}
 use Rattle.pa_logs.specs.Touches.{IsToldBy, AreTold}
 use Rattle.pa_logs.specs.Rows.{UsableFollows}
-use Rattle.pa_logs.proofs.OneSlot.{step_at}
-use Rattle.pa_logs.proofs.StepMarks.{issue_is}
+use Rattle.pa_logs.proofs.OneSlot.{issue_at}
 
 -- what a record says of the usable bytes: those of the slot that it made are all but 8, and it says of no other
 said : (sizes : SlotName → ℕ) (s : SlotName) (op : Op) (a : Answer) (es : List Entry) (other : ℕ) → IsToldBy sizes op a es →
@@ -59,7 +55,5 @@ first_made sizes s (y ∷ ys) x seen usable told among e slot = elim (in_cases y
 
 pub usable_follows : UsableFollows
 usable_follows sizes ts s history told are some_step =
-    let (x, d, at) = step_at (played_in ts) s history are 0 some_step in
-    let zero_word : word_at_number 0 history ≡ 0 = ap reached (up_to_none history) in
-    let is = issue_is x.op x.answer d at.is (issue_first d.step (word_at_number 0 history) at.can zero_word) in
-    first_made sizes s ts x is.seen is.usable told at.among is.answer (is.slot ∙ at.slot)
+    let (x, seen, usable, among, answer, slot) = issue_at (played_in ts) s history are some_step in
+    first_made sizes s ts x seen usable told among answer slot

@@ -1,6 +1,6 @@
 -- What each layer says of a run that was played in a region, all at once. From this it follows that the run is legal, and that the
 -- closed region holds it. Each layer has to say what only it can say, and nothing is required twice.
-use Rattle.std.specs.Prelude.{◌≡◌, ℕ, ◌+◌, ◌-◌, ◌<◌, ◌≤◌, List, [], ◌∷◌, Bool, true, map, filter, length, Contains}
+use Rattle.std.specs.Prelude.{◌≡◌, ℕ, nat_le, ◌+◌, ◌-◌, ◌<◌, ◌≤◌, List, [], ◌∷◌, Bool, true, map, filter, length, Contains}
 use Rattle.std.specs.List.{AllByRecursion as Each}
 use Rattle.pa_slot.specs.declared.title.Title.{Title}
 use Rattle.pa_slot.specs.declared.word.SlotName.{SlotName}
@@ -23,7 +23,7 @@ use Rattle.pa_trace.specs.declared.script.Op.{Op}
 use Rattle.pa_trace.specs.declared.script.Op.TheVariants as ops
 use Rattle.pa_trace.specs.Limits.{IsWithinLimits, most_partitions}
 use Rattle.pa_record.specs.declared.census.Census.{Census}
-use Rattle.pa_record.specs.declared.entry.Answer.TheVariants.{Full}
+use Rattle.pa_record.specs.declared.entry.Answer.TheVariants.{Full, Uncounted}
 use Rattle.pa_record.specs.declared.history.Held.TheVariants.{Nothing}
 use Rattle.pa_record.specs.declared.numbered.Numbered.{Numbered}
 use Rattle.pa_record.specs.declared.pool.PoolEntry.{PoolEntry}
@@ -71,6 +71,10 @@ sizes_in t r = lengths_by t.partitions r.pools r.roots
 -- the partition of each slot, as the run's journals say it
 abbrev pub homes_in : Trace → Told → SlotName → ℕ
 homes_in t r = homes_by t.partitions r.pools r.roots
+
+-- whether each slot is in a plain partition, as the run's journals say it
+abbrev pub plains_in : Trace → Told → SlotName → Bool
+plains_in t r s = nat_le (rules_of t).plain_from (homes_in t r s)
 
 -- ---- the runner
 
@@ -162,9 +166,12 @@ pub record IsReadThrough (sizes : SlotName → ℕ) (reg : Reg) (x : ToldRecord)
   pub owned : (s : SlotName) (t : Title) (place value : ℕ) (since : Deeds) (owner unclean : Bool) → reg ≡ Own s →
       Contains x.stretch (Read t place value since owner unclean) → owner ≡ true
 
--- A read goes through the register that its op names. Of other ops nothing is required.
+-- A read goes through the register that its op names. If a copy of an Own wouldn't be counted, the seat had seen the issue of its slot.
+-- Of other ops nothing is required.
 abbrev pub ReadsIts : (SlotName → ℕ) → Regs → Op → ToldRecord → Type 0
 ReadsIts sizes regs (ops.Read reg place) x = IsReadThrough sizes (regs reg) x
+ReadsIts sizes regs (ops.Copy from to) x =
+    (s : SlotName) → regs from ≡ Own s → x.played.answer ≡ Uncounted → 1 ≤ x.saw (title_of sizes s)
 ReadsIts sizes regs op x = Unit {0}
 
 -- record by record of one thread, each answer is the one that its registers require, and so are reads
@@ -173,9 +180,15 @@ HasToldRows sizes facts regs [] = Unit {0}
 HasToldRows sizes facts regs (x ∷ xs) =
     (next : Regs) × Row facts x.played.op regs x.played.answer next × ReadsIts sizes regs x.played.op x × HasToldRows sizes facts next xs
 
--- what the transitions require besides registers: the usable bytes of a slot are all but 8 of its length
+-- what the transitions require besides registers: the usable bytes of a slot are all but 8 of its length, and a slot is plain where its
+-- partition is
 abbrev pub facts_in : Trace → Told → Facts
-facts_in t r = record { usable_of = usable_of t.version; usable_at = λ s. sizes_in t r s - 8; cells = r.cells }
+facts_in t r = record {
+  usable_of = usable_of t.version;
+  usable_at = λ s. sizes_in t r s - 8;
+  plain_at = plains_in t r;
+  cells = r.cells;
+}
 
 -- What seats had seen, each by its own. No step or look found less, what it left is handed on, and what was seen stays seen. A
 -- record's seat has seen what its thread's records before hand on.

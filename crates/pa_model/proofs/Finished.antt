@@ -22,7 +22,7 @@ can_end p going =
 pub finishes : (p : Player) (run : Run) → IsGoing p → IsToldRun (phase_ended p.inner).told run → IsFinished p (trace_so_far p) run
 finishes p run going told =
     let t : Trace = trace_so_far p in
-    let all = all_told t p.inner going.version going.within going.playing in
+    let all = all_told t p.inner going.rules going.within going.playing in
     let is : told_by run ≡ lists_of (phase_ended p.inner).told = told_same (phase_ended p.inner).told run told in
     let records : records_of t (told_by run) ≡ records_so_far p = ap (records_of t) is in
     let on : GoesOnFrom p (records_so_far p) (lists_of (phase_ended p.inner).told) = record {

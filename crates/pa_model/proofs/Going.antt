@@ -8,6 +8,7 @@ use Rattle.pa_trace.specs.Limits.{IsHeadWithin, IsLineWithin}
 use Rattle.pa_trace.proofs.Texts.{all_push}
 use Rattle.pa_trace.specs.Grammar.{IsVersionTo, last_version}
 use Rattle.pa_trace.specs.declared.script.Rules.{Rules}
+use Rattle.pa_trace.specs.Rules.{rules_by}
 use Rattle.pa_record.specs.declared.entry.Answer.{Answer}
 use Rattle.pa_record.specs.declared.entry.Entry.{Entry}
 use Rattle.pa_rules.specs.declared.played.Played.{Played}
@@ -18,15 +19,12 @@ use Rattle.pa_rules.proofs.Lined.{lines_phase}
 use Rattle.pa_slot_effects.specs.Turns.{played_at}
 use Rattle.pa_slot_effects.proofs.Lines.{lines_more}
 use Rattle.pa_player.specs.Begun.{IsBegun}
-use Rattle.pa_player.specs.Playing.{journals, IsPlaying}
+use Rattle.pa_player.specs.Playing.{journals, rules_at, IsPlaying}
 use Rattle.pa_player.specs.Plays.{CanGoOn, IsReady, TellsOn, GoesTo, record_of}
 use Rattle.pa_player.specs.Told.{history_in}
 use Rattle.pa_player.proofs.Start.{begins_playing}
+use Rattle.pa_player.proofs.Trace.{head_within}
 use Rattle.pa_model.specs.Player.{Player, records_so_far, WasPlayed, IsGoing, IsNew, IsLater, IsRecorded, PlaysLine}
-
--- the rules by which the lines of a trace with this head are played
-abbrev rules_by : Head → Rules
-rules_by h = record { version = h.version; plain_from = h.partitions }
 
 -- ---- before the first line
 
@@ -35,7 +33,7 @@ pub begins_new : (head : Head) (p : Player) → IsVersionTo last_version head.ve
 begins_new head p known within begun at none =
     let start : WasPlayed head [] p.inner = record {
       within = record { version = known; head = within; lines = tt; few = omega arith };
-      version = begun.version;
+      rules = begun.rules;
       playing = begins_playing head p.inner within begun;
     } in
     record {
@@ -48,18 +46,16 @@ begins_new head p known within begun at none =
 -- ---- the records so far
 
 -- they are those of the lines
-own_lines : (p : Player) → p.inner.version ≡ p.lines.head.version
+own_lines : (p : Player) → rules_at p.inner ≡ rules_by p.lines.head
     → (h : IsPlaying p.lines.head.region p.lines.head.partitions p.lines.head.threads p.lines.items p.inner)
     → AreLines (rules_by p.lines.head) p.lines.items h.ps
-own_lines p version h =
-    let by : ℕ → ℕ → Rules = λ v n. record { version = v; plain_from = n } in
-    subst (λ (k : Rules). AreLines k p.lines.items h.ps) (ap₂ by version h.shaped.many) h.told.lines
+own_lines p rules h = subst (λ (k : Rules). AreLines k p.lines.items h.ps) rules h.told.lines
 
-pub records_are : (p : Player) → p.inner.version ≡ p.lines.head.version
+pub records_are : (p : Player) → rules_at p.inner ≡ rules_by p.lines.head
     → (h : IsPlaying p.lines.head.region p.lines.head.partitions p.lines.head.threads p.lines.items p.inner) → records_so_far p ≡ h.ps
-records_are p version h =
-    let rules = rules_by p.lines.head in
-    ap (played rules p.lines.items) (sym h.entries) ∙ records_are_lines.same rules p.lines.items h.ps (own_lines p version h)
+records_are p rules h =
+    let by = rules_by p.lines.head in
+    ap (played by p.lines.items) (sym h.entries) ∙ records_are_lines.same by p.lines.items h.ps (own_lines p rules h)
 
 -- lines and records more
 records_more : (rules : Rules) (ls more : List Line) (ps added : List Played) (es new : List Entry) → map entry_of ps ≡ es →
@@ -78,7 +74,7 @@ module _ (p q : Player) (line : Line) (going : IsGoing p) (few : length p.lines.
     playing = going.playing;
     short = few;
     within = within;
-    head = subst (λ v. IsHeadWithin (record p.lines.head { version = v })) (sym going.version) going.within.head;
+    head = head_within p.lines.head p.inner going.rules going.within.head;
   }
 
   pub ready : IsReady line p.inner
@@ -92,8 +88,8 @@ module _ (p q : Player) (line : Line) (going : IsGoing p) (few : length p.lines.
 
   module _ (at : q.lines.head ≡ p.lines.head) (pushed : q.lines.items ≡ p.lines.items ++ line ∷ []) where
     still_going : IsPlaying p.lines.head.region p.lines.head.partitions p.lines.head.threads (p.lines.items ++ line ∷ []) q.inner →
-        q.inner.version ≡ p.inner.version → IsGoing q
-    still_going playing version =
+        rules_at q.inner ≡ rules_at p.inner → IsGoing q
+    still_going playing rules =
         let old = going.within in
         let next : WasPlayed p.lines.head (p.lines.items ++ line ∷ []) q.inner = record {
           within = record {
@@ -102,7 +98,7 @@ module _ (p q : Player) (line : Line) (going : IsGoing p) (few : length p.lines.
             lines = all_push (IsLineWithin p.lines.head.partitions p.lines.head.threads) p.lines.items line old.lines within;
             few = omega (arith, few, length_push p.lines.items line);
           };
-          version = version ∙ going.version;
+          rules = rules ∙ going.rules;
           playing = playing;
         } in
         subst (λ h. WasPlayed h q.lines.items q.inner) (sym at) (subst (λ ls. WasPlayed p.lines.head ls q.inner) (sym pushed) next)
@@ -137,9 +133,9 @@ module _ (p q : Player) (line : Line) (going : IsGoing p) (few : length p.lines.
         let more : records_so_far q ≡ records_so_far p ++ added =
         ap (λ (k : Head). played (rules_by k) q.lines.items q.inner.told.entries) at
         ∙ ap₂ (played (rules_by p.lines.head)) pushed tells.entries ∙ whole ∙
-        ap (λ xs. xs ++ added) (sym (records_are p going.version old)) in
+        ap (λ xs. xs ++ added) (sym (records_are p going.rules old)) in
         record {
-          going = still_going playing tells.version;
+          going = still_going playing tells.rules;
           head = at;
           lines = pushed;
           added = added;
@@ -158,7 +154,7 @@ plays_line p q Phase None going few within at pushed goes =
     let old = going.playing in
     let lines : AreLines (rules_by p.lines.head) (p.lines.items ++ Phase ∷ []) (old.ps ++ []) =
     subst (λ xs. AreLines (rules_by p.lines.head) (p.lines.items ++ Phase ∷ []) xs) (sym (append-nil old.ps))
-    (own_lines p going.version old ∙ sym (lines_phase (rules_by p.lines.head) 2 1 p.lines.items)) in
+    (own_lines p going.rules old ∙ sym (lines_phase (rules_by p.lines.head) 2 1 p.lines.items)) in
     plays p q Phase going few within at pushed None [] [] to.0 to.1 refl refl lines
 plays_line p q Phase (Some answer) going few within at pushed goes = absurd goes
 plays_line p q (Do thread op) None going few within at pushed goes = absurd goes
@@ -170,4 +166,4 @@ plays_line p q (Do thread op) (Some answer) going few within at pushed goes =
     let e : ℕ → List Entry = λ n. record { line = n; thread = thread; answer = answer } ∷ [] in
     plays p q (Do thread op) going few within at pushed (Some answer) (x ∷ []) (record_of p.inner thread answer ∷ []) to.0 to.1 refl
     (ap e (sym old.line))
-    (lines_more (rules_by p.lines.head) p.lines.items old.ps thread op answer (own_lines p going.version old))
+    (lines_more (rules_by p.lines.head) p.lines.items old.ps thread op answer (own_lines p going.rules old))

@@ -4,8 +4,9 @@ use Rattle.std.specs.List.{AllByRecursion}
 use Rattle.std.proofs.lemmas.List.{length_push}
 use Rattle.pa_trace.specs.declared.line.Head.{Head}
 use Rattle.pa_trace.specs.declared.script.Line.{Line}
-use Rattle.pa_trace.specs.Limits.{IsHeadWithin, IsLineWithin}
+use Rattle.pa_trace.specs.Limits.{IsLineWithin}
 use Rattle.pa_trace.specs.Unread.{Unread, trace_with, IsReadUpTo, IsLineRead, IsEndRead}
+use Rattle.pa_trace.specs.Rules.{rules_by}
 use Rattle.pa_player.specs.Player.{Player}
 use Rattle.pa_player.specs.Asks.{CanEnd}
 use Rattle.pa_player.specs.Begun.{IsBegun}
@@ -17,6 +18,7 @@ use Rattle.pa_player.specs.Told.{IsToldText}
 use Rattle.pa_model.proofs.AllTold.{all_told}
 use Rattle.pa_player.proofs.Reporting.{end_ready}
 use Rattle.pa_player.proofs.Start.{begins_playing}
+use Rattle.pa_player.proofs.Trace.{head_within}
 
 -- what holds of a list holds of its last member
 pub last_of : {A : Type 0} (P : A → Type 0) (ls : List A) (l : A) → AllByRecursion P (ls ++ l ∷ []) → P l
@@ -28,7 +30,7 @@ module _ (known : ℕ) (bytes : List ℕ) (u : Unread) (p : Player) where
   pub input_begins : (head : Head) → head ≡ u.head → IsReadUpTo known bytes [] u → IsBegun head p → IsPlayedUpTo known bytes u p
   input_begins head is read begun =
       let begun_here = subst (λ (h : Head). IsBegun h p) is begun in
-      record { ls = []; read = read; version = begun_here.version; playing = begins_playing u.head p read.head begun_here }
+      record { ls = []; read = read; rules = begun_here.rules; playing = begins_playing u.head p read.head begun_here }
 
   module _ (so_far : IsPlayedUpTo known bytes u p) where
     -- the line that was read can be played
@@ -41,7 +43,7 @@ module _ (known : ℕ) (bytes : List ℕ) (u : Unread) (p : Player) where
           short = omega (arith, few, length_push so_far.ls l);
           within = subst (λ (h : Head). IsLineWithin h.partitions h.threads l) line.head
               (last_of (IsLineWithin v.head.partitions v.head.threads) so_far.ls l next.lines);
-          head = subst (λ v. IsHeadWithin (record u.head { version = v })) (sym so_far.version) so_far.read.head;
+          head = head_within u.head p so_far.rules so_far.read.head;
         }
 
     pub input_ready : (l : Line) (v : Unread) → IsLineRead u l v → IsReady l p
@@ -55,7 +57,7 @@ module _ (known : ℕ) (bytes : List ℕ) (u : Unread) (p : Player) where
         record {
           ls = so_far.ls ++ l ∷ [];
           read = line.read known bytes so_far.ls so_far.read;
-          version = to.1 ∙ so_far.version ∙ ap (λ (h : Head). h.version) (sym line.head);
+          rules = to.1 ∙ so_far.rules ∙ ap rules_by (sym line.head);
           playing = subst (λ (h : Head). IsPlaying h.region h.partitions h.threads (so_far.ls ++ l ∷ []) q) (sym line.head) to.0;
         }
 
@@ -68,7 +70,7 @@ module _ (known : ℕ) (bytes : List ℕ) (u : Unread) (p : Player) where
     pub input_told : (v : Unread) → IsEndRead u v → IsAllTold (trace_with u.head so_far.ls) (phase_ended p).told
     input_told v end =
         let input = end.read known bytes so_far.ls so_far.read in
-        all_told (trace_with u.head so_far.ls) p so_far.version input.limits so_far.playing
+        all_told (trace_with u.head so_far.ls) p so_far.rules input.limits so_far.playing
 
     pub input_played : (v : Unread) (text : List ℕ) → IsEndRead u v → IsToldText (phase_ended p).told text → IsInputPlayed bytes text
     input_played v text end is =

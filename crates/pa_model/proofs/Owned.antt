@@ -1,23 +1,21 @@
 -- What a register owns after the lines so far, in each run that goes on from there; and the read of an owner's first word.
-use Rattle.std.proofs.Common.{◌≡◌, ℕ, ◌<◌, List, [], ◌∷◌, ◌++◌, length, Option, Some, None, Contains, refl, sym, ap, ◌∙◌, subst, arith, zero, suc}
+use Rattle.std.proofs.Common.{◌≡◌, ℕ, ◌<◌, List, ◌++◌, length, Option, Some, None, Contains, refl, sym, ap, ◌∙◌, subst}
 use Rattle.std.proofs.lemmas.List.Elements.{Contains-append_left}
 use Rattle.pa_slot.specs.declared.word.SlotName.{SlotName}
-use Rattle.pa_slot.proofs.Runs.{same_slot_yes}
 use Rattle.pa_trace.specs.declared.script.Line.{Line}
 use Rattle.pa_trace.specs.declared.script.Line.TheVariants.{Phase, Do}
 use Rattle.pa_trace.specs.declared.script.Op.TheVariants.{Read}
+use Rattle.pa_trace.specs.declared.script.Rules.{Rules}
 use Rattle.pa_record.specs.declared.entry.Answer.{Answer}
-use Rattle.pa_record.specs.declared.entry.Answer.TheVariants.{Made}
-use Rattle.pa_record.specs.declared.entry.Seen.{Seen}
 use Rattle.pa_record.specs.Spans.{name_of}
 use Rattle.pa_record.proofs.PoolSteps.{slice_get_more}
-use Rattle.pa_rules.specs.declared.played.Played.{Played}
 use Rattle.pa_rules.specs.Cells.{IsExchange}
-use Rattle.pa_rules.specs.Registers.{RowsTo, no_regs, made_of, usable_or, usable_in}
+use Rattle.pa_rules.specs.Registers.{RowsTo, facts_with, no_regs, usable_in, plain_in}
+use Rattle.pa_rules.specs.Sizes.{usable_of}
 use Rattle.pa_rules.specs.Report.{HasSize}
 use Rattle.pa_rules.specs.Roots.{Journals}
-use Rattle.pa_slot_effects.specs.Known.{facts_of, RowsNamed}
-use Rattle.pa_slot_effects.proofs.Rows.{rows_end, usable_made}
+use Rattle.pa_slot_effects.specs.Known.{RowsNamed}
+use Rattle.pa_slot_effects.proofs.Rows.{rows_end, usable_says, plain_says, said_more, usable_made, plain_made}
 use Rattle.pa_slot_effects.proofs.Words.{used_made}
 use Rattle.pa_rules.specs.declared.register.Register.{Register}
 use Rattle.pa_rules.specs.declared.register.Register.TheVariants.{Empty, Own, Ref, Freed, Cleared}
@@ -30,25 +28,6 @@ use Rattle.pa_player.proofs.Going.{let_out_sized}
 use Rattle.pa_model.specs.declared.player.Handed.{Handed}
 use Rattle.pa_model.specs.Player.{Player, records_so_far, IsGoing, IsOwned, AreRegsAfter, Owns, ReadsOwned, owned_of, owned_by}
 use Rattle.pa_model.proofs.Going.{records_are}
-
--- ---- usable numbers
-
-made_here : (a : Answer) (seen : Seen) (n : ℕ) (s : SlotName) (x y : ℕ) → a ≡ Made seen n → seen.slot ≡ s →
-    usable_or (made_of a) s x ≡ usable_or (made_of a) s y
-made_here a seen n s x y made at =
-    let one : (k : ℕ) →
-    usable_or (made_of a) s k ≡ n = λ k. ap (λ b. usable_or (made_of b) s k) made ∙ (rw (same_slot_yes seen.slot s at) refl) in
-    one x ∙ sym (one y)
-
--- records more don't change that of a slot that was made before
-usable_more : (ps more : List Played) (s : SlotName) (x : Played) (seen : Seen) (n : ℕ) → Contains ps x →
-    x.answer ≡ Made seen n → seen.slot ≡ s
-    → usable_in (ps ++ more) s ≡ usable_in ps s
-usable_more [] more s x seen n c made at = absurd (omega (arith, c.1))
-usable_more (p ∷ ps) more s x seen n (zero, lt, same) made at =
-    made_here p.answer seen n s (usable_in (ps ++ more) s) (usable_in ps s) (ap (λ (y : Played). y.answer) same ∙ made) at
-usable_more (p ∷ ps) more s x seen n (suc i, lt, same) made at =
-    ap (usable_or (made_of p.answer) s) (usable_more ps more s x seen n (i, omega (arith, lt), same) made at)
 
 -- ---- what a register owns
 
@@ -65,17 +44,24 @@ pub owns : (p : Player) (thread reg : ℕ) → IsGoing p → Owns p thread reg (
 owns p thread reg going ps r on =
     let h = going.playing in
     let a = shown p.inner in
-    let is : records_so_far p ≡ h.ps = records_are p going.version h in
+    let is : records_so_far p ≡ h.ps = records_are p going.rules h in
     let v = p.lines.head.version in
-    let told = subst (λ k. RowsNamed k a.word a.usable a.cells no_regs h.ps a.regs) going.version h.told.rows in
-    let rows : RowsTo (facts_of v (usable_in ps) r.cells) no_regs h.ps a.regs =
-    rows_end v a.word a.word a.usable (usable_in ps) a.cells r.cells (record {
+    let whole : ps ≡ h.ps ++ on.records.0 = on.records.1 ∙ ap (λ xs. xs ++ on.records.0) is in
+    let made = λ (s : SlotName) (up : 0 < a.word s). used_made h.ps a.word s h.told.runs up in
+    let told = subst (λ (k : Rules). RowsNamed k.version a.word a.usable a.plain a.cells no_regs h.ps a.regs) going.rules h.told.rows in
+    let rows : RowsTo (facts_with (usable_of v) ps r.cells) no_regs h.ps a.regs =
+    rows_end v a.word a.word a.usable (usable_in ps) a.plain (plain_in ps) a.cells r.cells (record {
       used = λ s up. up;
       sizes = λ s up.
-          let m = used_made h.ps a.word s h.told.runs up in
-          let whole : ps ≡ h.ps ++ on.records.0 = on.records.1 ∙ ap (λ xs. xs ++ on.records.0) is in
-          ap (λ xs. usable_in xs s) whole ∙ usable_more h.ps on.records.0 s m.maker m.seen m.usable m.among m.made m.slot
+          let m = made s up in
+          ap (λ xs. usable_in xs s) whole
+          ∙ said_more usable_in _ usable_says h.ps on.records.0 s m.maker m.seen m.usable m.among m.made m.slot
           ∙ usable_made a.usable h.ps m.maker m.seen m.usable s h.told.sized m.among m.made m.slot;
+      places = λ s up.
+          let m = made s up in
+          ap (λ xs. plain_in xs s) whole
+          ∙ said_more plain_in _ plain_says h.ps on.records.0 s m.maker m.seen m.usable m.among m.made m.slot
+          ∙ plain_made a.plain h.ps m.maker m.seen m.usable s h.told.placed m.among m.made m.slot;
       exchanges = λ k j e at.
           let c = on.cells k in
           subst (λ xs. IsExchange (λ n. xs) k j e) (sym c.1) (slice_get_more (a.cells k) c.0 j e at);

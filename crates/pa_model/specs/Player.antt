@@ -9,7 +9,7 @@ use Rattle.pa_trace.specs.declared.script.Trace.{Trace}
 use Rattle.pa_trace.specs.Limits.{IsWithinLimits}
 use Rattle.pa_trace.specs.Grammar.{IsTraceText}
 use Rattle.pa_trace.specs.Unread.{trace_with}
-use Rattle.pa_trace.specs.Rules.{rules_of}
+use Rattle.pa_trace.specs.Rules.{rules_by, rules_of}
 use Rattle.pa_trace.specs.declared.script.Rules.{Rules}
 use Rattle.pa_trace_writer.specs.Lines.{LinesSoFar}
 use Rattle.pa_record.specs.declared.entry.Seen.{Seen}
@@ -24,14 +24,14 @@ use Rattle.pa_rules.specs.declared.played.Played.{Played}
 use Rattle.pa_rules.specs.declared.register.Register.TheVariants.{Empty, Own, Ref, Freed, Cleared}
 use Rattle.pa_rules.specs.Legal.{phases_in, IsFileRun}
 use Rattle.pa_rules.specs.Played.{played}
-use Rattle.pa_rules.specs.Registers.{Reg, AllRegs, RowsTo, no_regs, usable_in}
+use Rattle.pa_rules.specs.Registers.{Reg, AllRegs, RowsTo, no_regs, facts_with}
 use Rattle.pa_rules.specs.Report.{HasSize}
 use Rattle.pa_rules.specs.Roots.{Journals}
 use Rattle.pa_rules.specs.Sizes.{usable_of}
 use Rattle.pa_rules.specs.Told.{Told, told_by, records_of}
 use Rattle.pa_core_run.specs.Playing.{HasCoreRun}
 use Rattle.pa_player.specs.Player.{Player as LinePlayer}
-use Rattle.pa_player.specs.Playing.{journals, register_at, IsPlaying}
+use Rattle.pa_player.specs.Playing.{journals, register_at, rules_at, IsPlaying}
 use Rattle.pa_player.specs.Tables.{title_owned}
 use Rattle.pa_player.specs.Told.{Lists, history_in}
 use Rattle.pa_model.specs.declared.player.Handed.{Handed}
@@ -54,7 +54,7 @@ records_so_far p = played (rules_of (trace_so_far p)) p.lines.items p.inner.told
 -- these lines are a trace within the limits, and they were played
 pub record WasPlayed (head : Head) (ls : List Line) (p : LinePlayer) : Type 0 where
   pub within : IsWithinLimits (trace_with head ls)
-  pub version : p.version ≡ head.version
+  pub rules : rules_at p ≡ rules_by head
   pub playing : IsPlaying head.region head.partitions head.threads ls p
 
 -- no call refused, so the lines so far were played
@@ -124,7 +124,7 @@ OwnsNothing Cleared = Unit {0}
 -- the registers after the first records of a run of a version, as the rows of the whole run lead to them
 abbrev pub AreRegsAfter : ℕ → List Played → Told → List Played → AllRegs → Type 0
 AreRegsAfter version ps r first regs =
-    RowsTo (record { usable_of = usable_of version; usable_at = usable_in ps; cells = r.cells }) no_regs first regs
+    RowsTo (facts_with (usable_of version) ps r.cells) no_regs first regs
 
 -- the register owns this slot, which its partition's journal let out with this length, or it owns nothing if there is none
 abbrev pub IsOwned : Journals → Reg → Option Handed → Type 0

@@ -1,3 +1,4 @@
 pub mod Exchanges
 pub mod Handles
+pub mod Makers
 pub mod Rows

@@ -9,7 +9,7 @@ use Rattle.pa_record.specs.Root.{Root, new_root, root_replayed}
 use Rattle.pa_record.specs.declared.history.Held.{Held}
 use Rattle.pa_rules.specs.declared.played.Played.{Played}
 use Rattle.pa_rules.specs.Played.{marks_of}
-use Rattle.pa_rules.specs.Registers.{AllRegs, Facts, RowsTo, no_regs, usable_in}
+use Rattle.pa_rules.specs.Registers.{AllRegs, Facts, RowsTo, no_regs, facts_with}
 use Rattle.pa_rules.specs.Sizes.{usable_of}
 use Rattle.pa_one_run.specs.Parts.{Parts, entry_line}
 
@@ -41,7 +41,7 @@ word_after ps s = word_from (marks_of ps) s 0
 
 -- what the rows of a run need besides the registers
 abbrev pub facts_of : Parts → Facts
-facts_of a = record { usable_of = usable_of a.rules.version; usable_at = usable_in a.ps; cells = a.cells }
+facts_of a = facts_with (usable_of a.rules.version) a.ps a.cells
 
 -- the registers after the records before the line
 abbrev pub HasRegisters : Parts → List Played → AllRegs → Type 0

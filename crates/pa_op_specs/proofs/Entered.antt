@@ -372,14 +372,15 @@ no_entries [] none = refl
 no_entries (m ∷ ms) none = absurd cc
 
 pub entered_does : (s after : StockValue) (line : ℕ) (op : Op) (answer : Answer) (es : List Entry) → after.thread ≡ s.thread →
-    after.partitions ≡ s.partitions → after.caches.version ≡ s.caches.version → Entering s.thread line es s.view after.view →
+    after.partitions ≡ s.partitions → after.plain_from ≡ s.plain_from → after.caches.version ≡ s.caches.version →
+    Entering s.thread line es s.view after.view →
     ((phase : ℕ) → SaysEntered s after (quiet_record s after.view line phase op answer es)) → DoesOp line op answer s after
-entered_does s after line op answer es thread partitions version entering says phase = (
+entered_does s after line op answer es thread partitions plain version entering says phase = (
   x,
   refl,
   record {
     thread = refl;
-    same = (thread, partitions);
+    same = (thread, partitions, plain);
     version = version;
     stakes = entering.stakes;
     logs = entering.logs;

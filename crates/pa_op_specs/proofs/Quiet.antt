@@ -110,7 +110,7 @@ pub touched_does : (s : StockValue) (w : View) (registers : List StockRegister) 
     (es : List Entry) →
     caches.version ≡ s.caches.version → Touched s.thread es s.view w → IsQuiet op answer → OwesOf s.registers op answer es →
     KeepsWords answer s.view w →
-    ((line phase : ℕ) (o : Outcome) → IsOutcome o → IsSeenOf o w → NoActs o.roots line →
+    ((line phase : ℕ) (o : Outcome) → IsOutcome o → rules_at s ≡ o.rules → IsSeenOf o w → NoActs o.roots line →
     Says o s (record s { view = w; registers = registers; caches = caches }) (quiet_record s w line phase op answer es)) →
     (line : ℕ) → DoesOp line op answer s (record s { view = w; registers = registers; caches = caches })
 touched_does s w registers caches op answer es kept touched quiet owes words says line phase = (
@@ -118,7 +118,7 @@ touched_does s w registers caches op answer es kept touched quiet owes words say
   refl,
   record {
     thread = refl;
-    same = (refl, refl);
+    same = (refl, refl, refl);
     version = kept;
     stakes = touched.stakes;
     logs = touched.logs;
@@ -142,7 +142,9 @@ touched_does s w registers caches op answer es kept touched quiet owes words say
     homes = λ p past low. inl (none p);
     owes = owes;
     words = words;
-    answers = λ o fits. let here = no_acts o x fits.run fits.acts none in let say = says line phase o fits.run fits.seen here in
+    answers = λ o fits.
+        let here = no_acts o x fits.run fits.acts none in
+        let say = says line phase o fits.run fits.rules fits.seen here in
         record {
           told = say.told;
           row = say.row;
@@ -175,11 +177,11 @@ touched_does s w registers caches op answer es kept touched quiet owes words say
 pub quiet_does : (s : StockValue) (w : View) (registers : List StockRegister) (op : Op) (answer : Answer) (es : List Entry) →
     HoldsLists s.caches s.view → Touched s.thread es s.view w → IsQuiet op answer → OwesOf s.registers op answer es →
     KeepsWords answer s.view w →
-    ((line phase : ℕ) (o : Outcome) → IsOutcome o → IsSeenOf o w → NoActs o.roots line →
+    ((line phase : ℕ) (o : Outcome) → IsOutcome o → rules_at s ≡ o.rules → IsSeenOf o w → NoActs o.roots line →
     SameLists (listed_in (record s { view = w; registers = registers })) (listed_in s) →
     Says o s (record s { view = w; registers = registers }) (quiet_record s w line phase op answer es)) →
     (line : ℕ) → DoesOp line op answer s (record s { view = w; registers = registers })
 quiet_does s w registers op answer es lists touched quiet owes words says =
     touched_does s w registers s.caches op answer es refl touched quiet owes words
-    (λ line phase o run sees none. says line phase o run sees none
+    (λ line phase o run rules sees none. says line phase o run rules sees none
     (λ p c. same_titles s.view w (titles_in s.caches p c) (λ t among. touched.numbers t (lists.free p c t among))))

@@ -1,5 +1,5 @@
 -- An op that does nothing: its answer has no found word.
-use Rattle.std.proofs.Common.{◌≡◌, ℕ, List, [], Option, Some, None, refl, subst}
+use Rattle.std.proofs.Common.{◌≡◌, ℕ, ◌<◌, Bool, true, List, [], Option, Some, None, refl, sym, ◌∙◌, ap, subst, arith, inl}
 use Rattle.std.specs.Prelude.{Contains, Err}
 use Rattle.pa_slot.specs.declared.word.SlotName.{SlotName}
 use Rattle.pa_slot.specs.Run.{Mark}
@@ -12,27 +12,33 @@ use Rattle.pa_record.specs.Spans.{name_of}
 use Rattle.pa_lists.proofs.Members.{not_some, not_in_none}
 use Rattle.pa_region.specs.declared.view.Entry.TheVariants.{Read}
 use Rattle.pa_region.specs.declared.view.Made.{Made}
+use Rattle.pa_region.specs.Views.{seen_of}
+use Rattle.pa_region.specs.Aware.{IsAware}
 use Rattle.pa_region.specs.Lists.{entered_in}
 use Rattle.pa_rules.specs.declared.played.Played.{Played}
 use Rattle.pa_rules.specs.Played.{mark_of_answer}
-use Rattle.pa_rules.specs.Registers.{Row}
+use Rattle.pa_rules.specs.Registers.{Regs, Row, PointRow, CopyToRow, CopyRow}
 use Rattle.pa_rules.specs.Nexts.{copy_next, reset_next, free_next, write_next, read_next}
 use Rattle.pa_rules.proofs.Nexts.{copy_refusal, reset_refusal, free_refusal, write_refusal, read_refusal, copy_refused, reset_refused, free_refused, write_refused, read_refused}
 use Rattle.pa_rules.specs.Caches.{Cache, CacheRow, NoActs, SameLists}
 use Rattle.pa_rules.specs.Roots.{Journals}
 use Rattle.pa_logs.specs.Told.{ToldRecord}
-use Rattle.pa_logs.specs.Touches.{IsToldBy}
+use Rattle.pa_logs.specs.Touches.{title_of, IsToldBy}
 use Rattle.pa_logs.specs.Said.{ReadsIts, HoldsHandle, IsReadThrough}
 use Rattle.pa_rules.specs.declared.register.Register.TheVariants.{Empty, Own, Ref, Freed, Cleared}
+use Rattle.pa_rules.specs.declared.register.Register.TheVariants as reg
 use Rattle.pa_rules.specs.declared.register.Next.TheVariants.{Refused}
 use Rattle.pa_cells.specs.declared.handle.Handle.{Handle}
-use Rattle.pa_op_specs.specs.Stocks.{StockRegister, StockValue, IsStock, HasNoHandle, register_in, as_reg, regs_of}
+use Rattle.pa_cells.specs.Handles.{is_plain}
+use Rattle.pa_op_specs.specs.Stocks.{StockRegister, StockValue, IsStock, HasNoHandle, register_in, as_reg, regs_of, rules_at}
 use Rattle.pa_op_specs.specs.Outcomes.{Outcome, IsOutcome, IsSeenOf, row_facts}
 use Rattle.pa_op_specs.specs.Entering.{EntersCells}
 use Rattle.pa_op_specs.specs.Owing.{OwesOf}
 use Rattle.pa_op_specs.specs.Plays.{DoesOp}
 use Rattle.pa_op_specs.proofs.Touching.{touched_none}
 use Rattle.pa_op_specs.proofs.Quiet.{quiet_record, quiet_does}
+use Rattle.pa_op_specs.proofs.Seeing.{slot_in_run, plain_in_run}
+use Rattle.pa_op_specs.proofs.Stocks.{register_has}
 
 -- the op isn't an exchange
 abbrev pub IsNoSwap : Op → Type 0
@@ -113,7 +119,8 @@ plainly op answer is = record {
 
 -- the op does what it should, if its row says so, and its register if it reads
 pub plain_does : (s : StockValue) (op : Op) (answer : Answer) → IsStock s → IsNoSwap op → IsPlain answer →
-    ((o : Outcome) → IsOutcome o → IsSeenOf o s.view → Row (row_facts o) op (regs_of s.registers) answer (regs_of s.registers)) →
+    ((o : Outcome) → IsOutcome o → rules_at s ≡ o.rules → IsSeenOf o s.view →
+    Row (row_facts o) op (regs_of s.registers) answer (regs_of s.registers)) →
     ((o : Outcome) (line phase : ℕ) → IsOutcome o → IsSeenOf o s.view →
     ReadsIts o.sizes (regs_of s.registers) op (quiet_record s s.view line phase op answer [])) →
     (line : ℕ) → DoesOp line op answer s s
@@ -122,9 +129,9 @@ plain_does s op answer is no_swap plain row reads =
     quiet_does s s.view s.registers op answer [] is.lists (touched_none s.thread s.view)
     (record { room = p.room; no_swap = p.no_swap; cells = enters_no_cells op no_swap })
     (p.owes s.registers) (λ refused q known. refl)
-    (λ line phase o run sees none same. record {
+    (λ line phase o run rules sees none same. record {
       told = p.told o.sizes;
-      row = row o run sees;
+      row = row o run rules sees;
       lists = p.lists o.partitions o.roots (quiet_record s s.view line phase op answer []).played _ _ none same;
       reader = reads o line phase run sees;
       home = λ m e. absurd (p.home line m e);
@@ -136,28 +143,65 @@ pub copy_refuses : (s : StockValue) (from to : ℕ) (answer : Answer) → IsStoc
 copy_refuses s from to answer is refused =
     let r = register_in s.registers from in
     plain_does s (ops.Copy from to) answer is tt (copy_refusal IsPlain r answer refused tt tt)
-    (λ o run sees. copy_refused (λ (h : Handle). name_of h.title) r answer (regs_of s.registers) to refused) (λ o line phase run sees. tt)
+    (λ o run rules sees. copy_refused (λ (h : Handle). name_of h.title) r answer (row_facts o) (regs_of s.registers) to refused)
+    (λ o line phase run sees n own uncounted.
+    absurd (copy_refusal (λ a. a ≡ answers.Uncounted → ⊥) r answer refused (λ e. cc) (λ e. cc) uncounted))
+
+-- the row of a copy into a register without a handle, of a slot that is plain
+uncounted_row : (q : StockRegister) (plain : Bool) (n : SlotName) (regs : Regs) (to : ℕ) → HasNoHandle q → plain ≡ true →
+    CopyToRow (as_reg q) plain n regs to answers.Uncounted regs
+uncounted_row Empty plain n regs to bare is = subst (λ b. PointRow b n regs to answers.Uncounted regs) (sym is) (refl, λ k. refl)
+uncounted_row (Own h) plain n regs to bare is = absurd bare
+uncounted_row (Ref h) plain n regs to bare is = absurd bare
+uncounted_row Freed plain n regs to bare is = subst (λ b. PointRow b n regs to answers.Uncounted regs) (sym is) (refl, λ k. refl)
+uncounted_row Cleared plain n regs to bare is = subst (λ b. PointRow b n regs to answers.Uncounted regs) (sym is) (refl, λ k. refl)
+
+own_name : (h : Handle) (n : SlotName) → as_reg (Own h) ≡ reg.Own n → n ≡ name_of h.title
+own_name h n e = cc
+
+-- A copy of an Own of a plain slot into a register without a handle wouldn't be counted, and does nothing.
+pub copy_uncounted : (s : StockValue) (from to : ℕ) (h : Handle) → IsStock s → IsAware s.view → from < 64 →
+    register_in s.registers from ≡ Own h → HasNoHandle (register_in s.registers to) → is_plain s.plain_from h ≡ true →
+    (line : ℕ) → DoesOp line (ops.Copy from to) answers.Uncounted s s
+copy_uncounted s from to h is aware below own bare plain =
+    let (user, made) = register_has s from h is below (inl own) in
+    plain_does s (ops.Copy from to) answers.Uncounted is tt tt
+    (λ o run rules sees.
+    let slot = slot_in_run o s.view h run sees made in
+    subst (λ r. CopyRow (as_reg r) (row_facts o) (regs_of s.registers) to answers.Uncounted (regs_of s.registers)) (sym own)
+    (uncounted_row (register_in s.registers to) ((row_facts o).plain_at (name_of h.title)) (name_of h.title) (regs_of s.registers) to bare
+    (plain_in_run o s h rules slot ∙ plain)))
+    (λ o line phase run sees n owns e.
+    let slot = slot_in_run o s.view h run sees made in
+    let named = own_name h n (subst (λ r. as_reg r ≡ reg.Own n) own owns) in
+    let titled : title_of o.sizes n ≡ h.title = ap (title_of o.sizes) named ∙ slot.title in
+    let seen = aware.handles h.title user in
+    let same = ap (seen_of s.view) titled in
+    omega arith)
 
 pub write_refuses : (s : StockValue) (i value : ℕ) (answer : Answer) → IsStock s → write_next (register_in s.registers i) ≡ Refused answer →
     (line : ℕ) → DoesOp line (ops.Write i value) answer s s
 write_refuses s i value answer is refused =
     let r = register_in s.registers i in
     plain_does s (ops.Write i value) answer is tt (write_refusal IsPlain r answer refused tt tt)
-    (λ o run sees. write_refused (λ (h : Handle). name_of h.title) r answer (regs_of s.registers) refused) (λ o line phase run sees. tt)
+    (λ o run rules sees. write_refused (λ (h : Handle). name_of h.title) r answer (regs_of s.registers) refused)
+    (λ o line phase run sees. tt)
 
 pub reset_refuses : (s : StockValue) (i : ℕ) (answer : Answer) → IsStock s → reset_next (register_in s.registers i) ≡ Err answer →
     (line : ℕ) → DoesOp line (ops.Reset i) answer s s
 reset_refuses s i answer is refused =
     let r = register_in s.registers i in
     plain_does s (ops.Reset i) answer is tt (reset_refusal IsPlain r answer refused tt tt tt)
-    (λ o run sees. reset_refused (λ (h : Handle). name_of h.title) r answer (regs_of s.registers) i refused) (λ o line phase run sees. tt)
+    (λ o run rules sees. reset_refused (λ (h : Handle). name_of h.title) r answer (regs_of s.registers) i refused)
+    (λ o line phase run sees. tt)
 
 pub free_refuses : (s : StockValue) (i : ℕ) (answer : Answer) → IsStock s → free_next (register_in s.registers i) ≡ Refused answer →
     (line : ℕ) → DoesOp line (ops.Free i) answer s s
 free_refuses s i answer is refused =
     let r = register_in s.registers i in
     plain_does s (ops.Free i) answer is tt (free_refusal IsPlain r answer refused tt tt tt)
-    (λ o run sees. free_refused (λ (h : Handle). name_of h.title) r answer (regs_of s.registers) i refused) (λ o line phase run sees. tt)
+    (λ o run rules sees. free_refused (λ (h : Handle). name_of h.title) r answer (regs_of s.registers) i refused)
+    (λ o line phase run sees. tt)
 
 -- a register without a handle
 no_reader : (s : StockValue) (sizes : SlotName → ℕ) (i : ℕ) (x : ToldRecord) → HasNoHandle (register_in s.registers i) → x.stretch ≡ [] →
@@ -187,6 +231,6 @@ pub read_refuses : (s : StockValue) (i place : ℕ) (answer : Answer) → IsStoc
 read_refuses s i place answer is refused =
     let r = register_in s.registers i in
     plain_does s (ops.Read i place) answer is tt (read_refusal IsPlain r answer refused tt tt)
-    (λ o run sees. read_refused (λ (h : Handle). name_of h.title) r answer (row_facts o) (regs_of s.registers) place refused)
+    (λ o run rules sees. read_refused (λ (h : Handle). name_of h.title) r answer (row_facts o) (regs_of s.registers) place refused)
     (λ o line phase run sees. no_reader s o.sizes i (quiet_record s s.view line phase (ops.Read i place) answer [])
     (read_lacks r answer refused) refl)

@@ -1,10 +1,11 @@
 -- What a view has seen of lists and numbers, and what follows of a handle's slot in any run.
-use Rattle.std.proofs.Common.{◌≡◌, ℕ, ◌≤◌, Bool, true, false, length, Option, Some, None, refl, sym, ap, subst, arith, inl, inr}
-use Rattle.std.specs.Prelude.{Contains, max, if◌then◌else◌}
+use Rattle.std.proofs.Common.{◌≡◌, ℕ, ◌≤◌, Bool, true, false, length, Option, Some, None, refl, sym, ap, ap₂, subst, arith, inl, inr}
+use Rattle.std.specs.Prelude.{Contains, nat_le, max, if◌then◌else◌}
 use Rattle.pa_slot.specs.declared.title.Title.{Title}
 use Rattle.pa_slot.specs.Run.{Mark}
 use Rattle.pa_slot.specs.Titles.{same_title}
 use Rattle.pa_slot.proofs.Same.{title_tells}
+use Rattle.pa_trace.specs.declared.script.Rules.{Rules}
 use Rattle.pa_record.specs.declared.root.RootEntry.{RootEntry}
 use Rattle.pa_record.specs.Spans.{name_of}
 use Rattle.pa_lists.proofs.Members.{of_some}
@@ -18,9 +19,9 @@ use Rattle.pa_lists.proofs.Parts.{parts_at}
 use Rattle.pa_logs.proofs.Filters.{get_in}
 use Rattle.pa_logs.specs.Touches.{title_of}
 use Rattle.pa_cells.specs.declared.handle.Handle.{Handle}
-use Rattle.pa_cells.specs.Handles.{HandsOut, HasSeenMade}
-use Rattle.pa_op_specs.specs.Outcomes.{Outcome, IsOutcome, IsSeenOf, FillsFrom}
-use Rattle.pa_op_specs.specs.Stocks.{StockRegister, IsMadeFor}
+use Rattle.pa_cells.specs.Handles.{HandsOut, HasSeenMade, is_plain}
+use Rattle.pa_op_specs.specs.Outcomes.{Outcome, IsOutcome, IsSeenOf, FillsFrom, row_facts}
+use Rattle.pa_op_specs.specs.Stocks.{StockRegister, StockValue, IsMadeFor, rules_at}
 use Rattle.pa_rules.specs.declared.register.Register.TheVariants.{Empty, Own, Ref, Freed, Cleared}
 
 -- a view that has seen the same lists has seen how a slot was made
@@ -88,6 +89,11 @@ slot_in_run o v h is seen made =
       class = λ c is_class. class_by o.roots h.partition e h.class h.title c there out is_class;
       real = λ c is_class. real_by o.rules.version e h.class h.title c (is.fills h.partition e there) out is_class;
     }
+
+-- by the rules of a worker whose run it is, the slot is plain exactly if its handle's partition is
+pub plain_in_run : (o : Outcome) (s : StockValue) (h : Handle) → rules_at s ≡ o.rules → IsSlotIn o h →
+    (row_facts o).plain_at (name_of h.title) ≡ is_plain s.plain_from h
+plain_in_run o s h rules slot = ap₂ nat_le (ap (λ (k : Rules). k.plain_from) (sym rules)) slot.home
 
 -- a number that is the greatest of what was seen and n, for one title, isn't less than what was seen
 pub more_seen : (t u : Title) (n m k : ℕ) → m ≡ (if same_title t u then max n k else k) → k ≤ m

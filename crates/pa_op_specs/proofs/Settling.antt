@@ -167,7 +167,7 @@ module _ (es : List Entry) (are : AreAdditions es) where
   reader_on : (sizes : SlotName → ℕ) (regs : Regs) (op : Op) (x : ToldRecord) → ReadsIts sizes regs op x →
       ReadsIts sizes regs op (lengthened es x)
   reader_on sizes regs (ops.Alloc reg partition size) x reads = tt
-  reader_on sizes regs (ops.Copy from to) x reads = tt
+  reader_on sizes regs (ops.Copy from to) x reads = reads
   reader_on sizes regs (ops.Reset reg) x reads = tt
   reader_on sizes regs (ops.Free reg) x reads = tt
   reader_on sizes regs (ops.Write reg value) x reads = tt

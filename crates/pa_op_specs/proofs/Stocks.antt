@@ -53,8 +53,8 @@ register_points s i h is below ref =
     omega arith
 
 -- the thread state with another view, which has seen how all was made that was seen so before, and holds no fewer free titles
-pub stock_kept : (s : StockValue) (w : View) (rs : List StockRegister) → IsStock s → HoldsHandles rs w → HoldsStake s.thread w →
-    ((h : Handle) → HasSeenMade h s.view → HasSeenMade h w) → ((t : Title) → free_of s.view t ≤ free_of w t) →
+pub stock_kept : (s : StockValue) (w : View) (rs : List StockRegister) → IsStock s → HoldsHandles s.plain_from rs w →
+    HoldsStake s.thread w → ((h : Handle) → HasSeenMade h s.view → HasSeenMade h w) → ((t : Title) → free_of s.view t ≤ free_of w t) →
     IsStock (record s { view = w; registers = rs })
 stock_kept s w rs is handles stake made frees = record {
   partitions = is.partitions;
@@ -73,8 +73,8 @@ stock_kept s w rs is handles stake made frees = record {
 }
 
 -- if it has seen the same lists and has the same stakes
-pub stock_with : (s : StockValue) (w : View) (rs : List StockRegister) → IsStock s → HoldsHandles rs w → w.seen_lists ≡ s.view.seen_lists →
-    ((t : Title) → free_of s.view t ≤ free_of w t) → ((k : ℕ) → stake_of w k ≡ stake_of s.view k) →
+pub stock_with : (s : StockValue) (w : View) (rs : List StockRegister) → IsStock s → HoldsHandles s.plain_from rs w →
+    w.seen_lists ≡ s.view.seen_lists → ((t : Title) → free_of s.view t ≤ free_of w t) → ((k : ℕ) → stake_of w k ≡ stake_of s.view k) →
     IsStock (record s { view = w; registers = rs })
 stock_with s w rs is handles lists frees stakes =
     stock_kept s w rs is handles (record { small = is.stake.small; only = λ k other. stakes k ∙ is.stake.only k other })

@@ -1,5 +1,5 @@
 -- What a worker counts of an op, and owes after it, is what the op's record weighs, in every run that fits.
-use Rattle.std.proofs.Common.{◌≡◌, ℕ, ◌<◌, List, [], ◌∷◌, length, Option, Some, None, refl, sym, ◌∙◌, ap, subst, arith, inl, inr}
+use Rattle.std.proofs.Common.{◌≡◌, ℕ, ◌<◌, Bool, true, false, List, [], ◌∷◌, length, Option, Some, None, refl, sym, ◌∙◌, ap, subst, arith, inl, inr}
 use Rattle.std.proofs.lemmas.Bool.{eq-eqb}
 use Rattle.pa_slot.specs.declared.word.SlotName.{SlotName}
 use Rattle.pa_slot.specs.declared.word.Step.{Step}
@@ -16,7 +16,7 @@ use Rattle.pa_region.specs.Lists.{list_of, IsBeginning}
 use Rattle.pa_rules.specs.declared.played.Played.{Played}
 use Rattle.pa_rules.specs.declared.register.Register.TheVariants as reg
 use Rattle.pa_rules.specs.Played.{mark_at, mark_of_answer}
-use Rattle.pa_rules.specs.Registers.{Reg, Regs, Facts, Row, RequestRow, AllocRow, CopyToRow, CopyRow, ResetRow, FreeRow, WriteRow, ReadFromRow, ReadRow}
+use Rattle.pa_rules.specs.Registers.{Reg, Regs, Facts, Row, RequestRow, AllocRow, PointRow, CopyToRow, CopyRow, ResetRow, FreeRow, WriteRow, ReadFromRow, ReadRow}
 use Rattle.pa_logs.specs.Told.{ToldRecord}
 use Rattle.pa_cells.specs.declared.handle.Handle.{Handle}
 use Rattle.pa_cells.specs.Handles.{HasSeenMade}
@@ -114,25 +114,27 @@ module _ (home size : SlotName → ℕ) (line thread phase : ℕ) (rules : Rules
 
   -- ---- op by op
 
-  copy_to_row : (q : Reg) (s : SlotName) (regs after : Regs) (from to : ℕ) (answer : Answer) → CopyToRow q s regs to answer after →
-      Weighs home size
-      (played_so (ops.Copy from to) answer ∷ []) cs cs os os
-  copy_to_row reg.Empty s regs after from to answer (seen, slot, is, b) = stays (ops.Copy from to) answer (answers.Done seen) is
-      (Some (mark_at line seen (Some steps.Copy))) refl (refl, refl, refl, refl)
-  copy_to_row (reg.Own t) s regs after from to answer (is, b) = stays (ops.Copy from to) answer answers.Filled is None refl tt
-  copy_to_row (reg.Ref t) s regs after from to answer (is, b) = stays (ops.Copy from to) answer answers.Filled is None refl tt
-  copy_to_row reg.Freed s regs after from to answer (seen, slot, is, b) = stays (ops.Copy from to) answer (answers.Done seen) is
-      (Some (mark_at line seen (Some steps.Copy))) refl (refl, refl, refl, refl)
-  copy_to_row reg.Cleared s regs after from to answer (seen, slot, is, b) = stays (ops.Copy from to) answer (answers.Done seen) is
+  point_row : (plain : Bool) (s : SlotName) (regs after : Regs) (from to : ℕ) (answer : Answer) → PointRow plain s regs to answer after →
+      Weighs home size (played_so (ops.Copy from to) answer ∷ []) cs cs os os
+  point_row true s regs after from to answer (is, b) = stays (ops.Copy from to) answer answers.Uncounted is None refl tt
+  point_row false s regs after from to answer (seen, slot, is, b) = stays (ops.Copy from to) answer (answers.Done seen) is
       (Some (mark_at line seen (Some steps.Copy))) refl (refl, refl, refl, refl)
 
-  copy_row : (q : Reg) (regs after : Regs) (from to : ℕ) (answer : Answer) → CopyRow q regs to answer after →
+  copy_to_row : (q : Reg) (plain : Bool) (s : SlotName) (regs after : Regs) (from to : ℕ) (answer : Answer) →
+      CopyToRow q plain s regs to answer after → Weighs home size (played_so (ops.Copy from to) answer ∷ []) cs cs os os
+  copy_to_row reg.Empty plain s regs after from to answer row = point_row plain s regs after from to answer row
+  copy_to_row (reg.Own t) plain s regs after from to answer (is, b) = stays (ops.Copy from to) answer answers.Filled is None refl tt
+  copy_to_row (reg.Ref t) plain s regs after from to answer (is, b) = stays (ops.Copy from to) answer answers.Filled is None refl tt
+  copy_to_row reg.Freed plain s regs after from to answer row = point_row plain s regs after from to answer row
+  copy_to_row reg.Cleared plain s regs after from to answer row = point_row plain s regs after from to answer row
+
+  copy_row : (q : Reg) (facts : Facts) (regs after : Regs) (from to : ℕ) (answer : Answer) → CopyRow q facts regs to answer after →
       Weighs home size (played_so (ops.Copy from to) answer ∷ []) cs cs os os
-  copy_row reg.Empty regs after from to answer (is, b) = stays (ops.Copy from to) answer answers.Nothing is None refl tt
-  copy_row (reg.Own s) regs after from to answer row = copy_to_row (regs to) s regs after from to answer row
-  copy_row (reg.Ref s) regs after from to answer row = copy_to_row (regs to) s regs after from to answer row
-  copy_row reg.Freed regs after from to answer (is, b) = stays (ops.Copy from to) answer (answers.StaleUse None) is None refl tt
-  copy_row reg.Cleared regs after from to answer (is, b) = stays (ops.Copy from to) answer (answers.StaleUse None) is None refl tt
+  copy_row reg.Empty facts regs after from to answer (is, b) = stays (ops.Copy from to) answer answers.Nothing is None refl tt
+  copy_row (reg.Own s) facts regs after from to answer row = copy_to_row (regs to) (facts.plain_at s) s regs after from to answer row
+  copy_row (reg.Ref s) facts regs after from to answer row = copy_to_row (regs to) false s regs after from to answer row
+  copy_row reg.Freed facts regs after from to answer (is, b) = stays (ops.Copy from to) answer (answers.StaleUse None) is None refl tt
+  copy_row reg.Cleared facts regs after from to answer (is, b) = stays (ops.Copy from to) answer (answers.StaleUse None) is None refl tt
 
   write_row : (q : Reg) (regs after : Regs) (r value : ℕ) (answer : Answer) → WriteRow q regs answer after →
       Weighs home size (played_so (ops.Write r value) answer ∷ []) cs cs os os
@@ -264,7 +266,7 @@ module _ (line : ℕ) (answer : Answer) (before after : StockValue) (cs : List C
     (also : length os ≡ 4) where
   pub copy_counts : (from to : ℕ) → CountsOp line (ops.Copy from to) answer before after cs cs os os
   copy_counts from to = counts_by_row line (ops.Copy from to) answer before after cs cs os os (λ phase o run seen begins row.
-      copy_row o.homes o.sizes line before.thread phase (rules_at before) cs four os also (regs_of before.registers from)
+      copy_row o.homes o.sizes line before.thread phase (rules_at before) cs four os also (regs_of before.registers from) (row_facts o)
       (regs_of before.registers) (regs_of after.registers) from to answer row)
 
   pub write_counts : (r value : ℕ) → CountsOp line (ops.Write r value) answer before after cs cs os os

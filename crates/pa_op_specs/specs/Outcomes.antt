@@ -1,5 +1,5 @@
 -- What a run became, and what of it a seat has seen on the way.
-use Rattle.std.specs.Prelude.{◌≡◌, ℕ, ◌-◌, ◌<◌, ◌≤◌, List, [], ◌∷◌, ◌++◌, map, length, Option, Some, Contains, slice_get}
+use Rattle.std.specs.Prelude.{◌≡◌, ℕ, nat_le, ◌-◌, ◌<◌, ◌≤◌, List, [], ◌∷◌, ◌++◌, map, length, Option, Some, Contains, slice_get}
 use Rattle.pa_slot.specs.declared.title.Title.{Title}
 use Rattle.pa_slot.specs.declared.word.SlotName.{SlotName}
 use Rattle.pa_record.specs.declared.history.CellEntry.{CellEntry}
@@ -33,9 +33,15 @@ pub record Outcome : Type 0 where
   pub sizes : SlotName → ℕ
   pub homes : SlotName → ℕ
 
--- what the transitions of registers need to know of it, by its rules: all bytes of a slot but its count word are usable
+-- what the transitions of registers need to know of it, by its rules: all bytes of a slot but its count word are usable, and a slot
+-- is plain where its partition is
 abbrev pub row_facts : Outcome → Facts
-row_facts o = record { usable_of = usable_of o.rules.version; usable_at = λ s. o.sizes s - 8; cells = o.cells }
+row_facts o = record {
+  usable_of = usable_of o.rules.version;
+  usable_at = λ s. o.sizes s - 8;
+  plain_at = λ s. nat_le o.rules.plain_from (o.homes s);
+  cells = o.cells;
+}
 
 -- if the act is a fill, its class is one of the version's
 abbrev pub FillsFrom : ℕ → RootAct → Type 0

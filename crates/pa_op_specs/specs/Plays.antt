@@ -49,7 +49,7 @@ pub record HasSeenFor (v after : View) (x : ToldRecord) : Type 0 where
 -- What the record is in a run that became this.
 --   told: its log segment is what its answer requires
 --   row, lists: its answer and what it entered are those that its thread's registers and lists require, and lead to the next
---   reader: a read was made through its register
+--   reader: a read was made through its register, and a copy that wouldn't be counted is of a slot whose issue its seat had seen
 --   unmaps: a direct map that it gives back is named at the number that its step left
 --   makes: what it entered in a journal its op makes
 --   home: a slot that it stepped on or looked at is of some partition, and has its length
@@ -77,7 +77,7 @@ pub record AnswersIn (o : Outcome) (before after : StockValue) (x : ToldRecord) 
 --   answers: in every run that fits, all is as the rules require
 pub record Does (before after : StockValue) (x : ToldRecord) : Type 0 where
   pub thread : x.played.thread ≡ before.thread
-  pub same : (after.thread ≡ before.thread) × (after.partitions ≡ before.partitions)
+  pub same : (after.thread ≡ before.thread) × (after.partitions ≡ before.partitions) × (after.plain_from ≡ before.plain_from)
   pub version : after.caches.version ≡ before.caches.version
   pub stakes : (k : ℕ) → stake_of after.view k ≡ stake_of before.view k
   pub logs : (k : ℕ) → log_of k after.view ≡ log_of k before.view ++ (if k == before.thread then x.stretch else [])

@@ -1,5 +1,5 @@
 -- What a worker has: a seat, registers, and lists of free slots, as contracts see it, and what is always true of it.
-use Rattle.std.specs.Prelude.{◌≡◌, ℕ, ◌+◌, ◌*◌, ◌%◌, ◌<◌, ◌≤◌, List, [], length, if◌then◌else◌, ◌⊎◌, Some, Contains, slice_index_or}
+use Rattle.std.specs.Prelude.{◌≡◌, ℕ, ◌+◌, ◌*◌, ◌%◌, ◌<◌, ◌≤◌, ◌&&◌, List, [], length, if◌then◌else◌, ◌⊎◌, Some, Contains, slice_index_or}
 use Rattle.std.specs.List.{sum_by}
 use Rattle.pa_slot.specs.declared.title.Title.{Title}
 use Rattle.pa_slot.specs.Titles.{same_title, IsWellFormed}
@@ -20,7 +20,7 @@ use Rattle.pa_rules.specs.Caches.{Cache}
 use Rattle.pa_buckets.specs.Bands.{limit_of}
 use Rattle.pa_cache.specs.Caches.{CacheList, IsCache}
 use Rattle.pa_cells.specs.declared.handle.Handle.{Handle}
-use Rattle.pa_cells.specs.Handles.{HasSeenMade}
+use Rattle.pa_cells.specs.Handles.{HasSeenMade, is_plain}
 use Rattle.pa_root.specs.Handing.{numbered_by}
 use Rattle.pa_rules.specs.declared.register.Register.TheVariants.{Empty, Own, Ref, Freed, Cleared}
 
@@ -34,18 +34,19 @@ pub record WorkerLists : Type 0 where
   pub version : ℕ
   pub lists : List CacheList
 
--- A worker's thread state, as contracts see it: the number of its thread, how many partitions the run has,
--- the view of its seat, its registers, and its lists.
+-- A worker's thread state, as contracts see it: the number of its thread, how many partitions the run has, the first plain
+-- partition, the view of its seat, its registers, and its lists.
 pub record StockValue : Type 0 where
   pub thread : ℕ
   pub partitions : ℕ
+  pub plain_from : ℕ
   pub view : View
   pub registers : List StockRegister
   pub caches : WorkerLists
 
--- the rules by which a worker plays: those of its lists' version, and no partition is plain
+-- the rules by which a worker plays: those of its lists' version, with its first plain partition
 abbrev pub rules_at : StockValue → Rules
-rules_at s = record { version = s.caches.version; plain_from = s.partitions }
+rules_at s = record { version = s.caches.version; plain_from = s.plain_from }
 
 -- what register number i has, which is nothing if it isn't there
 abbrev pub register_in : List StockRegister → ℕ → StockRegister
@@ -80,6 +81,14 @@ owns_one t (Ref h) = 0
 owns_one t Freed = 0
 owns_one t Cleared = 0
 
+-- 1 if the register has the title's Own, of a slot in a plain partition, else 0
+abbrev pub seals_one : ℕ → Title → StockRegister → ℕ
+seals_one plain_from t Empty = 0
+seals_one plain_from t (Own h) = one (same_title h.title t && is_plain plain_from h)
+seals_one plain_from t (Ref h) = 0
+seals_one plain_from t Freed = 0
+seals_one plain_from t Cleared = 0
+
 -- 1 if the register has a Ref of the title, else 0
 abbrev pub refs_one : Title → StockRegister → ℕ
 refs_one t Empty = 0
@@ -108,14 +117,14 @@ IsMadeFor v (Ref h) = HasSeenMade h v
 IsMadeFor v Freed = Unit {0}
 IsMadeFor v Cleared = Unit {0}
 
--- What is known of handles. The seat has each Own and each Ref as many times as registers have it, and no Own is unclean or sealed.
--- It has seen how each of their slots was made.
-pub record HoldsHandles (registers : List StockRegister) (v : View) : Type 0 where
+-- What is known of handles. The seat has each Own and each Ref as many times as registers have it. No Own is unclean, and exactly
+-- those of plain partitions are sealed. It has seen how each of their slots was made.
+pub record HoldsHandles (plain_from : ℕ) (registers : List StockRegister) (v : View) : Type 0 where
   pub count : length registers ≡ register_count
   pub owns : (t : Title) → own_of v t ≡ sum_by (owns_one t) registers
   pub refs : (t : Title) → ref_of v t ≡ sum_by (refs_one t) registers
   pub clean : unclean_of v ≡ 0
-  pub sealed : (t : Title) → sealed_of v t ≡ 0
+  pub sealed : (t : Title) → sealed_of v t ≡ sum_by (seals_one plain_from t) registers
   pub made : (i : ℕ) → IsMadeFor v (register_in registers i)
 
 -- the slot of this title, as one of partition p and of the class
@@ -144,7 +153,7 @@ pub record HoldsStake (thread : ℕ) (v : View) : Type 0 where
 -- What is always true of a worker's thread state.
 pub record IsStock (s : StockValue) : Type 0 where
   pub partitions : s.partitions ≤ most_partitions
-  pub handles : HoldsHandles s.registers s.view
+  pub handles : HoldsHandles s.plain_from s.registers s.view
   pub lists : HoldsLists s.caches s.view
   pub stake : HoldsStake s.thread s.view
 
@@ -155,9 +164,10 @@ pub record IsForThread (thread : ℕ) (v : View) : Type 0 where
   pub unused : (t : Title) → own_of v t + ref_of v t ≡ 0
 
 -- the worker's thread state at the start: its registers and lists are empty
-pub record IsNewStock (thread partitions version : ℕ) (v : View) (s : StockValue) : Type 0 where
+pub record IsNewStock (thread partitions plain_from version : ℕ) (v : View) (s : StockValue) : Type 0 where
   pub thread_is : s.thread ≡ thread
   pub partitions_are : s.partitions ≡ partitions
+  pub plain_is : s.plain_from ≡ plain_from
   pub version_is : s.caches.version ≡ version
   pub view : s.view ≡ v
   pub registers : (i : ℕ) → register_in s.registers i ≡ Empty

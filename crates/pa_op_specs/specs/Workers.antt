@@ -60,8 +60,8 @@ abbrev pub worker_with_view : View → WorkerValue → WorkerValue
 worker_with_view v w = record w { stock = record w.stock { view = v } }
 
 -- a worker that has played nothing
-pub record IsNewWorker (thread partitions version lines : ℕ) (v : View) (w : WorkerValue) : Type 0 where
-  pub stock : IsNewStock thread partitions version v w.stock
+pub record IsNewWorker (thread partitions plain_from version lines : ℕ) (v : View) (w : WorkerValue) : Type 0 where
+  pub stock : IsNewStock thread partitions plain_from version v w.stock
   pub records : w.records ≡ []
   pub room : w.room ≡ lines
   pub going : w.stopped ≡ false

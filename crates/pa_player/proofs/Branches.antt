@@ -5,6 +5,7 @@ use Rattle.pa_trace.specs.declared.script.Op.{Op}
 use Rattle.pa_trace.specs.declared.script.Op.TheVariants as ops
 use Rattle.pa_record.specs.declared.entry.Answer.{Answer}
 use Rattle.pa_record.specs.declared.entry.Answer.TheVariants as answers
+use Rattle.pa_rules.specs.Nexts.{is_owner}
 use Rattle.pa_rules.specs.declared.register.Register.TheVariants.{Own, Ref}
 use Rattle.pa_player.specs.Player.{Player}
 use Rattle.pa_player.specs.Tables.{slot_at, Points}
@@ -12,7 +13,7 @@ use Rattle.pa_player.specs.Playing.{register_at}
 use Rattle.pa_player.specs.Changes.{registered, stepped_at, seen_at, returned_at, freed_at, reset_at, reset_last, quarantined_more, filled_at, Copies, Resets, Frees, Writes}
 use Rattle.pa_player.specs.Asks.{CanReset, CanFree}
 use Rattle.pa_player.specs.Plays.{Plays}
-use Rattle.pa_player.proofs.Answers.{copy_filled}
+use Rattle.pa_player.proofs.Answers.{copy_filled, copy_uncounted}
 use Rattle.pa_player.proofs.Copies.{copied, was_reset}
 use Rattle.pa_player.proofs.Frees.{was_quarantined, was_written}
 use Rattle.pa_player.proofs.Looks.{write_shared}
@@ -27,14 +28,16 @@ plays_as p thread op q r a answer is says played =
 -- ---- a copy of a handle of the slot in a place, by what the second register holds
 
 pub copy_plays : (p r : Player) (thread from to i : ℕ) (answer : Answer) → Points (register_at p thread from) i →
-    Copies thread to i p r answer
+    Copies thread (is_owner (register_at p thread from)) to i p r answer
     → Plays p thread (ops.Copy from to) r answer
 copy_plays p r thread from to i answer points (inl (full, then, says)) =
     plays_as p thread (ops.Copy from to) p r answers.Filled answer then says (copy_filled p thread from to i points full)
-copy_plays p r thread from to i answer points (inr (none, then, says)) =
+copy_plays p r thread from to i answer points (inr (inl (none, plain, then, says))) =
+    plays_as p thread (ops.Copy from to) p r answers.Uncounted answer then says (copy_uncounted p thread from to i points none plain)
+copy_plays p r thread from to i answer points (inr (inr (none, counted, then, says))) =
     plays_as p thread (ops.Copy from to) (registered thread to (Ref i) (stepped_at steps.Copy i p)) r
     (answers.Done (seen_at p.table i)) answer then says
-    (copied p thread from to i points none)
+    (copied p thread from to i points none counted)
 
 -- ---- a reset of a raw_ptr, a free and a write by the owner
 

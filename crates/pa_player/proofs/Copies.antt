@@ -1,5 +1,5 @@
 -- A copy, a reset that returns nothing, a free into quarantine, and a write.
-use Rattle.std.proofs.Common.{◌≡◌, ℕ, ◌+◌, length, set, Some, refl, sym, ap, ◌∙◌, subst, arith, length-set}
+use Rattle.std.proofs.Common.{◌≡◌, ℕ, false, ◌&&◌, List, ◌+◌, length, set, Some, refl, sym, ap, ◌∙◌, subst, arith, length-set}
 use Rattle.pa_slot.specs.declared.word.Step.{Step}
 use Rattle.pa_slot.specs.declared.word.Step.TheVariants as steps
 use Rattle.pa_slot.specs.Count.{stepped}
@@ -12,18 +12,21 @@ use Rattle.pa_rules.specs.Played.{step_of, mark_at}
 use Rattle.pa_heap_effects.specs.Ops.{KeepsLists}
 use Rattle.pa_slot_effects.specs.Turns.{after_copy, after_reset}
 use Rattle.pa_slot_effects.proofs.Ops.{copy_goes_on, reset_goes_on}
-use Rattle.pa_rules.specs.declared.register.Register.TheVariants.{Ref, Cleared}
+use Rattle.pa_rules.specs.Nexts.{is_owner}
+use Rattle.pa_rules.specs.declared.register.Register.{Register}
+use Rattle.pa_rules.specs.declared.register.Register.TheVariants.{Empty, Own, Ref, Freed, Cleared}
 use Rattle.pa_player.specs.declared.table.Slot.{Slot}
 use Rattle.pa_player.specs.Player.{Player}
-use Rattle.pa_player.specs.Tables.{slot_at, Points, HasNone}
+use Rattle.pa_player.specs.Tables.{slot_at, named_at, Points, HasNone}
 use Rattle.pa_player.specs.Playing.{shown, reg_of, register_at}
-use Rattle.pa_player.specs.Changes.{stepped_at, registered, seen_at, reset_at}
+use Rattle.pa_player.specs.Changes.{stepped_at, registered, seen_at, reset_at, is_uncounted}
 use Rattle.pa_player.specs.Plays.{Plays}
 use Rattle.pa_player.proofs.Slots.{IsSame, keeps_set}
 use Rattle.pa_player.proofs.Shaping.{shaped_table, shaped_registered}
 use Rattle.pa_player.proofs.Showing.{points_names, none_holds, content_stays}
 use Rattle.pa_player.proofs.Quiet.{quiet_plays, can_play, counts_still}
 use Rattle.pa_player.proofs.Weighing.{copy_adds, reset_adds}
+use Rattle.pa_player.proofs.Answers.{plain_at_name}
 use Rattle.pa_player.proofs.Stepping.{in_table, word_is, step_quiet, lists_kept, shows_step}
 use Rattle.pa_slot.proofs.Runs.{some_same}
 
@@ -41,8 +44,16 @@ keeps_lists op seen step is stays other e returns =
 
 -- ---- a copy
 
+owner_named : (slots : List Slot) (x : Register ℕ) → is_owner (reg_of slots x) ≡ is_owner x
+owner_named slots Empty = refl
+owner_named slots (Own place) = refl
+owner_named slots (Ref place) = refl
+owner_named slots Freed = refl
+owner_named slots Cleared = refl
+
 module _ (p : Player) (thread from to i : ℕ) (points : Points (register_at p thread from) i)
-    (none : HasNone (register_at p thread to)) where
+    (none : HasNone (register_at p thread to))
+    (counted : is_uncounted (is_owner (register_at p thread from)) i p ≡ false) where
   pub copied : Plays p thread (ops.Copy from to) (registered thread to (Ref i) (stepped_at steps.Copy i p))
       (answers.Done (seen_at p.table i))
   copied = quiet_plays p thread (ops.Copy from to) (registered thread to (Ref i) (stepped_at steps.Copy i p))
@@ -62,7 +73,9 @@ module _ (p : Player) (thread from to i : ℕ) (points : Points (register_at p t
       (after_copy (shown p) thread to seen) (Some steps.Copy) same (keeps_lists (ops.Copy from to) seen steps.Copy refl (λ bad. bad)) refl
       (copy_goes_on threads ls h.ps (shown p) thread from to seen
       (can_play region partitions threads ls thread (ops.Copy from to) p can) can.within.1.0 can.within.1.1
-      (points_names p.table (register_at p thread from) i points) (none_holds p.table (register_at p thread to) none) (sym is))
+      (points_names p.table (register_at p thread from) i points) (none_holds p.table (register_at p thread to) none) (sym is)
+      (ap (λ b. b && (shown p).plain (named_at p.table i)) (owner_named p.table (register_at p thread from))
+      ∙ plain_at_name region partitions threads ls p thread from i h points ∙ counted))
       (record {
         rules = refl;
         regs = shows.regs;
@@ -71,6 +84,7 @@ module _ (p : Player) (thread from to i : ℕ) (points : Points (register_at p t
         word = shows.word;
         content = λ s is_held. content_stays p.table i y s h.slots.apart low same refl;
         usable = λ s some. shows.usable s;
+        plain = λ s some. shows.plain s;
       })
       (shaped_registered partitions threads (record p { table = set p.table i y })
       (shaped_table partitions threads p h.shaped (set p.table i y) keeps) thread to (Ref i)
@@ -112,6 +126,7 @@ module _ (p : Player) (thread reg i : ℕ) (ref : register_at p thread reg ≡ R
         word = shows.word;
         content = λ s is_held. content_stays p.table i y s h.slots.apart low same refl;
         usable = λ s some. shows.usable s;
+        plain = λ s some. shows.plain s;
       })
       (shaped_registered partitions threads (record p { table = set p.table i y })
       (shaped_table partitions threads p h.shaped (set p.table i y) keeps) thread reg Cleared tt)

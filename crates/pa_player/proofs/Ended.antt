@@ -1,5 +1,5 @@
 -- The end of the run: what was reported is the trace's run in the order of its lines.
-use Rattle.std.proofs.Common.{◌≡◌, ℕ, ◌+◌, List, [], length, get_or, sym, ap, ap₂, ◌∙◌, subst, arith, inl, inr}
+use Rattle.std.proofs.Common.{◌≡◌, ℕ, ◌+◌, List, [], length, get_or, sym, ap, ◌∙◌, subst, arith, inl, inr}
 use Rattle.std.specs.Prelude.{All, Contains}
 use Rattle.std.specs.List.{AllByRecursion}
 use Rattle.std.proofs.lemmas.List.Elements.{All-weaker, All-from_get_or, recursion_from_All, Contains-append_left, Contains-get_or}
@@ -113,13 +113,7 @@ told_same t r is =
     let e : List ReportLine → Told = λ x. record (lists_of t) { report = x } in
     ap a is.entries ∙ ap b is.roots ∙ ap c is.pool ∙ ap d is.cells ∙ ap e is.report
 
-module _ (t : Trace) (p : Player) (same_version : p.version ≡ t.version) (h : IsPlaying t.region t.partitions t.threads t.lines p) where
-  -- the player plays by the rules of the trace
-  same_rules : rules_at p ≡ rules_of t
-  same_rules =
-      let by : ℕ → ℕ → Rules = λ v n. record { version = v; plain_from = n } in
-      ap₂ by same_version h.shaped.many
-
+module _ (t : Trace) (p : Player) (same_rules : rules_at p ≡ rules_of t) (h : IsPlaying t.region t.partitions t.threads t.lines p) where
   right : IsToldRight t.lines h.ps (shown p)
   right = ends_right t.threads t.lines h.ps (shown p) h.told
 
@@ -146,9 +140,9 @@ module _ (t : Trace) (p : Player) (same_version : p.version ≡ t.version) (h : 
   known = record {
     lines = subst (λ (k : Rules). AreDue k t.lines p.told.entries) same_rules (subst (AreDue (rules_at p) t.lines) h.entries right.due);
     cells = right.cells;
-    registers = subst (λ v. AreRegisters (usable_of v) (shown p).cells h.ps) same_version right.registers;
+    registers = subst (λ (k : Rules). AreRegisters (usable_of k.version) (shown p).cells h.ps) same_rules right.registers;
     slots = right.slots;
-    contents = subst (λ v. AreContents (usable_of v) (shown p).cells h.ps) same_version right.contents;
+    contents = subst (λ (k : Rules). AreContents (usable_of k.version) (shown p).cells h.ps) same_rules right.contents;
     pool = run_of.1;
     roots = run_of.0;
     caches = (caches p, h.placed.caches);
@@ -179,9 +173,9 @@ module _ (t : Trace) (p : Player) (same_version : p.version ≡ t.version) (h : 
   )
 
 -- after the last phase the run is the trace's
-pub ends_filed : (t : Trace) (p : Player) (r : Run) → p.version ≡ t.version → IsPlaying t.region t.partitions t.threads t.lines p →
+pub ends_filed : (t : Trace) (p : Player) (r : Run) → rules_at p ≡ rules_of t → IsPlaying t.region t.partitions t.threads t.lines p →
     IsToldRun (phase_ended p).told r → IsFileRun t r
-ends_filed t p r same_version h is = subst (IsFileTold t) (sym (told_same (phase_ended p).told r is)) (file_told t p same_version h)
+ends_filed t p r same_rules h is = subst (IsFileTold t) (sym (told_same (phase_ended p).told r is)) (file_told t p same_rules h)
 
 -- journals can be printed if each of their entries names slots
 journals_print : (journals : List (List RootEntry)) → ((q : ℕ) (e : RootEntry) → Contains (get_or journals q []) e → NamesSlots e.act)

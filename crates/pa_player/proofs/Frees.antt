@@ -20,7 +20,7 @@ use Rattle.pa_player.specs.Changes.{stepped_at, filled_at, registered, seen_at, 
 use Rattle.pa_player.specs.Plays.{Plays, PlaysAfter}
 use Rattle.pa_player.proofs.Slots.{IsSame, slot_here, keeps_set, keeps_named, named_as}
 use Rattle.pa_player.proofs.Shaping.{shaped_table, shaped_registered, shaped_live, shaped_quarantined}
-use Rattle.pa_player.proofs.Showing.{reg_kept, told_kept, word_set, content_stays, content_set, usable_stays}
+use Rattle.pa_player.proofs.Showing.{reg_kept, told_kept, word_set, content_stays, content_set, usable_stays, plain_stays}
 use Rattle.pa_player.proofs.Counting.{tally_more, tally_less, cached_slots_same, cached_bytes_same}
 use Rattle.pa_player.proofs.Quiet.{quiet_plays, can_play, counts_still}
 use Rattle.pa_player.proofs.Weighing.{tally_in, tally_out, write_adds, free_enters}
@@ -89,6 +89,7 @@ module _ (p : Player) (thread reg i : ℕ) (own : register_at p thread reg ≡ O
         word = shows.word;
         content = λ s is_held. content_stays p.table i y s h.slots.apart low same refl;
         usable = λ s stepped_on. shows.usable s;
+        plain = λ s stepped_on. shows.plain s;
       })
       (shaped_quarantined partitions threads (freed_at thread reg i p) live_shape away
       (length-set p.quarantined.of x.partition _ ∙ h.shaped.quarantined))
@@ -148,6 +149,7 @@ module _ (p : Player) (thread reg i value : ℕ) (own : register_at p thread reg
         word = λ s. word_set p.table i written s h.slots.apart low same;
         content = λ s is_held. content_set p.table i written s h.slots.apart low same;
         usable = λ s stepped_on. usable_stays p.table i written s h.slots.apart low same;
+        plain = λ s stepped_on. plain_stays p.plain_from p.table i written s h.slots.apart low same;
       })
       (shaped_table partitions threads p h.shaped (set p.table i written) keeps)
       (counts_still region partitions threads ls p (record p { table = set p.table i written })

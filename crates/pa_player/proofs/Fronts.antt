@@ -1,5 +1,5 @@
 -- An allocation that takes the front of its list.
-use Rattle.std.proofs.Common.{◌≡◌, ℕ, suc, ◌+◌, ◌-◌, ◌*◌, ◌<◌, max, List, [], ◌∷◌, map, length, set, get_or, Option, Some, None, refl, sym, ap, ◌∙◌, subst, arith, length-set, inl, inr}
+use Rattle.std.proofs.Common.{◌≡◌, ℕ, suc, ◌+◌, ◌-◌, ◌*◌, ◌<◌, max, List, [], ◌∷◌, map, length, set, get_or, Option, Some, None, refl, sym, ap, ◌∙◌, subst, arith, length-set, inl, inr, nat_le}
 use Rattle.std.specs.Prelude.{if◌then◌else◌, ◌==◌, Contains}
 use Rattle.std.proofs.Math.Nat.{mul-suc}
 use Rattle.std.proofs.lemmas.Bool.{cases_eq, eq-eqb, ne_eqb}
@@ -278,7 +278,8 @@ module _ (p : Player) (thread reg q size class i : ℕ) (rest : List ℕ) (none 
               (none_holds p.table (register_at p thread reg) none)
               (omega (arith, of.fits, (IsRow-of class (real_in p.version class (of.from, of.real))).greatest_slot))
               (sym (at_name (λ z. z.word.0) p.table i h.slots.apart low)) free.held free.refs
-              (at_name (λ z. z.title.len - 8) p.table i h.slots.apart low ∙ usable_is));
+              (at_name (λ z. z.title.len - 8) p.table i h.slots.apart low ∙ usable_is)
+              (ap (λ n. nat_le p.plain_from n) (sym (at_name (λ z. z.partition) p.table i h.slots.apart low ∙ here.1))));
           like = record {
             rules = refl;
             regs = shows.regs;
@@ -287,13 +288,14 @@ module _ (p : Player) (thread reg q size class i : ℕ) (rest : List ℕ) (none 
             word = shows.word;
             content = λ s is_held. content_set p.table i y s h.slots.apart low same;
             usable = λ s stepped_on. shows.usable s;
+            plain = λ s stepped_on. shows.plain s;
           };
           lists = lists;
           still = record {
             entries = refl;
             report = refl;
             line = refl;
-            version = refl;
+            rules = refl;
             phase = refl;
             pools = refl;
             journals = refl;

@@ -1,6 +1,6 @@
 -- The table with slots more after the others, none of which was ever issued.
 use Rattle.std.proofs.Common.{◌≡◌, ℕ, ◌+◌, ◌-◌, ◌<◌, ◌≤◌, ◌⊎◌, inl, inr, List, [], ◌∷◌, ◌++◌, length, refl, sym, ap, ◌∙◌, subst, arith, length-append}
-use Rattle.std.specs.Prelude.{Contains}
+use Rattle.std.specs.Prelude.{nat_le, Contains}
 use Rattle.std.proofs.lemmas.Bool.{cases_lt}
 use Rattle.std.proofs.lemmas.List.{get_or_append_left, get_or-append_right}
 use Rattle.std.proofs.lemmas.List.Elements.{Contains-get_or}
@@ -91,6 +91,10 @@ like_grown partitions threads p after news shaped named g =
       ];
       usable = λ s some. elim (by_name_grown p.table after news g named s) [
         | inl e ↦ ap (λ (z : Slot). z.title.len - 8) e
+        | inr nothing ↦ let none = nothing.0 in absurd (omega arith)
+      ];
+      plain = λ s some. elim (by_name_grown p.table after news g named s) [
+        | inl e ↦ ap (λ (z : Slot). nat_le p.plain_from z.partition) e
         | inr nothing ↦ let none = nothing.0 in absurd (omega arith)
       ];
     }

@@ -1,5 +1,5 @@
 -- A slot that left its root on this line is issued at once.
-use Rattle.std.proofs.Common.{◌≡◌, ℕ, ◌+◌, ◌-◌, ◌<◌, ◌≤◌, inl, inr, List, [], ◌∷◌, ◌++◌, length, set, Option, Some, None, refl, sym, ap, ◌∙◌, subst, arith, length-set, length-append}
+use Rattle.std.proofs.Common.{◌≡◌, ℕ, ◌+◌, ◌-◌, ◌<◌, ◌≤◌, inl, inr, List, [], ◌∷◌, ◌++◌, length, set, Option, Some, None, refl, sym, ap, ◌∙◌, subst, arith, length-set, length-append, nat_le}
 use Rattle.std.specs.Prelude.{Contains, slice_index_or}
 use Rattle.std.proofs.lemmas.Bool.{cases_eq, cases_lt}
 use Rattle.pa_slot.specs.declared.title.Title.{Title}
@@ -58,7 +58,7 @@ use Rattle.pa_slot_effects.specs.Shown.{IsLike}
 use Rattle.pa_player.specs.Plays.{CanGoOn}
 use Rattle.pa_player.proofs.Slots.{KeepsSlots, IsSame, IsPlaceOf, keeps_set, keeps_named, keeps_then}
 use Rattle.pa_player.proofs.Shaping.{in_longer, shaped_table, shaped_registered, shaped_live, shaped_told, shaped_heap}
-use Rattle.pa_player.proofs.Showing.{none_holds, reg_kept, told_kept, regs_registered, with_reg_same, word_set, content_set, usable_stays, at_name}
+use Rattle.pa_player.proofs.Showing.{none_holds, reg_kept, told_kept, regs_registered, with_reg_same, word_set, content_set, usable_stays, plain_stays, at_name}
 use Rattle.pa_player.proofs.Alone.{used_away}
 use Rattle.pa_player.proofs.Known.{IsKnownSlot, known_at, all_known, all_slots_set}
 use Rattle.pa_player.proofs.Counting.{tally_more}
@@ -288,6 +288,7 @@ module _ (region partitions threads : ℕ) (ls : List Line) (p : Player) (thread
         (none_holds table (register_at p thread reg) none) fits
         (sym (at_name (λ z. z.word.0) table i grown_by.apart low)) (omega arith) (omega arith)
         (at_name (λ z. z.title.len - 8) table i grown_by.apart low ∙ serves)
+        (ap (λ k. nat_le p.plain_from k) (sym (at_name (λ z. z.partition) table i grown_by.apart low ∙ here)))
 
     -- ---- the player after the op
 
@@ -343,6 +344,7 @@ module _ (region partitions threads : ℕ) (ls : List Line) (p : Player) (thread
         word = λ s. word_set table i issued_slot s grown_by.apart low same;
         content = λ s is_held. content_set table i issued_slot s grown_by.apart low same;
         usable = λ s stepped_on. usable_stays table i issued_slot s grown_by.apart low same;
+        plain = λ s stepped_on. plain_stays p.plain_from table i issued_slot s grown_by.apart low same;
       }
 
       -- what the pool's entries and the root are then
@@ -385,7 +387,7 @@ module _ (region partitions threads : ℕ) (ls : List Line) (p : Player) (thread
         entries = told_on.entries;
         report = told_on.report;
         line = told_on.line;
-        version = refl;
+        rules = refl;
         phase = refl;
         pools = told_on.pools;
         journals = λ k.

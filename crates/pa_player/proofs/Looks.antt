@@ -14,14 +14,14 @@ use Rattle.pa_rules.specs.Registers.{Regs, Facts, FreeRow, WriteRow, ReadRow, Re
 use Rattle.pa_rules.specs.Nexts.{looked_free, looked_write}
 use Rattle.pa_rules.proofs.Nexts.{by_held}
 use Rattle.pa_heap_effects.specs.Ops.{KeepsLists}
-use Rattle.pa_slot_effects.specs.Known.{facts_of}
+use Rattle.pa_slot_effects.specs.Known.{facts_shown}
 use Rattle.pa_slot_effects.specs.Turns.{Looks}
 use Rattle.pa_rules.specs.declared.register.Register.{Register}
 use Rattle.pa_rules.specs.declared.register.Register.TheVariants.{Empty, Own, Ref, Freed, Cleared}
 use Rattle.pa_player.specs.declared.table.Slot.{Slot}
 use Rattle.pa_player.specs.Player.{Player}
 use Rattle.pa_player.specs.Tables.{slot_at, named_at, Points}
-use Rattle.pa_player.specs.Playing.{shown, reg_of, register_at, IsPlaying, rules_at}
+use Rattle.pa_player.specs.Playing.{shown, reg_of, register_at, IsPlaying}
 use Rattle.pa_player.specs.Changes.{seen_at, Reads}
 use Rattle.pa_player.specs.Plays.{Plays}
 use Rattle.pa_player.proofs.Bounds.{IsLength, length_of}
@@ -124,7 +124,7 @@ read_past p thread reg place i points past =
     none_plays_by p thread (ops.Read reg place) answers.OutOfRange tt tt (λ cell r e. cc) (λ region partitions threads ls h.
     let (low, usable) = usable_is region partitions threads ls p thread reg i h points in
     let beyond = past_words (slot_at p.table i).title.len place (length_of region partitions threads ls p h i low) past in
-    read_row p.table (facts_of (rules_at p).version (shown p).usable (shown p).cells) (register_at p thread reg) i
+    read_row p.table (facts_shown (shown p)) (register_at p thread reg) i
     ((shown p).regs thread) place answers.OutOfRange points
     ((λ k. refl), inl (omega (arith, usable, beyond), refl)))
 
@@ -141,7 +141,7 @@ read_in p thread reg place i value answer points low says keeps =
     let inside = inside_words (slot_at p.table i).title.len place (length_of region partitions threads ls p h i among) low in
     let (looks, which) = says region partitions threads ls h among in (
       looks,
-      read_row p.table (facts_of (rules_at p).version (shown p).usable (shown p).cells) (register_at p thread reg) i
+      read_row p.table (facts_shown (shown p)) (register_at p thread reg) i
           ((shown p).regs thread) place answer points
           ((λ k. refl), inr (omega (arith, usable, inside), seen_at p.table i, value, refl, which)),
     ))

@@ -218,7 +218,7 @@ module _ (region partitions threads : ℕ) (ls : List Line) (p q : Player) (h : 
 
   tells_on : TellsOn (record_of p thread answer ∷ []) p (answered thread answer q)
   tells_on = record {
-    version = m.told.version;
+    rules = m.told.rules;
     entries =
         let e : List Entry → ℕ → List Entry = λ es line. es ++ record { line = line; thread = thread; answer = answer } ∷ [] in
         ap (λ es. e es q.told.line) m.told.entries ∙ ap (e p.told.entries) m.told.line;

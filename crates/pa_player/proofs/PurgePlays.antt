@@ -7,6 +7,7 @@ use Rattle.std.proofs.lemmas.List.Elements.{Contains-append_cases}
 use Rattle.pa_slot.specs.Run.{Mark}
 use Rattle.pa_trace.specs.declared.script.Op.TheVariants as ops
 use Rattle.pa_trace.specs.declared.script.Line.{Line}
+use Rattle.pa_trace.specs.declared.script.Rules.{Rules}
 use Rattle.pa_trace.specs.declared.script.Line.TheVariants.{Do}
 use Rattle.pa_record.specs.declared.entry.Answer.TheVariants as answers
 use Rattle.pa_record.specs.declared.history.CellEntry.{CellEntry}
@@ -117,7 +118,7 @@ are_purged partitions threads thread q (suc k) m below fits can =
         | inr ne ↦
             rest.here j (omega arith) (omega arith)
             ∙ ap (λ v. purged (all_returned (names (all_of (caches m1 thread j) (first_class v) (class_total v))) (root_of m1 j)))
-            one.giving.version
+            (ap (λ (k : Rules). k.version) one.giving.rules)
             ∙ ap (λ z. purged (all_returned (names z) (root_of m1 j)))
             (all_same (caches m thread j) (caches m1 thread j) (first_class m.version) (class_total m.version) (λ c _. same j ne c))
             ∙ ap (λ z. purged (all_returned (names (all_of (caches m thread j) (first_class m.version) (class_total m.version))) z))
@@ -140,7 +141,8 @@ are_purged partitions threads thread q (suc k) m below fits can =
             ∙ ap (λ l. journals m1 j ++
             entries_at l (purge_acts (caches m1 thread j) (first_class m1.version) (class_total m1.version))) one.giving.line
             ∙ ap (λ v. journals m1 j ++
-            entries_at line (purge_acts (caches m1 thread j) (first_class v) (class_total v))) one.giving.version
+            entries_at line (purge_acts (caches m1 thread j) (first_class v) (class_total v)))
+            (ap (λ (k : Rules). k.version) one.giving.rules)
             ∙ ap (λ acts. journals m1 j ++ entries_at line acts)
             (purge_same (caches m thread j) (caches m1 thread j) (first_class m.version) (class_total m.version) (same j ne))
             ∙ ap (λ es. es ++ entries_at line (purge_acts (caches m thread j) (first_class m.version) (class_total m.version)))
@@ -247,14 +249,15 @@ module _ (region partitions threads : ℕ) (ls : List Line) (p : Player) (thread
       ∙ ap (λ t. record r { table = p.table; registers = p.registers; cells = t }) g.cells
       ∙ ap (λ t. record r { table = p.table; registers = p.registers; cells = p.cells; live = t }) g.live
       ∙ ap (λ t. record r { table = p.table; registers = p.registers; cells = p.cells; live = p.live; quarantined = t }) g.quarantined
-      ∙ ap (λ t. record r {
+      ∙ ap (λ (t : Rules). record r {
         table = p.table;
         registers = p.registers;
         cells = p.cells;
         live = p.live;
         quarantined = p.quarantined;
-        version = t;
-      }) g.version
+        version = t.version;
+        plain_from = t.plain_from;
+      }) g.rules
       ∙ ap (λ t. record r {
         table = p.table;
         registers = p.registers;
@@ -262,6 +265,7 @@ module _ (region partitions threads : ℕ) (ls : List Line) (p : Player) (thread
         live = p.live;
         quarantined = p.quarantined;
         version = p.version;
+        plain_from = p.plain_from;
         partitions = t;
       }) g.many
       ∙ ap (λ t. record r {
@@ -271,6 +275,7 @@ module _ (region partitions threads : ℕ) (ls : List Line) (p : Player) (thread
         live = p.live;
         quarantined = p.quarantined;
         version = p.version;
+        plain_from = p.plain_from;
         partitions = p.partitions;
         phase = t;
       }) g.phase
@@ -363,7 +368,7 @@ module _ (region partitions threads : ℕ) (ls : List Line) (p : Player) (thread
     entries = a.giving.entries;
     report = a.giving.report;
     line = a.giving.line;
-    version = refl;
+    rules = refl;
     phase = refl;
     pools = a.giving.pools ∙ sym (append-nil p.told.pools);
     journals = journals_then;

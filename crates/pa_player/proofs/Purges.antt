@@ -14,7 +14,7 @@ use Rattle.pa_heap_effects.specs.Ops.{all_of}
 use Rattle.pa_player.specs.Player.{Player}
 use Rattle.pa_player.specs.Tables.{slot_at}
 use Rattle.pa_player.specs.Tallies.{tally_at}
-use Rattle.pa_player.specs.Playing.{caches, numbered_at, list_place, list_at, AreShaped}
+use Rattle.pa_player.specs.Playing.{caches, numbered_at, list_place, list_at, AreShaped, rules_at}
 use Rattle.pa_player.specs.Changes.{list_in, given, bytes_at}
 use Rattle.pa_player.proofs.OneList.{caches_here, caches_listed, place_below}
 use Rattle.pa_player.proofs.Shaping.{shaped_listed, shaped_cached, shaped_told, shaped_heap}
@@ -31,7 +31,7 @@ pub record IsGiving (partitions threads : ℕ) (p m : Player) : Type 0 where
   pub cells : m.cells ≡ p.cells
   pub live : m.live ≡ p.live
   pub quarantined : m.quarantined ≡ p.quarantined
-  pub version : m.version ≡ p.version
+  pub rules : rules_at m ≡ rules_at p
   pub phase : m.phase ≡ p.phase
   pub many : m.partitions ≡ p.partitions
   pub entries : m.told.entries ≡ p.told.entries
@@ -85,7 +85,7 @@ module _ (partitions threads thread q class : ℕ) (m : Player) (below : thread 
         entries = refl;
         report = refl;
         line = refl;
-        version = refl;
+        rules = refl;
         phase = refl;
         pools = refl;
         histories = refl;
@@ -150,7 +150,7 @@ module _ (partitions threads thread q class : ℕ) (m : Player) (below : thread 
       cells = refl;
       live = refl;
       quarantined = refl;
-      version = refl;
+      rules = refl;
       phase = refl;
       many = refl;
       entries = refl;
@@ -201,7 +201,7 @@ giving_then partitions threads a b c h g = record {
   cells = g.cells ∙ h.cells;
   live = g.live ∙ h.live;
   quarantined = g.quarantined ∙ h.quarantined;
-  version = g.version ∙ h.version;
+  rules = g.rules ∙ h.rules;
   phase = g.phase ∙ h.phase;
   many = g.many ∙ h.many;
   entries = g.entries ∙ h.entries;

@@ -29,7 +29,7 @@ use Rattle.pa_heap_effects.specs.Pooled.{pool_at, IsDone}
 use Rattle.pa_heap_effects.specs.Ops.{no_acts, KeepsLists}
 use Rattle.pa_heap_effects.proofs.Acting.{nothing_moves}
 use Rattle.pa_slot_effects.specs.Shown.{Shown, IsLike}
-use Rattle.pa_slot_effects.specs.Known.{facts_of}
+use Rattle.pa_slot_effects.specs.Known.{facts_shown}
 use Rattle.pa_slot_effects.specs.Turns.{CanPlay, LeadsTo, TellsNone, Looks, played_at}
 use Rattle.pa_slot_effects.proofs.Looking.{none_goes_on, look_goes_on, none_mark, look_mark}
 use Rattle.pa_slot_effects.proofs.Marking.{some_mark}
@@ -52,7 +52,7 @@ pub record IsStill (p q : Player) : Type 0 where
   pub entries : q.told.entries ≡ p.told.entries
   pub report : q.told.report ≡ p.told.report
   pub line : q.told.line ≡ p.told.line
-  pub version : q.version ≡ p.version
+  pub rules : rules_at q ≡ rules_at p
   pub phase : q.phase ≡ p.phase
   pub pools : q.told.pools ≡ p.told.pools
   pub journals : q.told.journals ≡ p.told.journals
@@ -94,7 +94,7 @@ module _ (region partitions threads : ℕ) (ls : List Line) (p q : Player) (h : 
     entries = m.still.entries;
     report = m.still.report;
     line = m.still.line;
-    version = m.still.version;
+    rules = m.still.rules;
     phase = m.still.phase;
     pools = m.still.pools ∙ sym (append-nil p.told.pools);
     journals = λ k. ap (λ js. journal_at js k) m.still.journals ∙ sym (append-nil (journals p k));
@@ -195,6 +195,7 @@ like_same a = record {
   word = λ s. refl;
   content = λ s h. refl;
   usable = λ s h. refl;
+  plain = λ s h. refl;
 }
 
 pub still_same : (p : Player) → IsStill p p
@@ -202,7 +203,7 @@ still_same p = record {
   entries = refl;
   report = refl;
   line = refl;
-  version = refl;
+  rules = refl;
   phase = refl;
   pools = refl;
   journals = refl;
@@ -252,7 +253,7 @@ none_not_some m e = cc
 pub none_plays_by : (p : Player) (thread : ℕ) (op : Op) (answer : Answer) → TellsNone answer → KeepsLists op answer →
     ((cell reg : ℕ) → op ≡ ops.Swap cell reg → ⊥)
     → ((region partitions threads : ℕ) (ls : List Line) → IsPlaying region partitions threads ls p
-    → Row (facts_of (rules_at p).version (shown p).usable (shown p).cells) op ((shown p).regs thread) answer ((shown p).regs thread))
+    → Row (facts_shown (shown p)) op ((shown p).regs thread) answer ((shown p).regs thread))
     → Plays p thread op p answer
 none_plays_by p thread op answer none keeps other row = quiet_plays p thread op p answer (λ region partitions threads ls can.
     let silent = none_mark (length ls + 2) op answer none in
@@ -264,7 +265,7 @@ none_plays_by p thread op answer none keeps other row = quiet_plays p thread op 
 
 pub none_plays : (p : Player) (thread : ℕ) (op : Op) (answer : Answer) → TellsNone answer → KeepsLists op answer →
     ((cell reg : ℕ) → op ≡ ops.Swap cell reg → ⊥)
-    → Row (facts_of (rules_at p).version (shown p).usable (shown p).cells) op ((shown p).regs thread) answer ((shown p).regs thread) →
+    → Row (facts_shown (shown p)) op ((shown p).regs thread) answer ((shown p).regs thread) →
     Plays p thread op p answer
 none_plays p thread op answer none keeps other row =
     none_plays_by p thread op answer none keeps other (λ region partitions threads ls h. row)
@@ -278,7 +279,7 @@ pub look_plays_by : (p : Player) (thread reg i : ℕ) (op : Op) (answer : Answer
     → KeepsLists op answer → ((cell r : ℕ) → op ≡ ops.Swap cell r → ⊥)
     → ((region partitions threads : ℕ) (ls : List Line) → IsPlaying region partitions threads ls p
     → Looks (shown p) (seen_at p.table i) answer ×
-    Row (facts_of (rules_at p).version (shown p).usable (shown p).cells) op ((shown p).regs thread) answer ((shown p).regs thread))
+    Row (facts_shown (shown p)) op ((shown p).regs thread) answer ((shown p).regs thread))
     → Plays p thread op p answer
 look_plays_by p thread reg i op answer small points keeps other told_by =
     quiet_plays p thread op p answer (λ region partitions threads ls can.
@@ -297,7 +298,7 @@ look_plays_by p thread reg i op answer small points keeps other told_by =
 pub look_plays : (p : Player) (thread reg i : ℕ) (op : Op) (answer : Answer) → ((partitions : ℕ) → IsOpWithin partitions op → reg < 64) →
     Points (register_at p thread reg) i
     → Looks (shown p) (seen_at p.table i) answer → KeepsLists op answer → ((cell r : ℕ) → op ≡ ops.Swap cell r → ⊥)
-    → Row (facts_of (rules_at p).version (shown p).usable (shown p).cells) op ((shown p).regs thread) answer ((shown p).regs thread) →
+    → Row (facts_shown (shown p)) op ((shown p).regs thread) answer ((shown p).regs thread) →
     Plays p thread op p answer
 look_plays p thread reg i op answer small points looks keeps other row =
     look_plays_by p thread reg i op answer small points keeps other (λ region partitions threads ls h. (looks, row))

@@ -30,7 +30,7 @@ use Rattle.pa_heap_effects.proofs.Acting.{only_here}
 use Rattle.pa_heap_effects.proofs.Extending.{line_replays}
 use Rattle.pa_heap_effects.proofs.Calls.{full_is_done}
 use Rattle.pa_heap_effects.proofs.Maps.{full_map_is_done}
-use Rattle.pa_slot_effects.specs.Known.{facts_of}
+use Rattle.pa_slot_effects.specs.Known.{facts_shown}
 use Rattle.pa_slot_effects.specs.Turns.{played_at}
 use Rattle.pa_slot_effects.proofs.Looking.{none_goes_on, none_mark}
 use Rattle.pa_place.specs.Placed.{FillDid, MapDid}
@@ -114,7 +114,7 @@ module _ (region partitions threads : ℕ) (ls : List Line) (p : Player) (thread
       entries = refl;
       report = refl;
       line = refl;
-      version = refl;
+      rules = refl;
       phase = refl;
       pools = ap (λ (line : ℕ). p.told.pools ++ record { line = line; partition = q; act = pool.Take count None } ∷ []) h.line;
       journals = λ k.
@@ -152,7 +152,7 @@ module _ (region partitions threads : ℕ) (ls : List Line) (p : Player) (thread
       done = called.done;
       turn = none_goes_on threads ls h.ps (shown p) thread (ops.Alloc reg q size) (answers.Full entry)
           (can_play region partitions threads ls thread (ops.Alloc reg q size) p can) tt (λ cell k e. cc)
-          (request_row p.table (register_at p thread reg) (facts_of (rules_at p).version (shown p).usable (shown p).cells)
+          (request_row p.table (register_at p thread reg) (facts_shown (shown p))
           ((shown p).regs thread) reg size
           (answers.Full entry) none (inr (inr (fits, entry, refl, λ k. refl))));
       like = like_same (shown p);

@@ -240,7 +240,7 @@ pub phase_plays : (p : Player) → GoesTo p Phase None (phase_begun p)
 phase_plays p region partitions threads ls can = (
   begun region partitions threads ls p can.playing can.short,
   record {
-    version = refl;
+    rules = refl;
     entries = sym (append-nil p.told.entries);
     journals = λ k. ([], sym (append-nil (journals p k)));
     histories = λ k. ([], sym (append-nil (history_in p.told k)));

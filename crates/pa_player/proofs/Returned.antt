@@ -91,6 +91,7 @@ module _ (p : Player) (thread reg i : ℕ) (own : register_at p thread reg ≡ O
           word = shows.word;
           content = λ s is_held. content_stays p.table i freed s h.slots.apart low same refl;
           usable = λ s stepped_on. shows.usable s;
+          plain = λ s stepped_on. shows.plain s;
         };
         shaped = shaped_live partitions threads (registered thread reg Freed (stepped_at steps.Free i p)) registered_shape live
             (length-set p.live.of x.partition _ ∙ h.shaped.live);
@@ -179,6 +180,7 @@ module _ (p : Player) (thread reg i : ℕ) (ref : register_at p thread reg ≡ R
           word = shows.word;
           content = λ s is_held. content_stays p.table i left s h.slots.apart low same refl;
           usable = λ s stepped_on. shows.usable s;
+          plain = λ s stepped_on. shows.plain s;
         };
         shaped = shaped_quarantined partitions threads (registered thread reg Cleared (stepped_at steps.Reset i p)) registered_shape away
             (length-set p.quarantined.of x.partition _ ∙ h.shaped.quarantined);

@@ -46,7 +46,7 @@ use Rattle.pa_player.specs.Player.{Player}
 use Rattle.pa_player.specs.Tables.{no_slot, slot_at, named_at, Points}
 use Rattle.pa_player.specs.Told.{Lists}
 use Rattle.pa_player.specs.Tallies.{tally_at}
-use Rattle.pa_player.specs.Playing.{shown, journals, caches, root_of, numbered_at, list_place, list_at, register_at, IsLetOut, IsMappedAs, AreAllSlots, AreShaped, IsPlaying}
+use Rattle.pa_player.specs.Playing.{shown, journals, caches, root_of, numbered_at, list_place, list_at, register_at, IsLetOut, IsMappedAs, AreAllSlots, AreShaped, IsPlaying, rules_at}
 use Rattle.pa_player.specs.Changes.{seen_at, gave_back}
 use Rattle.pa_player.specs.Plays.{CanGoOn}
 use Rattle.pa_player.proofs.OneList.{caches_here, place_below}
@@ -67,7 +67,7 @@ pub record IsBackIn (p m : Player) (n q : ℕ) (xs : List Numbered) : Type 0 whe
   pub entries : m.told.entries ≡ p.told.entries
   pub report : m.told.report ≡ p.told.report
   pub line : m.told.line ≡ p.told.line
-  pub version : m.version ≡ p.version
+  pub rules : rules_at m ≡ rules_at p
   pub phase : m.phase ≡ p.phase
   pub pools : m.told.pools ≡ p.told.pools
   pub histories : m.told.histories ≡ p.told.histories
@@ -85,7 +85,7 @@ gave_back_in p q ys low inside =
       entries = refl;
       report = refl;
       line = refl;
-      version = refl;
+      rules = refl;
       phase = refl;
       pools = refl;
       histories = refl;
@@ -100,7 +100,7 @@ none_back p n q = record {
   entries = refl;
   report = refl;
   line = refl;
-  version = refl;
+  rules = refl;
   phase = refl;
   pools = refl;
   histories = refl;
@@ -116,7 +116,7 @@ back_told p m n q xs few back = record {
   entries = back.entries;
   report = back.report;
   line = back.line;
-  version = back.version;
+  rules = back.rules;
   phase = back.phase;
   pools = back.pools ∙ sym (append-nil p.told.pools);
   journals = back.journals;

@@ -1,6 +1,6 @@
 -- What the tables show, by the names of slots, after each change.
 use Rattle.std.proofs.Common.{◌≡◌, ℕ, ◌-◌, ◌<◌, ◌⊎◌, List, [], length, set, get_or, refl, sym, ap, ◌∙◌, subst, inl, inr}
-use Rattle.std.specs.Prelude.{if◌then◌else◌, slice_index_or}
+use Rattle.std.specs.Prelude.{nat_le, if◌then◌else◌, slice_index_or}
 use Rattle.std.proofs.lemmas.Bool.{cases_eq, eq-eqb, ne_eqb}
 use Rattle.std.proofs.lemmas.List.{get_or-set_same, get_or-set_other}
 use Rattle.pa_slot.specs.declared.title.Title.{Title}
@@ -16,7 +16,7 @@ use Rattle.pa_rules.specs.declared.register.Register.TheVariants.{Empty, Own, Re
 use Rattle.pa_player.specs.declared.table.Slot.{Slot}
 use Rattle.pa_player.specs.Player.{Player}
 use Rattle.pa_player.specs.Tables.{slot_at, named_at, held_of, AreNamed, IsIn, Points, HasNone}
-use Rattle.pa_player.specs.Playing.{slot_of_name, word_in, content_in, usable_in, reg_of, register_at}
+use Rattle.pa_player.specs.Playing.{slot_of_name, word_in, content_in, usable_in, home_in, reg_of, register_at}
 use Rattle.pa_player.specs.Changes.{registered}
 use Rattle.pa_player.proofs.Slots.{KeepsSlots, IsSame, slot_here, by_name_set, keeps_named}
 
@@ -99,7 +99,7 @@ with_reg_same a b t r x y u k same e = elim (cases_eq u t) [
   | inr apart ↦ rw (ne_eqb u t apart) (same u k)
 ]
 
--- ---- words, contents and usable numbers
+-- ---- words, contents, usable numbers and partitions
 
 pub word_set : (slots : List Slot) (i : ℕ) (y : Slot) (s : SlotName) → AreNamed slots → i < length slots → IsSame (slot_at slots i) y
     → word_in (set slots i y) s ≡ with_slot (word_in slots) (named_at slots i) y.word.0 s
@@ -144,3 +144,8 @@ pub usable_stays : (slots : List Slot) (i : ℕ) (y : Slot) (s : SlotName) → A
     → usable_in (set slots i y) s ≡ usable_in slots s
 usable_stays slots i y s named l same =
     name_set_same (λ z. z.title.len - 8) slots i y s named l same (ap (λ (t : Title). t.len - 8) same.title)
+
+pub plain_stays : (from : ℕ) (slots : List Slot) (i : ℕ) (y : Slot) (s : SlotName) → AreNamed slots → i < length slots →
+    IsSame (slot_at slots i) y → nat_le from (home_in (set slots i y) s) ≡ nat_le from (home_in slots s)
+plain_stays from slots i y s named l same =
+    name_set_same (λ z. nat_le from z.partition) slots i y s named l same (ap (λ n. nat_le from n) same.partition)

@@ -27,7 +27,7 @@ use Rattle.pa_player.specs.declared.table.Slot.{Slot}
 use Rattle.pa_player.specs.Player.{Player}
 use Rattle.pa_player.specs.Tallies.{tally_at}
 use Rattle.pa_player.specs.Told.{history_in}
-use Rattle.pa_player.specs.Playing.{shown, journals, caches, root_of, home_in, len_in, AreAllSlots, AreShaped, IsPlaying}
+use Rattle.pa_player.specs.Playing.{shown, journals, caches, root_of, home_in, len_in, rules_at, AreAllSlots, AreShaped, IsPlaying}
 use Rattle.pa_player.proofs.Slots.{KeepsSlots, IsPlaceOf}
 
 -- a history has one exchange more at most
@@ -39,7 +39,7 @@ pub record TellsMore (p q : Player) (n : ℕ) (more : List PoolEntry) (acts : Ac
   pub entries : q.told.entries ≡ p.told.entries
   pub report : q.told.report ≡ p.told.report
   pub line : q.told.line ≡ p.told.line
-  pub version : q.version ≡ p.version
+  pub rules : rules_at q ≡ rules_at p
   pub phase : q.phase ≡ p.phase
   pub pools : q.told.pools ≡ p.told.pools ++ more
   pub journals : (k : ℕ) → journals q k ≡ grown (journals p) n acts k

@@ -146,7 +146,7 @@ module _ (region partitions threads : ℕ) (ls : List Line) (p : Player) (thread
         entries = refl;
         report = refl;
         line = refl;
-        version = refl;
+        rules = refl;
         phase = refl;
         pools = refl;
         histories = refl;
@@ -212,7 +212,7 @@ module _ (region partitions threads : ℕ) (ls : List Line) (p : Player) (thread
         entries = refl;
         report = refl;
         line = refl;
-        version = refl;
+        rules = refl;
         phase = refl;
         pools = refl;
         histories = refl;

@@ -6,6 +6,7 @@ use Rattle.std.proofs.lemmas.List.Elements.{All-nil}
 use Rattle.pa_slot.specs.declared.word.SlotName.{SlotName}
 use Rattle.pa_slot.specs.declared.word.Step.{Step}
 use Rattle.pa_trace.specs.declared.line.Head.{Head}
+use Rattle.pa_trace.specs.declared.script.Rules.{Rules}
 use Rattle.pa_trace.specs.Limits.{IsHeadWithin}
 use Rattle.pa_rules.specs.Sizes.{is_class, class_total}
 use Rattle.pa_record.specs.declared.pool.PoolEntry.{PoolEntry}
@@ -89,6 +90,7 @@ module _ (at : Head) (p : Player) (head : IsHeadWithin at) (b : IsBegun at p) wh
     word = λ s. ap (λ slots. word_in slots s) b.table;
     content = λ s held. ap (λ slots. content_in slots s) b.table;
     usable = λ s used. absurd (omega (arith, used));
+    plain = λ s used. absurd (omega (arith, used));
   }
 
   placed : IsPlacedTo partitions 2 [] p.told.pools (journals p) (caches p)
@@ -124,7 +126,7 @@ module _ (at : Head) (p : Player) (head : IsHeadWithin at) (b : IsBegun at p) wh
     histories = b.told.histories.count;
     journals = b.told.journals.count;
     roots = b.roots.count;
-    lists = b.caches.count ∙ ap (λ v. threads * partitions * class_total v) (sym b.version);
+    lists = b.caches.count ∙ ap (λ v. threads * partitions * class_total v) (sym (ap (λ (k : Rules). k.version) b.rules));
     held = λ t r. subst (IsIn (length p.table)) (sym (b.registers.clear t r)) tt;
     celled = λ k. subst (IsIn (length p.table)) (sym (b.cell k)) tt;
     handles = λ k. subst (λ z. handle_in z ≡ z) (sym (b.cell k)) refl;

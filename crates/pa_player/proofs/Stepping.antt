@@ -33,7 +33,7 @@ use Rattle.pa_player.specs.Changes.{registered, seen_at}
 use Rattle.pa_player.specs.Plays.{CanGoOn}
 use Rattle.pa_player.proofs.OneList.{caches_here, caches_none}
 use Rattle.pa_player.proofs.Slots.{IsSame, keeps_set, keeps_named}
-use Rattle.pa_player.proofs.Showing.{points_in, points_names, at_name, reg_kept, told_kept, regs_registered, with_reg_same, word_set, usable_stays}
+use Rattle.pa_player.proofs.Showing.{points_in, points_names, at_name, reg_kept, told_kept, regs_registered, with_reg_same, word_set, usable_stays, plain_stays}
 use Rattle.pa_player.proofs.Alone.{used_away, used_unlisted}
 use Rattle.pa_player.proofs.Known.{mapped_used, all_slots_set}
 use Rattle.pa_player.proofs.Shows.{CountsMore}
@@ -139,7 +139,7 @@ module _ (region partitions threads : ℕ) (ls : List Line) (p : Player) (thread
       entries = refl;
       report = refl;
       line = refl;
-      version = refl;
+      rules = refl;
       phase = refl;
       pools = refl;
       journals = refl;
@@ -172,12 +172,13 @@ module _ (region partitions threads : ℕ) (ls : List Line) (p : Player) (thread
   pub lists_kept : (y : Slot) (t k class : ℕ) → caches (record p { table = set p.table i y }) t k class ≡ caches p t k class
   lists_kept y t k class = caches_kept partitions threads p (set p.table i y) h.shaped (unmoved y) t k class
 
--- what a player shows after a step, if a register was set: its registers, cells and usable numbers
+-- what a player shows after a step, if a register was set: its registers, cells, usable numbers and plain slots
 pub record ShowsStep (p : Player) (i t r : ℕ) (x : Register ℕ) (y : Slot) (q : Player) : Type 0 where
   pub regs : (u k : ℕ) → (shown q).regs u k ≡ with_reg (shown p).regs t r (reg_of p.table x) u k
   pub held : (k : ℕ) → (shown q).held k ≡ (shown p).held k
   pub word : (s : SlotName) → (shown q).word s ≡ with_slot (shown p).word (named_at p.table i) y.word.0 s
   pub usable : (s : SlotName) → (shown q).usable s ≡ (shown p).usable s
+  pub plain : (s : SlotName) → (shown q).plain s ≡ (shown p).plain s
 
 pub shows_step : (region partitions threads : ℕ) (ls : List Line) (p : Player) (i t r : ℕ) (x : Register ℕ) (y : Slot)
     (live quarantined : Tallies) → IsPlaying region partitions threads ls p
@@ -194,4 +195,5 @@ shows_step region partitions threads ls p i t r x y live quarantined h low below
       held = λ k. told_kept p.table slots (cell_at p k) keeps (h.shaped.celled k);
       word = λ s. word_set p.table i y s h.slots.apart low same;
       usable = λ s. usable_stays p.table i y s h.slots.apart low same;
+      plain = λ s. plain_stays p.plain_from p.table i y s h.slots.apart low same;
     }

@@ -117,6 +117,7 @@ module _ (p : Player) (thread cell reg : ℕ) where
       word = λ s. refl;
       content = λ s is_held. refl;
       usable = λ s stepped_on. refl;
+      plain = λ s stepped_on. refl;
     }
 
     shaped : AreShaped partitions threads (swapped thread cell reg p)
@@ -154,7 +155,7 @@ module _ (p : Player) (thread cell reg : ℕ) where
           entries = refl;
           report = refl;
           line = refl;
-          version = refl;
+          rules = refl;
           phase = refl;
           pools = refl;
           journals = refl;

@@ -142,7 +142,7 @@ module _ (region partitions threads : ℕ) (ls : List Line) (p : Player) (thread
     entries = refl;
     report = refl;
     line = refl;
-    version = refl;
+    rules = refl;
     phase = refl;
     pools =
         let e : ℕ → Title → List PoolEntry = λ line t. p.told.pools ++

@@ -4,11 +4,12 @@ use Rattle.pa_record.specs.Pool.{new_pool}
 use Rattle.pa_record.specs.Root.{Root, new_root}
 use Rattle.pa_trace.specs.Limits.{register_count, cell_count}
 use Rattle.pa_trace.specs.declared.line.Head.{Head}
+use Rattle.pa_trace.specs.Rules.{rules_by}
 use Rattle.pa_rules.specs.Sizes.{class_total}
 use Rattle.pa_rules.specs.declared.register.Register.{Register}
 use Rattle.pa_rules.specs.declared.register.Register.TheVariants.{Empty}
 use Rattle.pa_player.specs.Player.{Player}
-use Rattle.pa_player.specs.Playing.{cell_at}
+use Rattle.pa_player.specs.Playing.{cell_at, rules_at}
 use Rattle.pa_player.specs.Tallies.{IsNone}
 use Rattle.pa_player.specs.Told.{Lists}
 
@@ -50,6 +51,6 @@ pub record IsBegun (h : Head) (p : Player) : Type 0 where
   pub quarantined : IsNone p.quarantined.of
   pub cached : IsNone p.cached.of
   pub told : IsUntold h.partitions p.told
-  pub version : p.version ≡ h.version
+  pub rules : rules_at p ≡ rules_by h
   pub many : p.partitions ≡ h.partitions
   pub phase : p.phase ≡ 1

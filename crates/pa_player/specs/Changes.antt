@@ -1,5 +1,5 @@
 -- What the parts of an op change in a player, each as a function of the player before it.
-use Rattle.std.specs.Prelude.{◌≡◌, ℕ, zero, suc, ◌+◌, ◌-◌, ◌/◌, ◌<◌, ◌≤◌, ◌⊎◌, nat_lt, if◌then◌else◌, List, [], ◌∷◌}
+use Rattle.std.specs.Prelude.{◌≡◌, ℕ, Bool, true, false, nat_le, ◌&&◌, zero, suc, ◌+◌, ◌-◌, ◌/◌, ◌<◌, ◌≤◌, ◌⊎◌, nat_lt, if◌then◌else◌, List, [], ◌∷◌}
 use Rattle.std.specs.Prelude.{◌++◌, map, length, take, drop, slice_index_or, slice_set, sum, Option, Some, None}
 use Rattle.pa_slot.specs.declared.title.Title.{Title}
 use Rattle.pa_slot.specs.declared.word.Step.{Step}
@@ -333,12 +333,18 @@ AllocatesMap thread reg q len supers p r answer =
 
 -- ---- steps
 
--- a copy to a register: one that has a handle stays as it is, and any other becomes a `raw_ptr` to the slot
-abbrev pub Copies : ℕ → ℕ → ℕ → Player → Player → Answer → Type 0
-Copies thread to i p r answer =
+-- whether a copy of a handle of the slot at an index wouldn't be counted: it is the owner, and its slot is in a plain partition
+abbrev pub is_uncounted : Bool → ℕ → Player → Bool
+is_uncounted owner i p = owner && nat_le p.plain_from (slot_at p.table i).partition
+
+-- a copy to a register of a handle, which is the owner or not: a register that has a handle stays as it is, and so does any other if
+-- the copy wouldn't be counted, and else it becomes a `raw_ptr` to the slot
+abbrev pub Copies : ℕ → Bool → ℕ → ℕ → Player → Player → Answer → Type 0
+Copies thread owner to i p r answer =
     (HasSomeHandle (register_at p thread to) × (r ≡ p) × (answer ≡ answers.Filled))
-    ⊎ (HasNone (register_at p thread to) × (r ≡ registered thread to (Ref i) (stepped_at steps.Copy i p))
-    × (answer ≡ answers.Done (seen_at p.table i)))
+    ⊎ (HasNone (register_at p thread to) × (is_uncounted owner i p ≡ true) × (r ≡ p) × (answer ≡ answers.Uncounted))
+    ⊎ (HasNone (register_at p thread to) × (is_uncounted owner i p ≡ false)
+    × (r ≡ registered thread to (Ref i) (stepped_at steps.Copy i p)) × (answer ≡ answers.Done (seen_at p.table i)))
 
 -- the step of a reset of the slot at an index, whose register is cleared by it
 abbrev pub reset_at : ℕ → ℕ → ℕ → Player → Player

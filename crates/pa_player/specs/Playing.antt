@@ -1,5 +1,5 @@
 -- What is known of a player between two lines.
-use Rattle.std.specs.Prelude.{◌≡◌, ℕ, ◌+◌, ◌-◌, ◌*◌, ◌<◌, ◌≤◌, ◌&&◌, nat_lt, if◌then◌else◌, List, [], ◌∷◌, map, length}
+use Rattle.std.specs.Prelude.{◌≡◌, ℕ, ◌+◌, ◌-◌, ◌*◌, ◌<◌, ◌≤◌, ◌&&◌, nat_le, nat_lt, if◌then◌else◌, List, [], ◌∷◌, map, length}
 use Rattle.std.specs.Prelude.{slice_index_or, Option, Some, None, All, Contains}
 use Rattle.pa_slot.specs.declared.word.SlotName.{SlotName}
 use Rattle.pa_slot.specs.Count.{number_of, held_of, refs_of}
@@ -84,9 +84,9 @@ register_at p t r = slice_index_or (slice_index_or p.registers t []) r Empty
 abbrev pub cell_at : Player → ℕ → Register ℕ
 cell_at p k = slice_index_or p.cells k Empty
 
--- the rules by which the player plays: those of its version, and no partition is plain
+-- the rules by which the player plays: those of its version, with its first plain partition
 abbrev pub rules_at : Player → Rules
-rules_at p = record { version = p.version; plain_from = p.partitions }
+rules_at p = record { version = p.version; plain_from = p.plain_from }
 
 -- what the player shows of its rules, registers, cells, histories and slots, by the names of slots
 abbrev pub shown : Player → Shown
@@ -99,6 +99,7 @@ shown p =
       word = word_in p.table;
       content = content_in p.table;
       usable = usable_in p.table;
+      plain = λ s. nat_le p.plain_from (home_in p.table s);
     }
 
 -- the journals by their partitions

@@ -1,5 +1,5 @@
 -- What is to be shown of an op: whatever lines led to the player before it, with one more they lead to the player after it.
-use Rattle.std.specs.Prelude.{◌≡◌, ℕ, ◌<◌, List, [], ◌∷◌, ◌++◌, length, Option, Some, None}
+use Rattle.std.specs.Prelude.{◌≡◌, ℕ, ◌-◌, ◌<◌, List, [], ◌∷◌, ◌++◌, length, Option, Some, None}
 use Rattle.pa_trace.specs.declared.script.Op.{Op}
 use Rattle.pa_trace.specs.declared.script.Line.{Line}
 use Rattle.pa_trace.specs.declared.script.Line.TheVariants.{Phase, Do}
@@ -7,6 +7,7 @@ use Rattle.pa_trace.specs.declared.script.Op.TheVariants as ops
 use Rattle.pa_trace.specs.declared.line.Head.{Head}
 use Rattle.pa_trace.specs.Limits.{IsHeadWithin, IsLineWithin}
 use Rattle.pa_trace.specs.Unread.{Unread, IsReadUpTo}
+use Rattle.pa_trace.specs.Rules.{rules_by}
 use Rattle.pa_record.specs.declared.entry.Entry.{Entry}
 use Rattle.pa_record.specs.declared.entry.Seen.{Seen}
 use Rattle.pa_record.specs.declared.entry.Answer.{Answer}
@@ -15,14 +16,14 @@ use Rattle.pa_record.specs.declared.history.CellEntry.{CellEntry}
 use Rattle.pa_record.specs.declared.root.RootEntry.{RootEntry}
 use Rattle.pa_rules.specs.declared.register.Register.TheVariants.{Own}
 use Rattle.pa_player.specs.Player.{Player}
-use Rattle.pa_player.specs.Playing.{journals, register_at, IsPlaying}
+use Rattle.pa_player.specs.Playing.{journals, register_at, rules_at, IsPlaying}
 use Rattle.pa_player.specs.Told.{history_in}
 use Rattle.pa_player.specs.Changes.{answered}
 
--- the head of a trace of the player's version
+-- the head of a trace of the player's version, with its plain partitions
 abbrev pub head_to : Player → ℕ → ℕ → ℕ → Head
 head_to p region partitions threads =
-    record { version = p.version; region = region; partitions = partitions; threads = threads }
+    record { version = p.version; region = region; partitions = partitions; threads = threads; plain = partitions - p.plain_from }
 
 -- these lines were played, and one more can be
 pub record CanGoOn (region partitions threads : ℕ) (ls : List Line) (l : Line) (p : Player) : Type 0 where
@@ -39,9 +40,9 @@ pub record IsReady (l : Line) (p : Player) : Type 0 where
   pub ls : List Line
   pub can : CanGoOn region partitions threads ls l p
 
--- What was output before stays: these records are added, and journals and histories go on. The version stays too.
+-- What was output before stays: these records are added, and journals and histories go on. The rules stay too.
 pub record TellsOn (es : List Entry) (p q : Player) : Type 0 where
-  pub version : q.version ≡ p.version
+  pub rules : rules_at q ≡ rules_at p
   pub entries : q.told.entries ≡ p.told.entries ++ es
   pub journals : (k : ℕ) → (more : List RootEntry) × (journals q k ≡ journals p k ++ more)
   pub histories : (k : ℕ) → (more : List CellEntry) × (history_in q.told k ≡ history_in p.told k ++ more)
@@ -76,11 +77,11 @@ GoesTo p (Do thread op) (Some answer) q =
     (region partitions threads : ℕ) (ls : List Line) → CanGoOn region partitions threads ls (Do thread op) p →
     HasPlayedTo region partitions threads (ls ++ Do thread op ∷ []) (record_of p thread answer ∷ []) p q
 
--- whatever lines led to p, after them the line was played, with some answer or with none, by the same version
+-- whatever lines led to p, after them the line was played, with some answer or with none, by the same rules
 abbrev pub GoesOnTo : Player → Line → Player → Type 0
 GoesOnTo p l q =
     (region partitions threads : ℕ) (ls : List Line) → CanGoOn region partitions threads ls l p →
-    IsPlaying region partitions threads (ls ++ l ∷ []) q × (q.version ≡ p.version)
+    IsPlaying region partitions threads (ls ++ l ∷ []) q × (rules_at q ≡ rules_at p)
 
 -- a read of an owner's first word gives a value
 abbrev pub ReadsOwn : Player → ℕ → Op → Answer → Type 0
@@ -97,5 +98,5 @@ ReadsOwnOn p l answer = Unit {0}
 pub record IsPlayedUpTo (known : ℕ) (bytes : List ℕ) (u : Unread) (p : Player) : Type 0 where
   pub ls : List Line
   pub read : IsReadUpTo known bytes ls u
-  pub version : p.version ≡ u.head.version
+  pub rules : rules_at p ≡ rules_by u.head
   pub playing : IsPlaying u.head.region u.head.partitions u.head.threads ls p

@@ -38,6 +38,7 @@ pub struct Player<T> {
     pub(crate) told: T,
     pub(crate) version: u32,
     pub(crate) partitions: u32,
+    pub(crate) plain_from: u32,
     pub(crate) phase: u32,
 }
 
@@ -53,6 +54,7 @@ impl<O: Output> Player<Told<O>> {
             region,
             partitions,
             threads,
+            plain,
         } = head;
         Ok(Player {
             heap: Heap::new(alloc, region, partitions)?,
@@ -66,6 +68,7 @@ impl<O: Output> Player<Told<O>> {
             told,
             version,
             partitions,
+            plain_from: partitions.saturating_sub(plain),
             phase: 1,
         })
     }

@@ -6,7 +6,7 @@ ghost use Rattle.pa_trace.specs.declared.script.Op.TheVariants as ops;
 ghost use Rattle.pa_trace.specs.declared.script.Line.TheVariants.{Do};
 ghost use Rattle.pa_rules.specs.declared.register.Register.TheVariants.{Ref};
 ghost use Rattle.pa_player.specs.Asks.{CanCopy, CanFree, CanReset, CanWrite};
-ghost use Rattle.pa_player.specs.Changes.{Copies, Frees, Resets, Writes, registered, seen_at, stepped_at};
+ghost use Rattle.pa_player.specs.Changes.{Copies, Frees, Resets, Writes, is_uncounted, registered, seen_at, stepped_at};
 ghost use Rattle.pa_player.specs.Playing.{register_at};
 ghost use Rattle.pa_player.specs.Plays.{IsReady, Plays};
 ghost use Rattle.pa_player.specs.Tables.{slot_at};
@@ -25,22 +25,33 @@ impl<O: Output> Player<Told<O>> {
         requires { IsReady (Do thread (ops.Copy from to)) self.old }
         ensures { Plays self.old thread (ops.Copy from to) self.new result }
     {
-        match self.register(thread, from).for_copy() {
-            Ok(place) => self.copy_to(thread, place, to),
+        let held = self.register(thread, from);
+        match held.for_copy() {
+            Ok(place) => self.copy_to(thread, held.is_owner(), place, to),
             Err(refusal) => refusal,
         }
     }
 
-    // A copy of a handle of this slot, if the second register has none.
-    fn copy_to(&mut self, thread: u32, place: u32, to: u32) -> Answer
+    // A copy of a handle of this slot, which is its owner or not, if the second register has none and the copy is counted.
+    fn copy_to(&mut self, thread: u32, owner: bool, place: u32, to: u32) -> Answer
         requires { CanCopy thread to place self.old }
-        ensures { Copies thread to place self.old self.new result }
+        ensures { Copies thread owner to place self.old self.new result }
     {
         if self.register(thread, to).has_handle() {
             Answer::Filled
+        } else if self.is_uncounted(owner, place) {
+            Answer::Uncounted
         } else {
             self.point(thread, place, to)
         }
+    }
+
+    // Whether a copy of a handle of this slot would not be counted: the handle is the owner, and the slot is in a plain partition.
+    fn is_uncounted(&self, owner: bool, place: u32) -> bool
+        requires { place < length self.now.table }
+        ensures { result ≡ is_uncounted owner place self.now }
+    {
+        owner && self.plain_from <= self.table.slot(place).partition
     }
 
     // Makes a register that has no handle a `raw_ptr` to this slot.

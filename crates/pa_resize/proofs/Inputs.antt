@@ -4,6 +4,7 @@ use Rattle.std.proofs.lemmas.List.{length_push}
 use Rattle.pa_trace.specs.declared.line.Head.{Head}
 use Rattle.pa_trace.specs.Unread.{Unread}
 use Rattle.pa_trace.proofs.Lengths.{trace_length}
+use Rattle.pa_trace.proofs.Versions.{first_is}
 use Rattle.pa_script.specs.declared.script.Script.{Script}
 use Rattle.pa_script.specs.declared.script.ScriptLine.{ScriptLine}
 use Rattle.pa_script.specs.Limits.{IsScriptLineWithin}
@@ -54,7 +55,7 @@ module _ (bytes : List ℕ) (u : Unread) (p : Player) where
     input_expanded v front text end is =
         let s : Script = script_with u.head so_far.lines in
         let limits = so_far.played.going.within in
-        let first : u.head ≡ script_head s = ap (λ v. record u.head { version = v }) so_far.read.version in
+        let first : u.head ≡ script_head s = first_is u.head so_far.read.version so_far.read.head in
         let played = subst (λ (h : Head). IsScriptPlayed h so_far.lines p so_far.verdicts) first so_far.played in
         record {
           script = s;

@@ -14,7 +14,7 @@ use Rattle.pa_record.specs.declared.history.Held.TheVariants as held
 use Rattle.pa_rules.specs.declared.played.Played.{Played}
 use Rattle.pa_rules.specs.declared.register.Register.TheVariants.{Empty, Own, Freed}
 use Rattle.pa_rules.specs.Legal.{IsFileTold}
-use Rattle.pa_rules.specs.Registers.{Regs, AllRegs, Facts, Row, Becomes, WriteRow, FreeRow, with, with_thread, handle_of, reg_of, usable_in}
+use Rattle.pa_rules.specs.Registers.{Regs, AllRegs, Facts, Row, Becomes, WriteRow, FreeRow, with, with_thread, handle_of, reg_of, facts_with}
 use Rattle.pa_rules.specs.Sizes.{usable_of}
 use Rattle.pa_rules.specs.Told.{Told, records_of}
 use Rattle.pa_rules.specs.Contents.{IsContent}
@@ -31,19 +31,19 @@ use Rattle.pa_resize.proofs.Moving.{line_thread, line_op, four, Move, freed_alon
 -- ---- one record of a thread
 
 abbrev pub facts_in : List Played → Told → Facts
-facts_in ps r = record { usable_of = usable_of 1; usable_at = usable_in ps; cells = r.cells }
+facts_in ps r = facts_with (usable_of 1) ps r.cells
 
 pub record Lead (ps : List Played) (r : Told) (all : AllRegs) (thread : ℕ) (op : Op) (x : Played) (xs : List Played)
     (after : AllRegs) : Type 0 where
   pub next : Regs
-  pub row : Row (record { usable_of = usable_of 1; usable_at = usable_in ps; cells = r.cells }) op (all thread) x.answer next
+  pub row : Row (facts_in ps r) op (all thread) x.answer next
   pub rest : LeadsOver ps r (with_thread all thread next) xs after
 
 pub lead : (ps : List Played) (r : Told) (all : AllRegs) (thread : ℕ) (op : Op) (x : Played) (xs : List Played) (after : AllRegs) →
     did x ≡ Do thread op
     → LeadsOver ps r all (x ∷ xs) after → Lead ps r all thread op x xs after
 lead ps r all thread op x xs after is (next, row, rest) =
-    let F : Facts = record { usable_of = usable_of 1; usable_at = usable_in ps; cells = r.cells } in
+    let F : Facts = facts_in ps r in
     let here : Row F op (all x.thread) x.answer next = subst (λ o. Row F o (all x.thread) x.answer next) (line_op x thread op is) row in
     let at : x.thread ≡ thread = line_thread x thread op is in
     record {

@@ -88,6 +88,7 @@ script_ends s p t run vs h end =
       region = ap (λ (u : Trace). u.region) at ∙ ap (λ (k : Head). k.region) h.head;
       partitions = ap (λ (u : Trace). u.partitions) at ∙ ap (λ (k : Head). k.partitions) h.head;
       threads = ap (λ (u : Trace). u.threads) at ∙ ap (λ (k : Head). k.threads) h.head;
+      plain = ap (λ (u : Trace). u.plain) at ∙ ap (λ (k : Head). k.plain) h.head;
       file = end.file;
       pieces = h.pieces;
       script = h.script;

@@ -20,7 +20,7 @@ use Rattle.pa_rules.specs.declared.played.Played.{Played}
 use Rattle.pa_rules.specs.declared.register.Register.TheVariants.{Empty}
 use Rattle.pa_rules.specs.Changes.{change_of, changed}
 use Rattle.pa_rules.specs.Legal.{IsFileTold}
-use Rattle.pa_rules.specs.Registers.{Reg, Regs, AllRegs, Facts, RowsTo, no_regs, with_thread, usable_in}
+use Rattle.pa_rules.specs.Registers.{Reg, Regs, AllRegs, Facts, RowsTo, no_regs, with_thread, facts_with}
 use Rattle.pa_rules.specs.Sizes.{usable_of}
 use Rattle.pa_rules.specs.Told.{Told, told_by, records_of}
 use Rattle.pa_rules.proofs.Leading.{row_leads, rows_one}
@@ -111,7 +111,7 @@ module _ (t : Trace) (r : Told) (limits : IsWithinLimits t) (run : IsFileTold t 
       → ((own : Regs) → changed own (change_of r.cells z.op z.answer) spare ≡ own spare) → ((i : ℕ) → z.op ≡ ops.Swap spare i → ⊥)
       → IsSpareFree r before (z ∷ rest) regs → LeadsOver (records_of t r) r regs (z ∷ []) mid → IsSpareFree r (before ++ z ∷ []) rest mid
   free_one before rest z regs mid parts kept apart free (next, row, end) =
-      let F : Facts = record { usable_of = usable_of 1; usable_at = usable_in (records_of t r); cells = r.cells } in
+      let F : Facts = facts_with (usable_of 1) (records_of t r) r.cells in
       let now : next spare ≡ regs z.thread spare =
       (row_leads F z.op (regs z.thread) z.answer next row).registers spare ∙ kept (regs z.thread) in
       record {
@@ -217,7 +217,7 @@ module _ (t : Trace) (r : Told) (limits : IsWithinLimits t) (run : IsFileTold t 
       free_plain l before xs rest regs mid parts within.1 piece.1 free leads
   free_piece partitions threads (Resize thread reg size) before xs rest lines verdict regs mid parts within
       (v, has, made, other, then', is) after free leads =
-      let F : Facts = record { usable_of = usable_of 1; usable_at = usable_in (records_of t r); cells = r.cells } in
+      let F : Facts = facts_with (usable_of 1) (records_of t r) r.cells in
       let same : other ≡ regs = rows_one F no_regs other regs before then' after in
       let here : IsResized v r.roots (regs thread reg) thread reg size xs =
       subst (λ (q : AllRegs). IsResized v r.roots (q thread reg) thread reg size xs) same is in
@@ -239,7 +239,7 @@ module _ (t : Trace) (r : Told) (limits : IsWithinLimits t) (run : IsFileTold t 
       subst (λ zs. IsSpareFree r zs (recorded more) after) (sym (append-nil before))
       (subst (IsSpareFree r before (recorded more)) (sym leads) free)
   walk partitions threads before (x ∷ xs) more regs after parts within pieces at free leads =
-      let F : Facts = record { usable_of = usable_of 1; usable_at = usable_in (records_of t r); cells = r.cells } in
+      let F : Facts = facts_with (usable_of 1) (records_of t r) r.cells in
       let rest : List Played = recorded xs ++ recorded more in
       let assoc = append_assoc x.records (recorded xs) (recorded more) in
       let (mid, here, there) = rows_split F regs after x.records (recorded xs) leads in
@@ -268,7 +268,7 @@ pub spare_stays_free : SpareStaysFree
 spare_stays_free s t run verdicts first more regs within limits e cut after =
     let r : Told = told_by run in
     let R : ScriptPiece → List Played = λ x. x.records in
-    let F : Facts = record { usable_of = usable_of 1; usable_at = usable_in (records_of t r); cells = r.cells } in
+    let F : Facts = facts_with (usable_of 1) (records_of t r) r.cells in
     let parts : records_of t r ≡ flat_map R first ++ flat_map R more =
     sym e.records ∙ (ap (flat_map R) cut ∙ flat_map-append R first more) in
     let lines : map (λ (x : ScriptPiece). x.line) (first ++ more) ≡ s.lines = ap (map (λ (x : ScriptPiece). x.line)) (sym cut) ∙ e.script in

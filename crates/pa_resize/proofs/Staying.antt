@@ -10,7 +10,7 @@ use Rattle.pa_rules.specs.declared.played.Played.{Played}
 use Rattle.pa_rules.specs.Changes.{change_of, changed}
 use Rattle.pa_rules.specs.Legal.{IsFileTold}
 use Rattle.pa_rules.specs.Played.{mark_at, mark_of_answer}
-use Rattle.pa_rules.specs.Registers.{Regs, AllRegs, Facts, with_thread, usable_in}
+use Rattle.pa_rules.specs.Registers.{Regs, AllRegs, Facts, with_thread, facts_with}
 use Rattle.pa_rules.specs.Sizes.{usable_of}
 use Rattle.pa_rules.specs.Told.{Told, records_of}
 use Rattle.pa_rules.proofs.Leading.{row_leads}
@@ -53,7 +53,7 @@ module _ (t : Trace) (r : Told) (limits : IsWithinLimits t) (run : IsFileTold t 
       → ((s : SlotName) → word_after (before ++ z ∷ []) s ≡ word_after before s) → LeadsOver (records_of t r) r regs (z ∷ []) mid →
       IsAsBefore r before (z ∷ []) rest regs mid
   stay_one before rest z regs mid parts kept apart words (next, row, end) =
-      let F : Facts = record { usable_of = usable_of 1; usable_at = usable_in (records_of t r); cells = r.cells } in
+      let F : Facts = facts_with (usable_of 1) (records_of t r) r.cells in
       record {
         registers = λ i k. ap (λ (q : AllRegs). q i k) end
             ∙ same_left regs z.thread next

@@ -140,6 +140,7 @@ pub record IsExpanded (s : Script) (t : Trace) (run : Run) (vs : List (ℕ × Ve
   pub region : t.region ≡ s.region
   pub partitions : t.partitions ≡ s.partitions
   pub threads : t.threads ≡ s.threads
+  pub plain : t.plain ≡ 0
   pub file : IsFileRun t run
   pub pieces : List ScriptPiece
   pub script : map (λ (x : ScriptPiece). x.line) pieces ≡ s.lines

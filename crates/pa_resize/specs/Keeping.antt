@@ -17,7 +17,7 @@ use Rattle.pa_rules.specs.declared.played.Played.{Played}
 use Rattle.pa_rules.specs.declared.register.Register.TheVariants.{Empty, Own}
 use Rattle.pa_rules.specs.Contents.{IsContent}
 use Rattle.pa_rules.specs.Legal.{IsFileTold}
-use Rattle.pa_rules.specs.Registers.{AllRegs, RowsTo, usable_in}
+use Rattle.pa_rules.specs.Registers.{AllRegs, RowsTo, facts_with}
 use Rattle.pa_rules.specs.Sizes.{usable_of}
 use Rattle.pa_rules.specs.Told.{Told, told_by, records_of}
 use Rattle.pa_one_run.specs.Parts.{cell_line}
@@ -29,7 +29,7 @@ use Rattle.pa_resize.specs.Expansion.{spare, IsResized, ScriptPiece, IsExpanded}
 
 -- over these records the rows of the whole run lead from the first registers to the second ones
 abbrev pub LeadsOver : List Played → Told → AllRegs → List Played → AllRegs → Type 0
-LeadsOver ps r regs xs after = RowsTo (record { usable_of = usable_of 1; usable_at = usable_in ps; cells = r.cells }) regs xs after
+LeadsOver ps r regs xs after = RowsTo (facts_with (usable_of 1) ps r.cells) regs xs after
 
 -- line n is between these records: the first ones are on lines before it, and none of the rest is
 pub record StandsBetween (n : ℕ) (before rest : List Played) : Type 0 where

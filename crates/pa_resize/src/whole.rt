@@ -56,6 +56,7 @@ pub fn expand(alloc: Global, script: &Script) -> Result<Expanded, OutOfMemory>
         region: script.region,
         partitions: script.partitions,
         threads: script.threads,
+        plain: 0,
     };
     let mut player = Player::new(alloc, head)?;
     let verdicts = play_all(alloc, script, &mut player)?;

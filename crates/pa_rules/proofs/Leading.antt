@@ -1,15 +1,15 @@
 -- A row changes the registers as the answer says, and a step that was done is of the slot that the register names.
-use Rattle.std.proofs.Common.{◌≡◌, ℕ, List, Option, Some, None, refl, sym, ◌∙◌, ap, subst, inl, inr, [], ◌∷◌, ◌++◌}
+use Rattle.std.proofs.Common.{Bool, true, false, ◌≡◌, ℕ, List, Option, Some, None, refl, sym, ◌∙◌, ap, subst, inl, inr, [], ◌∷◌, ◌++◌}
 use Rattle.pa_slot.specs.declared.word.SlotName.{SlotName}
 use Rattle.pa_trace.specs.declared.script.Op.{Op}
 use Rattle.pa_trace.specs.declared.script.Op.TheVariants as ops
 use Rattle.pa_record.specs.declared.entry.Seen.{Seen}
 use Rattle.pa_record.specs.declared.entry.Answer.{Answer}
-use Rattle.pa_record.specs.declared.entry.Answer.TheVariants.{Made, Done, Value, Dangling, SecondFree, NotOwner, StaleReset, StaleUse, Nothing, Filled, NotRef, Shared, OutOfRange, TooLarge, Full, Swapped, Purged}
+use Rattle.pa_record.specs.declared.entry.Answer.TheVariants.{Made, Done, Value, Dangling, SecondFree, NotOwner, StaleReset, StaleUse, Nothing, Filled, NotRef, Shared, OutOfRange, TooLarge, Full, Swapped, Purged, Uncounted}
 use Rattle.pa_record.specs.declared.history.CellEntry.{CellEntry}
 use Rattle.pa_lists.proofs.Members.{of_some, not_some}
 use Rattle.pa_rules.specs.declared.register.Register.TheVariants.{Empty, Own, Ref, Freed, Cleared}
-use Rattle.pa_rules.specs.Registers.{Reg, Regs, Facts, Row, Becomes, with, AllocRow, RequestRow, CopyRow, CopyToRow, ResetRow, FreeRow, WriteRow, ReadRow, ReadFromRow, SwapRow, reg_of, AllRegs, RowsTo, with_thread}
+use Rattle.pa_rules.specs.Registers.{Reg, Regs, Facts, Row, Becomes, with, AllocRow, RequestRow, CopyRow, CopyToRow, PointRow, ResetRow, FreeRow, WriteRow, ReadRow, ReadFromRow, SwapRow, reg_of, AllRegs, RowsTo, with_thread}
 use Rattle.pa_rules.specs.Changes.{done_of, found_in, change_of, changed}
 use Rattle.pa_rules.specs.declared.played.Played.{Played}
 
@@ -86,33 +86,36 @@ alloc_leads facts (Ref s) regs reg partition size answer next h =
 alloc_leads facts Freed regs reg partition size answer next h = request_leads facts regs Freed reg partition size answer next h
 alloc_leads facts Cleared regs reg partition size answer next h = request_leads facts regs Cleared reg partition size answer next h
 
-copied : (cells : ℕ → List CellEntry) (r : Reg) (s : SlotName) (regs : Regs) (from to : ℕ) (answer : Answer) (next : Regs) →
-    slot_in r ≡ Some s →
-    (seen : Seen) × (seen.slot ≡ s) × (answer ≡ Done seen) × Becomes next (with regs to (Ref s)) →
-    Leads cells (ops.Copy from to) regs r answer next
-copied cells r s regs from to answer next names h =
+point_leads : (cells : ℕ → List CellEntry) (r : Reg) (plain : Bool) (s : SlotName) (regs : Regs) (from to : ℕ) (answer : Answer)
+    (next : Regs) → slot_in r ≡ Some s → PointRow plain s regs to answer next → Leads cells (ops.Copy from to) regs r answer next
+point_leads cells r true s regs from to answer next names h =
+    stays cells (ops.Copy from to) regs r answer next Uncounted h.0 refl refl h.1
+point_leads cells r false s regs from to answer next names h =
     let P : SlotName → Type 0 = λ t. Becomes next (with regs to (Ref t)) in
     steps cells (ops.Copy from to) regs r answer next h.0 s h.2 h.1 names (subst P (sym h.1) h.3)
 
-copy_to_leads : (cells : ℕ → List CellEntry) (r : Reg) (into : Reg) (s : SlotName) (regs : Regs) (from to : ℕ)
+copy_to_leads : (cells : ℕ → List CellEntry) (r : Reg) (into : Reg) (plain : Bool) (s : SlotName) (regs : Regs) (from to : ℕ)
     (answer : Answer) (next : Regs) → slot_in r ≡ Some s →
-    CopyToRow into s regs to answer next → Leads cells (ops.Copy from to) regs r answer next
-copy_to_leads cells r Empty s regs from to answer next names h = copied cells r s regs from to answer next names h
-copy_to_leads cells r (Own t) s regs from to answer next names h =
+    CopyToRow into plain s regs to answer next → Leads cells (ops.Copy from to) regs r answer next
+copy_to_leads cells r Empty plain s regs from to answer next names h = point_leads cells r plain s regs from to answer next names h
+copy_to_leads cells r (Own t) plain s regs from to answer next names h =
     stays cells (ops.Copy from to) regs r answer next Filled h.0 refl refl h.1
-copy_to_leads cells r (Ref t) s regs from to answer next names h =
+copy_to_leads cells r (Ref t) plain s regs from to answer next names h =
     stays cells (ops.Copy from to) regs r answer next Filled h.0 refl refl h.1
-copy_to_leads cells r Freed s regs from to answer next names h = copied cells r s regs from to answer next names h
-copy_to_leads cells r Cleared s regs from to answer next names h = copied cells r s regs from to answer next names h
+copy_to_leads cells r Freed plain s regs from to answer next names h = point_leads cells r plain s regs from to answer next names h
+copy_to_leads cells r Cleared plain s regs from to answer next names h = point_leads cells r plain s regs from to answer next names h
 
-copy_leads : (cells : ℕ → List CellEntry) (r : Reg) (regs : Regs) (from to : ℕ) (answer : Answer) (next : Regs) →
-    CopyRow r regs to answer next → Leads cells (ops.Copy from to) regs r answer next
-copy_leads cells Empty regs from to answer next h = stays cells (ops.Copy from to) regs Empty answer next Nothing h.0 refl refl h.1
-copy_leads cells (Own s) regs from to answer next h = copy_to_leads cells (Own s) (regs to) s regs from to answer next refl h
-copy_leads cells (Ref s) regs from to answer next h = copy_to_leads cells (Ref s) (regs to) s regs from to answer next refl h
-copy_leads cells Freed regs from to answer next h = stays cells (ops.Copy from to) regs Freed answer next (StaleUse None) h.0 refl refl h.1
-copy_leads cells Cleared regs from to answer next h =
-    stays cells (ops.Copy from to) regs Cleared answer next (StaleUse None) h.0 refl refl h.1
+copy_leads : (facts : Facts) (r : Reg) (regs : Regs) (from to : ℕ) (answer : Answer) (next : Regs) →
+    CopyRow r facts regs to answer next → Leads facts.cells (ops.Copy from to) regs r answer next
+copy_leads facts Empty regs from to answer next h = stays facts.cells (ops.Copy from to) regs Empty answer next Nothing h.0 refl refl h.1
+copy_leads facts (Own s) regs from to answer next h =
+    copy_to_leads facts.cells (Own s) (regs to) (facts.plain_at s) s regs from to answer next refl h
+copy_leads facts (Ref s) regs from to answer next h =
+    copy_to_leads facts.cells (Ref s) (regs to) false s regs from to answer next refl h
+copy_leads facts Freed regs from to answer next h =
+    stays facts.cells (ops.Copy from to) regs Freed answer next (StaleUse None) h.0 refl refl h.1
+copy_leads facts Cleared regs from to answer next h =
+    stays facts.cells (ops.Copy from to) regs Cleared answer next (StaleUse None) h.0 refl refl h.1
 
 reset_leads : (cells : ℕ → List CellEntry) (r : Reg) (regs : Regs) (reg : ℕ) (answer : Answer) (next : Regs) →
     ResetRow r regs reg answer next → Leads cells (ops.Reset reg) regs r answer next
@@ -179,7 +182,7 @@ swap_leads cells r regs cell reg answer next (entry, e, is, at, gave, becomes) =
 pub row_leads : (facts : Facts) (op : Op) (regs : Regs) (answer : Answer) (next : Regs) → Row facts op regs answer next →
     Leads facts.cells op regs (regs (used_by op)) answer next
 row_leads facts (ops.Alloc reg partition size) regs answer next h = alloc_leads facts (regs reg) regs reg partition size answer next h
-row_leads facts (ops.Copy from to) regs answer next h = copy_leads facts.cells (regs from) regs from to answer next h
+row_leads facts (ops.Copy from to) regs answer next h = copy_leads facts (regs from) regs from to answer next h
 row_leads facts (ops.Reset reg) regs answer next h = reset_leads facts.cells (regs reg) regs reg answer next h
 row_leads facts (ops.Free reg) regs answer next h = free_leads facts.cells (regs reg) regs reg answer next h
 row_leads facts (ops.Write reg value) regs answer next h = write_leads facts.cells (regs reg) regs reg value answer next h

@@ -1,5 +1,5 @@
 -- What an op does by its register alone, read back: which register it was, and that the row refuses what it refuses.
-use Rattle.std.proofs.Common.{◌≡◌, ℕ, ◌==◌, ◌⊎◌, if◌then◌else◌, None, refl, sym, ◌∙◌, subst, arith, inl, inr}
+use Rattle.std.proofs.Common.{Bool, true, false, ◌≡◌, ℕ, ◌==◌, ◌⊎◌, if◌then◌else◌, None, refl, sym, ◌∙◌, subst, arith, inl, inr}
 use Rattle.std.specs.Prelude.{Ok, Err}
 use Rattle.std.proofs.lemmas.Bool.{cases_eq, eq-eqb, ne_eqb}
 use Rattle.pa_slot.specs.declared.word.SlotName.{SlotName}
@@ -107,13 +107,14 @@ read_refusal P Cleared a e nothing stale = let is : StaleUse None ≡ a = cc in 
 
 -- ---- the rows of refusals, whatever a handle is
 
-pub copy_refused : {H : Type 0} (name : H → SlotName) (r : Register H) (a : Answer) (regs : Regs) (to : ℕ) → copy_next r ≡ Err a →
-    CopyRow (named name r) regs to a regs
-copy_refused name Empty a regs to e = (cc, λ k. refl)
-copy_refused name (Own h) a regs to e = absurd (let bad : ⊥ = cc in bad)
-copy_refused name (Ref h) a regs to e = absurd (let bad : ⊥ = cc in bad)
-copy_refused name Freed a regs to e = (cc, λ k. refl)
-copy_refused name Cleared a regs to e = (cc, λ k. refl)
+pub copy_refused : {H : Type 0} (name : H → SlotName) (r : Register H) (a : Answer) (facts : Facts) (regs : Regs) (to : ℕ) →
+    copy_next r ≡ Err a →
+    CopyRow (named name r) facts regs to a regs
+copy_refused name Empty a facts regs to e = (cc, λ k. refl)
+copy_refused name (Own h) a facts regs to e = absurd (let bad : ⊥ = cc in bad)
+copy_refused name (Ref h) a facts regs to e = absurd (let bad : ⊥ = cc in bad)
+copy_refused name Freed a facts regs to e = (cc, λ k. refl)
+copy_refused name Cleared a facts regs to e = (cc, λ k. refl)
 
 pub reset_refused : {H : Type 0} (name : H → SlotName) (r : Register H) (a : Answer) (regs : Regs) (i : ℕ) → reset_next r ≡ Err a →
     ResetRow (named name r) regs i a regs
@@ -158,13 +159,14 @@ alloc_filled name (Ref h) facts regs i size has = (refl, λ k. refl)
 alloc_filled name Freed facts regs i size has = absurd has
 alloc_filled name Cleared facts regs i size has = absurd has
 
-pub copy_filled : {H : Type 0} (name : H → SlotName) (r : Register H) (s : SlotName) (regs : Regs) (to : ℕ) → HasSomeHandle r →
-    CopyToRow (named name r) s regs to Filled regs
-copy_filled name Empty s regs to has = absurd has
-copy_filled name (Own h) s regs to has = (refl, λ k. refl)
-copy_filled name (Ref h) s regs to has = (refl, λ k. refl)
-copy_filled name Freed s regs to has = absurd has
-copy_filled name Cleared s regs to has = absurd has
+pub copy_filled : {H : Type 0} (name : H → SlotName) (r : Register H) (plain : Bool) (s : SlotName) (regs : Regs) (to : ℕ) →
+    HasSomeHandle r →
+    CopyToRow (named name r) plain s regs to Filled regs
+copy_filled name Empty plain s regs to has = absurd has
+copy_filled name (Own h) plain s regs to has = (refl, λ k. refl)
+copy_filled name (Ref h) plain s regs to has = (refl, λ k. refl)
+copy_filled name Freed plain s regs to has = absurd has
+copy_filled name Cleared plain s regs to has = absurd has
 
 -- ---- the answer of a look
 

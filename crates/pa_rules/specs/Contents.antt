@@ -10,7 +10,7 @@ use Rattle.pa_record.specs.declared.entry.Answer.TheVariants.{Made, Done, Value,
 use Rattle.pa_record.specs.declared.history.CellEntry.{CellEntry}
 use Rattle.pa_rules.specs.declared.register.Register.TheVariants.{Ref}
 use Rattle.pa_rules.specs.declared.played.Played.{Played}
-use Rattle.pa_rules.specs.Registers.{Regs, AllRegs, RowsTo, no_regs, usable_in}
+use Rattle.pa_rules.specs.Registers.{Regs, AllRegs, RowsTo, no_regs, facts_with}
 
 -- a record made slot s, and found this number
 abbrev pub IsMadeAt : List Played → SlotName → ℕ → Type 0
@@ -62,7 +62,7 @@ IsNextFree ps s k y =
 abbrev pub HasRegs : (ℕ → ℕ) → (ℕ → List CellEntry) → List Played → Played → Regs → Type 0
 HasRegs usable_of cells ps x regs =
     (before after : List Played) × (all : AllRegs) × (ps ≡ before ++ x ∷ after)
-    × RowsTo (record { usable_of = usable_of; usable_at = usable_in ps; cells = cells }) no_regs before all × (regs ≡ all x.thread)
+    × RowsTo (facts_with usable_of ps cells) no_regs before all × (regs ≡ all x.thread)
 
 -- the record reads slot s through a raw_ptr
 abbrev pub ReadsByRef : (ℕ → ℕ) → (ℕ → List CellEntry) → List Played → Played → SlotName → Type 0

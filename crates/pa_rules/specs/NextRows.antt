@@ -1,15 +1,15 @@
 -- What an op does by its register alone is what its row requires: a law for each op.
-use Rattle.std.specs.Prelude.{◌≡◌, ◌↔◌, ℕ, ◌*◌, ◌<◌, ◌≤◌, ◌⊎◌, Result, Ok, Err}
+use Rattle.std.specs.Prelude.{◌≡◌, ◌↔◌, ℕ, Bool, true, false, ◌*◌, ◌<◌, ◌≤◌, ◌&&◌, ◌⊎◌, Result, Ok, Err}
 use Rattle.pa_slot.specs.declared.word.SlotName.{SlotName}
 use Rattle.pa_slot.specs.Count.{refs_of}
 use Rattle.pa_record.specs.declared.entry.Seen.{Seen}
 use Rattle.pa_record.specs.declared.entry.Answer.{Answer}
-use Rattle.pa_record.specs.declared.entry.Answer.TheVariants.{Done, Filled, Shared, OutOfRange}
+use Rattle.pa_record.specs.declared.entry.Answer.TheVariants.{Done, Filled, Shared, OutOfRange, Uncounted}
 use Rattle.pa_rules.specs.declared.register.Register.TheVariants.{Ref, Freed, Cleared}
 use Rattle.pa_rules.specs.declared.register.Next.{Next}
 use Rattle.pa_rules.specs.declared.register.Next.TheVariants.{Refused, Step, Look}
 use Rattle.pa_rules.specs.Registers.{Reg, Regs, Facts, with, Becomes, RequestRow, AllocRow, CopyToRow, CopyRow, ResetRow, FreeRow, WriteRow, ReadRow}
-use Rattle.pa_rules.specs.Nexts.{HasSomeHandle, copy_next, reset_next, free_next, write_next, read_next, looked_free, looked_write, looked_read}
+use Rattle.pa_rules.specs.Nexts.{HasSomeHandle, is_owner, copy_next, reset_next, free_next, write_next, read_next, looked_free, looked_write, looked_read}
 
 -- an op that is refused with this answer
 abbrev pub IsRefusedSo : Answer → Regs → Answer → Regs → Type 0
@@ -23,16 +23,16 @@ IsStepped s regs answer after = (seen : Seen) × (seen.slot ≡ s) × (answer �
 abbrev pub IsAnsweredBy : (Seen → Answer) → SlotName → Regs → Answer → Regs → Type 0
 IsAnsweredBy looked s regs answer after = (seen : Seen) × (seen.slot ≡ s) × (answer ≡ looked seen) × Becomes after regs
 
--- a copy: the row of its second register says what its step requires
-abbrev pub CopyBy : Result SlotName Answer → Regs → ℕ → Answer → Regs → Type 0
-CopyBy (Ok s) regs to answer after = CopyToRow (regs to) s regs to answer after
-CopyBy (Err refusal) regs to answer after = IsRefusedSo refusal regs answer after
+-- a copy: the row of its second register says what its step requires, given of which slots a copy wouldn't be counted
+abbrev pub CopyBy : (SlotName → Bool) → Result SlotName Answer → Regs → ℕ → Answer → Regs → Type 0
+CopyBy uncounted (Ok s) regs to answer after = CopyToRow (regs to) (uncounted s) s regs to answer after
+CopyBy uncounted (Err refusal) regs to answer after = IsRefusedSo refusal regs answer after
 
 -- a copy is as its row requires exactly if its first register alone refuses it so,
--- or names the slot and the second one's row is met
+-- or names the slot and the second one's row is met; of an owner of a plain slot alone it wouldn't be counted
 abbrev pub CopiesAreNext : Type 0
-CopiesAreNext = (r : Reg) (regs : Regs) (to : ℕ) (answer : Answer) (after : Regs) →
-    CopyRow r regs to answer after ↔ CopyBy (copy_next r) regs to answer after
+CopiesAreNext = (r : Reg) (facts : Facts) (regs : Regs) (to : ℕ) (answer : Answer) (after : Regs) →
+    CopyRow r facts regs to answer after ↔ CopyBy (λ s. is_owner r && facts.plain_at s) (copy_next r) regs to answer after
 
 -- a reset steps on the slot and leaves its register cleared, or is refused and leaves the registers as they are
 abbrev pub ResetBy : Result SlotName Answer → Regs → ℕ → Answer → Regs → Type 0
@@ -81,13 +81,15 @@ ReadsAreNext = (r : Reg) (facts : Facts) (regs : Regs) (place : ℕ) (answer : A
     ReadRow r facts regs place answer after ↔ ReadBy (read_next r) facts regs place answer after
 
 -- A register that has a handle gets no other: an allocation into it and a copy to it are refused. Into one that has none an
--- allocation is a request, and a copy makes it a raw_ptr.
+-- allocation is a request, and a copy makes it a raw_ptr, or is refused if it wouldn't be counted.
 pub record HandlesStay : Type 0 where
   pub alloc_filled : (r : Reg) (facts : Facts) (regs : Regs) (reg size : ℕ) (answer : Answer) (after : Regs) → HasSomeHandle r →
       AllocRow r facts regs reg size answer after ↔ IsRefusedSo Filled regs answer after
   pub alloc_asks : (r : Reg) (facts : Facts) (regs : Regs) (reg size : ℕ) (answer : Answer) (after : Regs) → ¬ HasSomeHandle r →
       AllocRow r facts regs reg size answer after ↔ RequestRow facts regs reg size answer after
-  pub copy_filled : (r : Reg) (s : SlotName) (regs : Regs) (to : ℕ) (answer : Answer) (after : Regs) → HasSomeHandle r →
-      CopyToRow r s regs to answer after ↔ IsRefusedSo Filled regs answer after
+  pub copy_filled : (r : Reg) (plain : Bool) (s : SlotName) (regs : Regs) (to : ℕ) (answer : Answer) (after : Regs) → HasSomeHandle r →
+      CopyToRow r plain s regs to answer after ↔ IsRefusedSo Filled regs answer after
   pub copy_points : (r : Reg) (s : SlotName) (regs : Regs) (to : ℕ) (answer : Answer) (after : Regs) → ¬ HasSomeHandle r →
-      CopyToRow r s regs to answer after ↔ IsStepped s (with regs to (Ref s)) answer after
+      CopyToRow r false s regs to answer after ↔ IsStepped s (with regs to (Ref s)) answer after
+  pub copy_plain : (r : Reg) (s : SlotName) (regs : Regs) (to : ℕ) (answer : Answer) (after : Regs) → ¬ HasSomeHandle r →
+      CopyToRow r true s regs to answer after ↔ IsRefusedSo Uncounted regs answer after

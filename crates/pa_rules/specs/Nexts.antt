@@ -1,5 +1,5 @@
 -- What an op does by what its register holds alone, whatever a handle is; and the answers of ops that only look at a slot.
-use Rattle.std.specs.Prelude.{ℕ, ◌==◌, if◌then◌else◌, Some, None, Result, Ok, Err}
+use Rattle.std.specs.Prelude.{ℕ, Bool, true, false, ◌==◌, if◌then◌else◌, Some, None, Result, Ok, Err}
 use Rattle.pa_slot.specs.declared.word.SlotName.{SlotName}
 use Rattle.pa_slot.specs.Count.{held_of}
 use Rattle.pa_record.specs.declared.entry.Seen.{Seen}
@@ -25,6 +25,14 @@ HasSomeHandle (Own h) = Unit {0}
 HasSomeHandle (Ref h) = Unit {0}
 HasSomeHandle Freed = ⊥
 HasSomeHandle Cleared = ⊥
+
+-- the register is an object's owner
+abbrev pub is_owner : {H : Type 0} → Register H → Bool
+is_owner Empty = false
+is_owner (Own h) = true
+is_owner (Ref h) = false
+is_owner Freed = false
+is_owner Cleared = false
 
 -- a copy makes its step on the slot of an owner or of a raw_ptr
 abbrev pub copy_next : {H : Type 0} → Register H → Result H Answer

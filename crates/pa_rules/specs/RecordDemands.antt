@@ -17,7 +17,7 @@ use Rattle.pa_rules.specs.declared.verdict.Place.TheVariants as places
 use Rattle.pa_rules.specs.Played.{op_lines, key_of_line, key_of_entry, mark_of, marks_of}
 use Rattle.pa_rules.specs.Cells.{IsExchange}
 use Rattle.pa_rules.specs.Order.{IsOfLine, StandsBefore}
-use Rattle.pa_rules.specs.Registers.{Facts, Regs, AllRegs, Row, RowsTo, no_regs, usable_in}
+use Rattle.pa_rules.specs.Registers.{Facts, Regs, AllRegs, Row, RowsTo, no_regs, facts_with}
 use Rattle.pa_rules.specs.Contents.{IsReadAllowed}
 use Rattle.pa_rules.specs.Seen.{IsBefore, left_number}
 
@@ -65,7 +65,7 @@ CellsDemand cells ps place = Unit {0}
 -- registers: the records before it lead to registers in which its own row follows
 abbrev pub RegistersDemand : (ℕ → ℕ) → (ℕ → List CellEntry) → List Played → Place → Type 0
 RegistersDemand usable_of cells ps (places.Record i) =
-    let facts : Facts = record { usable_of = usable_of; usable_at = usable_in ps; cells = cells } in
+    let facts : Facts = facts_with usable_of ps cells in
     (x : Played) → IsRecord ps i x
     → (all : AllRegs) × (next : Regs) × RowsTo facts no_regs (take i ps) all × Row facts x.op (all x.thread) x.answer next
 RegistersDemand usable_of cells ps place = Unit {0}

@@ -1,10 +1,11 @@
 -- The registers of the threads: the answer of each op, and the registers after it.
-use Rattle.std.specs.Prelude.{◌≡◌, ℕ, ◌*◌, ◌<◌, ◌≤◌, ◌==◌, if◌then◌else◌, ◌⊎◌, List, [], ◌∷◌, Option, Some, None, slice_get}
+use Rattle.std.specs.Prelude.{◌≡◌, ℕ, Bool, true, false, nat_le, ◌*◌, ◌<◌, ◌≤◌, ◌==◌, if◌then◌else◌, ◌⊎◌, List, [], ◌∷◌, Option, Some, None, slice_get}
 use Rattle.pa_slot.specs.declared.word.SlotName.{SlotName}
 use Rattle.pa_slot.specs.Count.{held_of, refs_of}
 use Rattle.pa_slot.specs.Run.{same_slot}
 use Rattle.pa_trace.specs.declared.script.Op.{Op}
 use Rattle.pa_trace.specs.declared.script.Op.TheVariants as ops
+use Rattle.pa_trace.specs.declared.script.Rules.{Rules}
 use Rattle.pa_direct.specs.Shapes.{greatest_size}
 use Rattle.pa_record.specs.declared.entry.Seen.{Seen}
 use Rattle.pa_record.specs.declared.entry.Answer.{Answer}
@@ -32,11 +33,12 @@ with regs i r k = if k == i then r else regs k
 abbrev pub Becomes : Regs → Regs → Type 0
 Becomes after regs = (k : ℕ) → after k ≡ regs k
 
--- What the rows need besides the registers: how many bytes of a size's slot and of a slot are usable,
--- and what was done with each cell.
+-- What the rows need besides the registers: how many bytes of a size's slot and of a slot are usable, whether a slot is in a
+-- partition without reference counts, and what was done with each cell.
 pub record Facts : Type 0 where
   pub usable_of : ℕ → ℕ
   pub usable_at : SlotName → ℕ
+  pub plain_at : SlotName → Bool
   pub cells : ℕ → List CellEntry
 
 -- A request that finds its register without a handle. One above 33,521,656 bytes is too large;
@@ -55,21 +57,26 @@ AllocRow (Ref s) facts regs reg size answer after = (answer ≡ Filled) × Becom
 AllocRow Freed facts regs reg size answer after = RequestRow facts regs reg size answer after
 AllocRow Cleared facts regs reg size answer after = RequestRow facts regs reg size answer after
 
--- a copy of a handle to slot s, by what the second register holds; it may be the first itself, which has a handle
-abbrev pub CopyToRow : Reg → SlotName → Regs → ℕ → Answer → Regs → Type 0
-CopyToRow Empty s regs to answer after = (seen : Seen) × (seen.slot ≡ s) × (answer ≡ Done seen) × Becomes after (with regs to (Ref s))
-CopyToRow (Own t) s regs to answer after = (answer ≡ Filled) × Becomes after regs
-CopyToRow (Ref t) s regs to answer after = (answer ≡ Filled) × Becomes after regs
-CopyToRow Freed s regs to answer after = (seen : Seen) × (seen.slot ≡ s) × (answer ≡ Done seen) × Becomes after (with regs to (Ref s))
-CopyToRow Cleared s regs to answer after = (seen : Seen) × (seen.slot ≡ s) × (answer ≡ Done seen) × Becomes after (with regs to (Ref s))
+-- a register without a handle becomes a raw_ptr to slot s, unless no raw_ptr to it would be counted
+abbrev pub PointRow : Bool → SlotName → Regs → ℕ → Answer → Regs → Type 0
+PointRow true s regs to answer after = (answer ≡ Uncounted) × Becomes after regs
+PointRow false s regs to answer after = (seen : Seen) × (seen.slot ≡ s) × (answer ≡ Done seen) × Becomes after (with regs to (Ref s))
 
--- a copy, by what the first register holds
-abbrev pub CopyRow : Reg → Regs → ℕ → Answer → Regs → Type 0
-CopyRow Empty regs to answer after = (answer ≡ Nothing) × Becomes after regs
-CopyRow (Own s) regs to answer after = CopyToRow (regs to) s regs to answer after
-CopyRow (Ref s) regs to answer after = CopyToRow (regs to) s regs to answer after
-CopyRow Freed regs to answer after = (answer ≡ StaleUse None) × Becomes after regs
-CopyRow Cleared regs to answer after = (answer ≡ StaleUse None) × Becomes after regs
+-- a copy of a handle to slot s, by what the second register holds; it may be the first itself, which has a handle
+abbrev pub CopyToRow : Reg → Bool → SlotName → Regs → ℕ → Answer → Regs → Type 0
+CopyToRow Empty plain s regs to answer after = PointRow plain s regs to answer after
+CopyToRow (Own t) plain s regs to answer after = (answer ≡ Filled) × Becomes after regs
+CopyToRow (Ref t) plain s regs to answer after = (answer ≡ Filled) × Becomes after regs
+CopyToRow Freed plain s regs to answer after = PointRow plain s regs to answer after
+CopyToRow Cleared plain s regs to answer after = PointRow plain s regs to answer after
+
+-- a copy, by what the first register holds; a raw_ptr is counted, so a copy of it is
+abbrev pub CopyRow : Reg → Facts → Regs → ℕ → Answer → Regs → Type 0
+CopyRow Empty facts regs to answer after = (answer ≡ Nothing) × Becomes after regs
+CopyRow (Own s) facts regs to answer after = CopyToRow (regs to) (facts.plain_at s) s regs to answer after
+CopyRow (Ref s) facts regs to answer after = CopyToRow (regs to) false s regs to answer after
+CopyRow Freed facts regs to answer after = (answer ≡ StaleUse None) × Becomes after regs
+CopyRow Cleared facts regs to answer after = (answer ≡ StaleUse None) × Becomes after regs
 
 -- a reset, by what its register holds
 abbrev pub ResetRow : Reg → Regs → ℕ → Answer → Regs → Type 0
@@ -142,7 +149,7 @@ SwapRow history regs reg answer after =
 -- the answer of an op, and its thread's registers after it
 abbrev pub Row : Facts → Op → Regs → Answer → Regs → Type 0
 Row facts (ops.Alloc reg partition size) regs answer after = AllocRow (regs reg) facts regs reg size answer after
-Row facts (ops.Copy from to) regs answer after = CopyRow (regs from) regs to answer after
+Row facts (ops.Copy from to) regs answer after = CopyRow (regs from) facts regs to answer after
 Row facts (ops.Reset reg) regs answer after = ResetRow (regs reg) regs reg answer after
 Row facts (ops.Free reg) regs answer after = FreeRow (regs reg) regs reg answer after
 Row facts (ops.Write reg value) regs answer after = WriteRow (regs reg) regs answer after
@@ -199,8 +206,32 @@ abbrev pub usable_in : List Played → SlotName → ℕ
 usable_in [] s = 0
 usable_in (p ∷ ps) s = usable_or (made_of p.answer) s (usable_in ps s)
 
--- Every answer and every register is the one that the rows require. The usable number of a slot for a size is given, and that
--- of a slot is the one in the first record that made it.
+-- the op asks for a slot in a partition without reference counts
+abbrev pub is_plain_op : Rules → Op → Bool
+is_plain_op rules (ops.Alloc reg partition size) = nat_le rules.plain_from partition
+is_plain_op rules (ops.Copy from to) = false
+is_plain_op rules (ops.Reset reg) = false
+is_plain_op rules (ops.Free reg) = false
+is_plain_op rules (ops.Write reg value) = false
+is_plain_op rules (ops.Read reg place) = false
+is_plain_op rules (ops.Swap cell reg) = false
+is_plain_op rules ops.Purge = false
+
+-- whether slot s is in a plain partition if this record made it, else the other
+abbrev pub plain_or : Option (SlotName × ℕ) → Played → SlotName → Bool → Bool
+plain_or None p s other = other
+plain_or (Some m) p s other = if same_slot m.0 s then is_plain_op p.rules p.op else other
+
+-- whether slot s is in a plain partition, by the first record that made it, and not if none did
+abbrev pub plain_in : List Played → SlotName → Bool
+plain_in [] s = false
+plain_in (p ∷ ps) s = plain_or (made_of p.answer) p s (plain_in ps s)
+
+-- What these records say of a slot: its usable number and its partition are those of the first record that made it. The usable
+-- number of a slot for a size is given, and so are the cells.
+abbrev pub facts_with : (ℕ → ℕ) → List Played → (ℕ → List CellEntry) → Facts
+facts_with usable_of ps cells = record { usable_of = usable_of; usable_at = usable_in ps; plain_at = plain_in ps; cells = cells }
+
+-- every answer and every register is the one that the rows require
 abbrev pub AreRegisters : (ℕ → ℕ) → (ℕ → List CellEntry) → List Played → Type 0
-AreRegisters usable_of cells ps =
-    (after : AllRegs) × RowsTo (record { usable_of = usable_of; usable_at = usable_in ps; cells = cells }) no_regs ps after
+AreRegisters usable_of cells ps = (after : AllRegs) × RowsTo (facts_with usable_of ps cells) no_regs ps after

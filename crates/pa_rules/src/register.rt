@@ -1,5 +1,5 @@
 ghost use Rattle.std.specs.Prelude.{◌≡◌, ◌↔◌, IsTrue, ⊤};
-ghost use Rattle.pa_rules.specs.Nexts.{HasSomeHandle, copy_next, free_next, read_next, reset_next, write_next};
+ghost use Rattle.pa_rules.specs.Nexts.{HasSomeHandle, copy_next, free_next, is_owner, read_next, reset_next, write_next};
 
 use pa_record::Answer;
 use std::alloc::AllocError;
@@ -51,8 +51,19 @@ impl<H: Copy> Register<H> {
         }
     }
 
+    /// Whether the register is an object's owner. A copy of an owner would not be counted if its slot is in a partition
+    /// without reference counts.
+    pub fn is_owner(self) -> bool
+        ensures { result ≡ is_owner self }
+    {
+        match self {
+            Register::Own(_) => true,
+            Register::Empty | Register::Ref(_) | Register::Freed | Register::Cleared => false,
+        }
+    }
+
     /// The handle on which a copy makes its step, or the answer with which it is refused.
-    /// If the second register has a handle, it is refused too.
+    /// If the second register has a handle, it is refused too, and so it is if the copy would not be counted.
     pub fn for_copy(self) -> Result<H, Answer>
         ensures { result ≡ copy_next self }
     {

@@ -15,7 +15,9 @@ use Rattle.pa_region.specs.Marks.{parcel_of}
 use Rattle.pa_region.proofs.LendBack.{given_stake, given_beside, log_filter, marked_here}
 use Rattle.pa_trace.specs.declared.script.Line.{Line}
 use Rattle.pa_trace.specs.declared.script.Line.TheVariants.{Phase, Do}
+use Rattle.pa_trace.specs.declared.script.Rules.{Rules}
 use Rattle.pa_trace.specs.declared.script.Trace.{Trace}
+use Rattle.pa_trace.specs.Rules.{rules_of}
 use Rattle.pa_thread_state.specs.Starts.{HasAllStakes}
 use Rattle.pa_op_specs.specs.Stocks.{IsForThread}
 use Rattle.pa_op_specs.specs.Workers.{WorkerValue, IsNewWorker}
@@ -36,16 +38,16 @@ module _ (k lines : ℕ) (seat : View) where
     unused = λ t. refl;
   }
 
-  pub new_for : {E : Type 0} (partitions version : ℕ) (r : Result WorkerValue E) (v : View) →
+  pub new_for : {E : Type 0} (partitions : ℕ) (rules : Rules) (r : Result WorkerValue E) (v : View) →
       v ≡ given_after (parcel_of [] lines (Stake k ∷ [])) seat → 0 < stake_of seat k → log_of k seat ≡ [] →
-      IfOk r (IsNewWorker k partitions version lines v) → IfOk r (IsNewFor k partitions version lines)
-  new_for partitions version (Ok w) v is has none new = record {
+      IfOk r (IsNewWorker k partitions rules.plain_from rules.version lines v) → IfOk r (IsNewFor k partitions rules lines)
+  new_for partitions rules (Ok w) v is has none new = record {
     view = v;
     new = new;
     stake = subst (λ (z : View). 0 < stake_of z k) (sym is) (let g = given_stake k seat in omega arith);
     log = ap (log_of k) is ∙ (log_filter (stake_parcel k).stakes k seat.stakes (marked_here k) ∙ none);
   }
-  new_for partitions version (Err e) v is has none new = tt
+  new_for partitions rules (Err e) v is has none new = tt
 
 -- ---- how many lines are of threads from one on
 
@@ -85,7 +87,7 @@ pub record IsOpening (t : Trace) (k : ℕ) (workers : List WorkerValue) (first s
   pub handed : seat ≡ after_opening t.lines k first
   pub budget : lines_past k t.lines ≤ seat.budget
   pub count : length workers ≡ k
-  pub each : (j : ℕ) → j < k → IsNewFor j t.partitions t.version (lines_by j t.lines) (worker_in workers j)
+  pub each : (j : ℕ) → j < k → IsNewFor j t.partitions (rules_of t) (lines_by j t.lines) (worker_in workers j)
 
 pub open_start : (t : Trace) (budget : ℕ) (first : View) → length t.lines ≤ budget →
     HasAllStakes budget first → IsOpening t 0 [] first first
@@ -130,7 +132,7 @@ module _ (t : Trace) (k : ℕ) (workers : List WorkerValue) (first seat : View) 
       left ∙ (ap (left_after (parcel_of [] (lines_by k t.lines) (Stake k ∷ []))) opening.handed ∙ sym (opening_more t.lines k first))
 
   pub open_next : (next : View) (w : WorkerValue) → next ≡ left_after (parcel_of [] (lines_by k t.lines) (Stake k ∷ [])) seat →
-      IsNewFor k t.partitions t.version (lines_by k t.lines) w →
+      IsNewFor k t.partitions (rules_of t) (lines_by k t.lines) w →
       IsOpening t (k + 1) (workers ++ w ∷ []) first next
   open_next next w left new =
       let l = left_after (parcel_of [] (lines_by k t.lines) (Stake k ∷ [])) seat in
@@ -149,11 +151,11 @@ module _ (t : Trace) (k : ℕ) (workers : List WorkerValue) (first seat : View) 
         count = length_push workers w ∙ ap (λ n. n + 1) opening.count;
         each = λ j low. elim (cases_eq j k) [
           | inl e ↦
-              subst (λ n. IsNewFor n t.partitions t.version (lines_by n t.lines) (worker_in (workers ++ w ∷ []) n)) (sym e)
-              (subst (IsNewFor k t.partitions t.version (lines_by k t.lines)) (sym (last_in workers w k opening.count)) new)
+              subst (λ n. IsNewFor n t.partitions (rules_of t) (lines_by n t.lines) (worker_in (workers ++ w ∷ []) n)) (sym e)
+              (subst (IsNewFor k t.partitions (rules_of t) (lines_by k t.lines)) (sym (last_in workers w k opening.count)) new)
           | inr ne ↦
               let long = opening.count in
-              subst (IsNewFor j t.partitions t.version (lines_by j t.lines)) (sym (before_in workers w j (omega arith)))
+              subst (IsNewFor j t.partitions (rules_of t) (lines_by j t.lines)) (sym (before_in workers w j (omega arith)))
               (opening.each j (omega arith))
         ];
       }

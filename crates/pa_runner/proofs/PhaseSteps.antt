@@ -1,12 +1,11 @@
 -- The steps of a trace that is played phase after phase: the start, a line into its queue, the end of a phase, and what the next one begins
 -- with.
-use Rattle.std.proofs.Common.{◌≡◌, ℕ, zero, suc, ◌+◌, ◌<◌, ◌≤◌, List, [], ◌∷◌, ◌++◌, length, map, take, get_or, replicate, set, refl, sym, ◌∙◌, ap, ap₂, subst, arith, inl, inr}
+use Rattle.std.proofs.Common.{◌≡◌, ℕ, zero, suc, ◌+◌, ◌<◌, ◌≤◌, List, [], ◌∷◌, ◌++◌, length, map, take, get_or, replicate, set, refl, sym, ◌∙◌, ap, subst, arith, inl, inr}
 use Rattle.std.proofs.Math.Seq.{take_all}
 use Rattle.std.proofs.lemmas.Bool.{cases_eq}
 use Rattle.std.proofs.lemmas.List.{length-set, length-replicate, get_or-set_same, get_or-set_other, get_or_default}
 use Rattle.std.proofs.lemmas.List.Elements.{All-from_recursion, All-get_or}
 use Rattle.pa_trace.specs.Rules.{rules_of}
-use Rattle.pa_op_specs.specs.Stocks.{rules_at}
 use Rattle.pa_record.specs.declared.report.ReportLine.{ReportLine}
 use Rattle.pa_region.specs.declared.view.View.{View}
 use Rattle.pa_region.specs.Aware.{IsAware}
@@ -129,12 +128,6 @@ module _ (t : Trace) (i phase : ℕ) (workers : List WorkerValue) (queues : List
       reported = going.reported;
     }
 
-  -- the workers play by the trace's rules
-  rules_are : (k : ℕ) → k < t.threads → rules_at (worker_in workers k).stock ≡ rules_of t
-  rules_are k few =
-      ap₂ (λ version partitions. record { version = version; plain_from = partitions }) (going.each k few).version
-      (going.each k few).partitions
-
   -- what the end of the phase needs
   pub many_here : (0 < length workers) × (length workers ≤ 16)
   many_here =
@@ -198,7 +191,7 @@ module _ (t : Trace) (i phase : ℕ) (workers : List WorkerValue) (queues : List
           (going.each k few).lines ∙ sym (whole k)) in
           let (d, agree, ended) =
           phase_grows t going.over going.course queues workers after seat next going.many passed aware ready_here going.begun going.seen
-          rules_are lines in
+          (λ k few. (going.each k few).rules) lines in
           let reported : IsReported (going.over + 1) t.partitions t.threads (worker_in after) told next report now =
           subst (λ n. IsReported n t.partitions t.threads (worker_in after) told next report now) going.phase_is
           (subst (λ n. IsReported phase t.partitions n (worker_in after) told next report now) going.many said) in

@@ -1,5 +1,5 @@
 -- A worker and its queue at a place of the trace's lines, and line by line.
-use Rattle.std.proofs.Common.{◌≡◌, ℕ, ◌+◌, ◌<◌, ◌≤◌, List, [], ◌∷◌, ◌++◌, length, map, take, get_or, refl, sym, ◌∙◌, ap, subst, arith, inl, inr}
+use Rattle.std.proofs.Common.{◌≡◌, ℕ, ◌+◌, ◌<◌, ◌≤◌, List, [], ◌∷◌, ◌++◌, length, map, take, get_or, refl, sym, ◌∙◌, ap, ap₂, subst, arith, inl, inr}
 use Rattle.std.specs.Prelude.{Contains}
 use Rattle.std.specs.List.{AllByRecursion}
 use Rattle.std.proofs.lemmas.Bool.{eq-eqb, ne_eqb}
@@ -19,7 +19,6 @@ use Rattle.pa_totals.specs.Settled.{none_owed}
 use Rattle.pa_op_specs.specs.Workers.{WorkerValue, worker_with_view}
 use Rattle.pa_execution.specs.Courses.{lines_in}
 use Rattle.pa_execution.proofs.Playing.{stays, keeps_rules}
-use Rattle.pa_trace.specs.declared.script.Rules.{Rules}
 use Rattle.pa_runner.specs.declared.thread_lines.LineOp.{LineOp}
 use Rattle.pa_runner.specs.Playing.{in_phase, AreBefore, RiseFrom, CanPlay, PlaysLines}
 use Rattle.pa_runner.specs.Opening.{IsNewFor}
@@ -71,12 +70,13 @@ all_push P (y ∷ ys) x all one = (all.0, all_push P ys x all.1 one)
 -- ---- a worker at a place
 
 -- at the start
-pub place_start : (t : Trace) (k : ℕ) (queue : List LineOp) (w : WorkerValue) → IsNewFor k t.partitions t.version (lines_by k t.lines) w →
-    queue ≡ [] → IsAtPlace t 0 k queue w
+pub place_start : (t : Trace) (k : ℕ) (queue : List LineOp) (w : WorkerValue) →
+    IsNewFor k t.partitions (rules_of t) (lines_by k t.lines) w → queue ≡ [] → IsAtPlace t 0 k queue w
 place_start t k queue w begins none = subst (λ (q : List LineOp). IsAtPlace t 0 k q w) (sym none) (record {
   thread = begins.new.stock.thread_is;
   partitions = begins.new.stock.partitions_are;
-  version = begins.new.stock.version_is;
+  rules = ap₂ (λ version plain_from. record { version = version; plain_from = plain_from }) begins.new.stock.version_is
+      begins.new.stock.plain_is;
   going = begins.new.going;
   stake =
       subst (λ (v : View). 0 < stake_of v w.stock.thread) (sym begins.new.stock.view)
@@ -110,7 +110,7 @@ module _ (t : Trace) (i : ℕ) (low : i < length t.lines) where
     place_mine queue w within at = record {
       thread = at.thread;
       partitions = at.partitions;
-      version = at.version;
+      rules = at.rules;
       going = at.going;
       stake = at.stake;
       settled = at.settled;
@@ -140,7 +140,7 @@ module _ (t : Trace) (i : ℕ) (low : i < length t.lines) where
     place_other k queue w ne at = record {
       thread = at.thread;
       partitions = at.partitions;
-      version = at.version;
+      rules = at.rules;
       going = at.going;
       stake = at.stake;
       settled = at.settled;
@@ -172,7 +172,7 @@ module _ (t : Trace) (i : ℕ) (low : i < length t.lines) where
       record {
         thread = thread ∙ at.thread;
         partitions = many ∙ at.partitions;
-        version = ap (λ (by : Rules). by.version) (keeps_rules w ended xs all) ∙ at.version;
+        rules = keeps_rules w ended xs all ∙ at.rules;
         going = played.going;
         stake = subst (λ n. 0 < stake_of v n) (sym (thread ∙ at.thread)) has;
         settled = settled;

@@ -16,7 +16,14 @@ use Rattle.pa_runner.specs.Playing.{CanPlay, PlaysLines, IsPlayed}
 -- the worker to use if there is none: it has stopped and has nothing
 abbrev pub no_worker : WorkerValue
 no_worker = record {
-  stock = record { thread = 0; partitions = 0; view = first_view 0 0; registers = []; caches = record { version = 1; lists = [] } };
+  stock = record {
+    thread = 0;
+    partitions = 0;
+    plain_from = 0;
+    view = first_view 0 0;
+    registers = [];
+    caches = record { version = 1; lists = [] };
+  };
   records = [];
   room = 0;
   stopped = true;

@@ -13,6 +13,7 @@ use Rattle.pa_region.specs.Views.{HasEveryStake}
 use Rattle.pa_rules.specs.Legal.{phases_in}
 use Rattle.pa_rules.specs.Report.{phases_of}
 use Rattle.pa_totals.specs.Settled.{none_owed}
+use Rattle.pa_op_specs.specs.Stocks.{rules_at}
 use Rattle.pa_op_specs.specs.Workers.{WorkerValue, HasItsStake}
 use Rattle.pa_execution.specs.Courses.{Course, HasSeenAll, lines_in}
 use Rattle.pa_execution.specs.Growing.{HasBegun}
@@ -29,11 +30,11 @@ RiseTo n [] last = n ≤ last
 RiseTo n (due ∷ rest) last = (n ≤ due.line) × RiseTo (due.line + 1) rest last
 
 -- At line index i of the trace the worker of thread k has a record of each of its lines of the phases that are over, and its queue
--- has its lines of this phase, up to that index. It owes nothing to the totals words.
+-- has its lines of this phase, up to that index. It plays by the trace's rules, and owes nothing to the totals words.
 pub record IsAtPlace (t : Trace) (i k : ℕ) (queue : List LineOp) (w : WorkerValue) : Type 0 where
   pub thread : w.stock.thread ≡ k
   pub partitions : w.stock.partitions ≡ t.partitions
-  pub version : w.stock.caches.version ≡ t.version
+  pub rules : rules_at w.stock ≡ rules_of t
   pub going : w.stopped ≡ false
   pub stake : HasItsStake w.stock
   pub settled : w.owed ≡ none_owed

@@ -2,6 +2,7 @@
 ghost use Rattle.std.specs.Prelude.{◌≡◌, ◌*◌, IfOk, length};
 ghost use Rattle.pa_region.specs.Shares.{byte_word_count};
 ghost use Rattle.pa_region.specs.Start.{first_view};
+ghost use Rattle.pa_trace.specs.Rules.{rules_of};
 ghost use Rattle.pa_trace.specs.Limits.{IsWithinLimits};
 ghost use Rattle.pa_runner.specs.Whole.{HasPlayed, IsHeldRun};
 
@@ -38,7 +39,7 @@ pub fn run_trace<R: Threads + Wait + Sync, G: Gate>(
     run_in::<Brand, R, G>(rt, alloc, trace, gate, region, seat)
 }
 
-// Plays a trace in a new region, which `N` names.
+// Plays a trace in a new region, which `N` names with the trace's first plain partition.
 fn run_in<N: Name + Send + Sync, R: Threads + Wait + Sync, G: Gate>(
     rt: &R,
     alloc: Global,
@@ -49,6 +50,7 @@ fn run_in<N: Name + Send + Sync, R: Threads + Wait + Sync, G: Gate>(
 ) -> Result<(Run, Closed), OutOfMemory>
     requires within { IsWithinLimits trace.now }
     requires regions { (region ≡ N.region) × (seat.region ≡ N.region) }
+    requires plain { N.plain_from ≡ (rules_of trace.now).plain_from }
     requires long { byte_word_count N.region ≡ 262144 * trace.now.region }
     requires first { seat.view ≡ first_view (262144 * trace.now.region) (length trace.now.lines) }
     ensures { IfOk result (λ out. IsHeldRun trace.now out.0 out.1) }

@@ -10,10 +10,11 @@ use Rattle.pa_trace.specs.declared.script.Op.{Op}
 use Rattle.pa_trace.specs.declared.script.Op.TheVariants.{Alloc, Copy, Reset, Free, Write, Read, Swap, Purge}
 use Rattle.pa_trace.specs.Limits.{IsHeadWithin}
 use Rattle.pa_trace.specs.Reading.{◌>>=◌, below, within, line_in}
-use Rattle.pa_trace.proofs.Fields.{bind_ok, three_at, three_takes, three_again, three_handed, three_is}
+use Rattle.pa_trace.proofs.Fields.{bind_ok}
+use Rattle.pa_trace.proofs.Threes.{three_at, three_takes, three_again, three_handed, three_is}
 use Rattle.pa_trace.specs.Rules.{first_head}
-use Rattle.pa_trace.proofs.Limits.{tested, below_fit, within_fit, head_ok, checked_head, head_cases, head_within, within_head}
-use Rattle.pa_trace.proofs.Limits.{let_through, kept_out, IsNotRead, line_read, line_not_read}
+use Rattle.pa_trace.proofs.Heads.{head_ok, checked_head, head_cases, head_within, within_head}
+use Rattle.pa_trace.proofs.Limits.{tested, below_fit, within_fit, let_through, kept_out, IsNotRead, line_read, line_not_read}
 use Rattle.pa_trace.proofs.Shapes.{three_shape, shape_of}
 use Rattle.pa_script.specs.declared.script.ScriptLine.{ScriptLine}
 use Rattle.pa_script.specs.declared.script.ScriptLine.TheVariants.{Plain, Resize}

@@ -10,7 +10,7 @@ use Rattle.pa_trace.specs.declared.script.Op.TheVariants.{Alloc, Copy, Reset, Fr
 use Rattle.pa_trace.specs.Grammar.{IsOpText, IsLineText}
 use Rattle.pa_trace.specs.Cut.{IsOneLine}
 use Rattle.pa_trace.proofs.Cuts.{word_line, three_line, line_line}
-use Rattle.pa_trace.proofs.Fields.{three_at, three_again}
+use Rattle.pa_trace.proofs.Threes.{three_at, three_again}
 use Rattle.pa_trace.proofs.Texts.{one_line_of, ok_head}
 use Rattle.pa_script.specs.declared.script.ScriptLine.{ScriptLine}
 use Rattle.pa_script.specs.declared.script.ScriptLine.TheVariants.{Plain, Resize}

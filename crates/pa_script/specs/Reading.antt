@@ -1,5 +1,5 @@
 -- Reading a line of a script from left to right.
-use Rattle.std.specs.Prelude.{ℕ, ◌&&◌, Bool, true, nat_lt, if◌then◌else◌, List, [], codes, Result, Ok, Err}
+use Rattle.std.specs.Prelude.{ℕ, ◌&&◌, Bool, true, nat_lt, if◌then◌else◌, List, [], codes, Some, Result, Ok, Err}
 use Rattle.pa_trace.specs.declared.field.LineFault.{LineFault}
 use Rattle.pa_trace.specs.declared.field.LineFault.TheVariants.{Outside, Past}
 use Rattle.pa_trace.specs.declared.line.Head.{Head}
@@ -16,7 +16,7 @@ use Rattle.pa_script.specs.Limits.{named_count}
 unfoldable pub script_head_in : List ℕ → Result Head LineFault
 script_head_in bytes = do
   numbers ← three_in bytes (codes "script 1 region ") (codes " partitions ") (codes " threads ")
-  head_of 1 numbers.0 numbers.1 numbers.2
+  head_of 1 numbers.0 numbers.1 numbers.2 (Some 0)
 
 -- the thread, ` S r` and the register, a space and the size
 unfoldable pub resize_in : ℕ → List ℕ → Result ScriptLine LineFault

@@ -20,7 +20,7 @@ pub(crate) fn script_head_in(bytes: &[u8]) -> Result<Head, LineFault>
         b" partitions ",
         b" threads ",
     )?;
-    head_of(1, region, partitions, threads)
+    head_of(1, region, partitions, threads, Some(0))
 }
 
 // A line after the head, without its LF.
@@ -50,7 +50,7 @@ fn resize_in(threads: u32, bytes: &[u8]) -> Result<ScriptLine, LineFault>
 
 // These numbers, each of which may be too large. The words before them are looked for byte by byte, as most lines of a script may
 // be resizes.
-#[tactic(auto, unfolding(pa_trace::specs::Reading::three_in, pa_trace::specs::Reading::field_in, pa_trace::specs::Reading::behind))]
+#[tactic(auto, unfolding(pa_trace::specs::Reading::three_in, pa_trace::specs::Reading::fields_in, pa_trace::specs::Reading::field_in, pa_trace::specs::Reading::behind))]
 fn resize_numbers(bytes: &[u8]) -> Result<(Option<u32>, Option<u32>, Option<u32>), LineFault>
     ensures { Gives (λ x. x) result (three_in bytes.now [] (codes " S r") (codes " ")) }
 {

@@ -13,7 +13,7 @@ use Rattle.pa_record.specs.declared.entry.Answer.TheVariants.{Made, Done, Value,
 use Rattle.pa_record.specs.declared.history.CellEntry.{CellEntry}
 use Rattle.pa_rules.specs.declared.played.Played.{Played}
 use Rattle.pa_rules.specs.Played.{AreLines, marks_of}
-use Rattle.pa_rules.specs.Registers.{RowsTo, usable_in, no_regs}
+use Rattle.pa_rules.specs.Registers.{RowsTo, usable_in, plain_in, no_regs}
 use Rattle.pa_rules.specs.Order.{StandsBefore}
 use Rattle.pa_rules.specs.Contents.{IsReadExact, IsReadAllowed}
 use Rattle.pa_rules.specs.Seen.{IsBefore, Standing, Handing, Between, IsSeenInOrder}
@@ -28,7 +28,7 @@ use Rattle.pa_slot_effects.specs.Known.{facts_of, HasExchanged, IsToldTo}
 use Rattle.pa_slot_effects.specs.Laws.{EndsRight}
 use Rattle.pa_slot_effects.proofs.Histories.{exchanged_order, exchanged_cells}
 use Rattle.pa_slot_effects.proofs.Lines.{played_phases}
-use Rattle.pa_slot_effects.proofs.Rows.{rows_end, usable_made}
+use Rattle.pa_slot_effects.proofs.Rows.{rows_end, usable_made, plain_made}
 use Rattle.pa_slot_effects.proofs.Words.{used_made}
 use Rattle.pa_rules.proofs.Phases.{mark_in}
 use Rattle.pa_rules.proofs.Rising.{steps_rise}
@@ -156,12 +156,15 @@ word_at_end threads ls ps a h s =
 
 -- the rows lead from empty registers to these
 pub rows_told : (threads : ℕ) (ls : List Line) (ps : List Played) (a : Shown) → IsToldTo threads ls ps a →
-    RowsTo (facts_of a.rules.version (usable_in ps) a.cells) no_regs ps a.regs
-rows_told threads ls ps a h = rows_end a.rules.version a.word a.word a.usable (usable_in ps) a.cells a.cells (record {
+    RowsTo (facts_of a.rules.version (usable_in ps) (plain_in ps) a.cells) no_regs ps a.regs
+rows_told threads ls ps a h = rows_end a.rules.version a.word a.word a.usable (usable_in ps) a.plain (plain_in ps) a.cells a.cells (record {
   used = λ s u. u;
   sizes = λ s up.
       let m = used_made ps a.word s h.runs up in
       usable_made a.usable ps m.maker m.seen m.usable s h.sized m.among m.made m.slot;
+  places = λ s up.
+      let m = used_made ps a.word s h.runs up in
+      plain_made a.plain ps m.maker m.seen m.usable s h.placed m.among m.made m.slot;
   exchanges = λ k j e i. i;
 }) no_regs ps a.regs h.rows
 

@@ -13,7 +13,7 @@ use Rattle.pa_rules.specs.Played.{mark_at, mark_of, mark_of_answer}
 use Rattle.pa_rules.specs.Registers.{Row}
 use Rattle.pa_rules.specs.Contents.{IsContent, IsReadExact}
 use Rattle.pa_slot_effects.specs.Shown.{Shown}
-use Rattle.pa_slot_effects.specs.Known.{facts_of}
+use Rattle.pa_slot_effects.specs.Known.{facts_shown}
 use Rattle.pa_slot_effects.specs.Turns.{CanPlay, LeadsTo, played_at, TellsNone, Looks}
 use Rattle.pa_slot_effects.specs.Laws.{NoneGoesOn, LookGoesOn}
 use Rattle.pa_slot_effects.proofs.Histories.{exchanged_other}
@@ -27,7 +27,7 @@ still : (threads : ℕ) (ls : List Line) (ps : List Played) (a : Shown) (thread 
     → ((cell r : ℕ) → op ≡ ops.Swap cell r → ⊥) → ((u : Seen) (n : ℕ) → answer ≡ Made u n → ⊥)
     → Tells (mark_of (played_at a.rules ls thread op answer)) a.word a.word → HasFound a.word (played_at a.rules ls thread op answer)
     → IsReadExact (ps ++ played_at a.rules ls thread op answer ∷ []) answer
-    → Row (facts_of a.rules.version a.usable a.cells) op (a.regs thread) answer (a.regs thread) → LeadsTo threads ls ps thread op answer a
+    → Row (facts_shown a) op (a.regs thread) answer (a.regs thread) → LeadsTo threads ls ps thread op answer a
 still threads ls ps a thread op answer can other unmade tells found read row =
     let x = played_at a.rules ls thread op answer in
     turn_extends threads ls ps thread op answer a a can.told (record {
@@ -35,7 +35,9 @@ still threads ls ps a thread op answer can other unmade tells found read row =
       row = row;
       regs = same_regs a.regs thread;
       usable = refl;
+      plain = refl;
       sized = λ u n e. absurd (unmade u n e);
+      placed = λ u n e. absurd (unmade u n e);
       stand = λ k j e i. i;
       exchanged = exchanged_other a.cells a.held ps (length ls + 2) x can.told.exchanged other;
       tells = tells;

@@ -1,5 +1,5 @@
 -- The turns of ops that step a slot.
-use Rattle.std.proofs.Common.{◌≡◌, ℕ, ◌+◌, ◌<◌, ◌≤◌, inl, inr, List, [], ◌∷◌, ◌++◌, length, Some, refl, sym, ap, ◌∙◌, subst, arith}
+use Rattle.std.proofs.Common.{◌≡◌, ℕ, Bool, false, ◌+◌, ◌<◌, ◌≤◌, ◌&&◌, inl, inr, List, [], ◌∷◌, ◌++◌, length, Some, refl, sym, ap, ◌∙◌, subst, arith}
 use Rattle.std.proofs.Math.Path.{fun_ext}
 use Rattle.std.proofs.lemmas.Bool.{cases_eq}
 use Rattle.pa_slot.specs.declared.word.SlotName.{SlotName}
@@ -15,12 +15,13 @@ use Rattle.pa_record.specs.declared.entry.Answer.{Answer}
 use Rattle.pa_record.specs.declared.entry.Answer.TheVariants.{Made, Done}
 use Rattle.pa_rules.specs.declared.register.Register.TheVariants.{Empty, Own, Ref, Freed, Cleared}
 use Rattle.pa_rules.specs.declared.played.Played.{Played}
+use Rattle.pa_rules.specs.Nexts.{is_owner}
 use Rattle.pa_rules.specs.Played.{mark_at, mark_of}
-use Rattle.pa_rules.specs.Registers.{Reg, Regs, AllRegs, Facts, with, with_thread, Becomes, Row, AllocRow, CopyRow, CopyToRow, ResetRow, FreeRow, WriteRow}
+use Rattle.pa_rules.specs.Registers.{Reg, Regs, AllRegs, Facts, with, with_thread, Becomes, Row, AllocRow, CopyRow, CopyToRow, ResetRow, FreeRow, WriteRow, is_plain_op}
 use Rattle.pa_rules.specs.Contents.{IsContent}
 use Rattle.pa_rules.specs.Sizes.{usable_of}
 use Rattle.pa_slot_effects.specs.Shown.{Shown, IsUsed, with_slot, with_reg}
-use Rattle.pa_slot_effects.specs.Known.{HasContents, IsToldTo, facts_of}
+use Rattle.pa_slot_effects.specs.Known.{HasContents, IsToldTo, facts_shown}
 use Rattle.pa_slot_effects.specs.Turns.{CanPlay, LeadsTo, played_at, Names, HoldsNone}
 use Rattle.pa_slot_effects.specs.Laws.{MadeGoesOn, CopyGoesOn, ResetGoesOn, FreeGoesOn, WriteGoesOn}
 use Rattle.pa_slot_effects.proofs.Histories.{exchanged_other}
@@ -39,14 +40,14 @@ step_turn : (threads : ℕ) (ls : List Line) (ps : List Played) (a : Shown) (thr
     → CanPlay threads ls ps a thread → reg < 64 → a.regs thread reg ≡ old
     → mark_of (played_at a.rules ls thread op answer) ≡ Some (mark_at (length ls + 2) seen (Some p))
     → ((cell r : ℕ) → op ≡ ops.Swap cell r → ⊥)
-    → ((u : Seen) (n : ℕ) → answer ≡ Made u n → n ≡ a.usable u.slot)
+    → ((u : Seen) (n : ℕ) → answer ≡ Made u n → (n ≡ a.usable u.slot) × (is_plain_op a.rules op ≡ a.plain u.slot))
     → seen.found.0 ≡ a.word seen.slot → CanStep p seen.found.0 → Balances seen.slot p seen.found.0 old new
     → IsUsed (with_slot a.word seen.slot (stepped p seen.found.0)) new
-    → Row (facts_of a.rules.version a.usable a.cells) op (a.regs thread) answer (with_reg a.regs thread reg new thread)
+    → Row (facts_shown a) op (a.regs thread) answer (with_reg a.regs thread reg new thread)
     → HasContents (ps ++ played_at a.rules ls thread op answer ∷ []) (with_slot a.word seen.slot (stepped p seen.found.0)) content
     → LeadsTo threads ls ps thread op answer
     (record a { regs = with_reg a.regs thread reg new; word = with_slot a.word seen.slot (stepped p seen.found.0); content = content })
-step_turn threads ls ps a thread reg op answer seen p old new content can hr was mark other sized found able balance used row contents =
+step_turn threads ls ps a thread reg op answer seen p old new content can hr was mark other made found able balance used row contents =
     let after = with_slot a.word seen.slot (stepped p seen.found.0) in
     let b : Shown = record a { regs = with_reg a.regs thread reg new; word = after; content = content } in
     let x = played_at a.rules ls thread op answer in
@@ -58,7 +59,9 @@ step_turn threads ls ps a thread reg op answer seen p old new content can hr was
       row = row;
       regs = ap (λ (r : Regs). with_thread a.regs thread r) (sym (reg_here a.regs thread reg new));
       usable = refl;
-      sized = sized;
+      plain = refl;
+      sized = λ u n e. (made u n e).0;
+      placed = λ u n e. (made u n e).1;
       stand = λ k j e i. i;
       exchanged = exchanged_other a.cells a.held ps (length ls + 2) x can.told.exchanged other;
       tells = rw mark st;
@@ -112,27 +115,29 @@ alloc_row Freed facts regs reg size seen after h le b = inr (inl (le, seen, refl
 alloc_row Cleared facts regs reg size seen after h le b = inr (inl (le, seen, refl, b))
 
 copy_to_row : (y : Reg) (s : SlotName) (regs : Regs) (to : ℕ) (seen : Seen) (after : Regs) → HoldsNone y → seen.slot ≡ s
-    → Becomes after (with regs to (Ref s)) → CopyToRow y s regs to (Done seen) after
+    → Becomes after (with regs to (Ref s)) → CopyToRow y false s regs to (Done seen) after
 copy_to_row Empty s regs to seen after h e b = (seen, e, refl, b)
 copy_to_row (Own t) s regs to seen after h e b = absurd h
 copy_to_row (Ref t) s regs to seen after h e b = absurd h
 copy_to_row Freed s regs to seen after h e b = (seen, e, refl, b)
 copy_to_row Cleared s regs to seen after h e b = (seen, e, refl, b)
 
-copy_row : (x : Reg) (s : SlotName) (regs : Regs) (to : ℕ) (seen : Seen) (after : Regs) → Names s x → HoldsNone (regs to) → seen.slot ≡ s
-    → Becomes after (with regs to (Ref s)) → CopyRow x regs to (Done seen) after
-copy_row Empty s regs to seen after n h e b = absurd n
-copy_row (Own t) s regs to seen after n h e b =
-    let P : SlotName → Type 0 = λ v. CopyToRow (regs to) v regs to (Done seen) after in
+copy_row : (x : Reg) (facts : Facts) (s : SlotName) (regs : Regs) (to : ℕ) (seen : Seen) (after : Regs) → Names s x
+    → HoldsNone (regs to) → seen.slot ≡ s → (is_owner x && facts.plain_at s) ≡ false
+    → Becomes after (with regs to (Ref s)) → CopyRow x facts regs to (Done seen) after
+copy_row Empty facts s regs to seen after n h e counted b = absurd n
+copy_row (Own t) facts s regs to seen after n h e counted b =
+    let P : SlotName → Type 0 = λ v. CopyToRow (regs to) (facts.plain_at v) v regs to (Done seen) after in
+    let Q : Bool → Type 0 = λ plain. CopyToRow (regs to) plain s regs to (Done seen) after in
+    subst P (sym n) (subst Q (sym counted) (copy_to_row (regs to) s regs to seen after h e b))
+copy_row (Ref t) facts s regs to seen after n h e counted b =
+    let P : SlotName → Type 0 = λ v. CopyToRow (regs to) false v regs to (Done seen) after in
     subst P (sym n) (copy_to_row (regs to) s regs to seen after h e b)
-copy_row (Ref t) s regs to seen after n h e b =
-    let P : SlotName → Type 0 = λ v. CopyToRow (regs to) v regs to (Done seen) after in
-    subst P (sym n) (copy_to_row (regs to) s regs to seen after h e b)
-copy_row Freed s regs to seen after n h e b = absurd n
-copy_row Cleared s regs to seen after n h e b = absurd n
+copy_row Freed facts s regs to seen after n h e counted b = absurd n
+copy_row Cleared facts s regs to seen after n h e counted b = absurd n
 
 pub made_goes_on : MadeGoesOn
-made_goes_on threads ls ps a thread reg partition size seen can hr none le found held refs usable =
+made_goes_on threads ls ps a thread reg partition size seen can hr none le found held refs usable plain =
     let op = ops.Alloc reg partition size in
     let answer = Made seen (usable_of a.rules.version size) in
     let x = played_at a.rules ls thread op answer in
@@ -151,9 +156,9 @@ made_goes_on threads ls ps a thread reg partition size seen can hr none le found
     let same : Made seen (usable_of a.rules.version size) ≡ Made u n = e in
     let one : seen ≡ u = cc in
     let two : usable_of a.rules.version size ≡ n = cc in
-    sym two ∙ sym usable ∙ ap (λ (z : Seen). a.usable z.slot) one)
+    (sym two ∙ sym usable ∙ ap (λ (z : Seen). a.usable z.slot) one, plain ∙ ap (λ (z : Seen). a.plain z.slot) one))
     found c (issue_balances s seen.found.0 (a.regs thread reg) none held refs) (stepped_up a.word s steps.Issue seen.found.0 c)
-    (alloc_row (a.regs thread reg) (facts_of a.rules.version a.usable a.cells) (a.regs thread) reg size seen
+    (alloc_row (a.regs thread reg) (facts_shown a) (a.regs thread) reg size seen
     (with_reg a.regs thread reg (Own s) thread) none le (becomes a.regs thread reg (Own s)))
     (contents_step ps x (length ls + 2) a.word a.content after now s can.told.numbers can.told.contents (found_by a.word x m refl found)
     st.others (λ t ne. at_other_slot a.content s 0 t ne)
@@ -162,7 +167,7 @@ made_goes_on threads ls ps a thread reg partition size seen can hr none le found
     tt)
 
 pub copy_goes_on : CopyGoesOn
-copy_goes_on threads ls ps a thread from to seen can hf ht names none found =
+copy_goes_on threads ls ps a thread from to seen can hf ht names none found counted =
     let s = seen.slot in
     let lets = handle_lets threads ls ps a thread from can hf in
     let c : CanStep steps.Copy seen.found.0 = able threads ls ps a thread can steps.Copy seen found (lets.copies s names) in
@@ -170,7 +175,8 @@ copy_goes_on threads ls ps a thread from to seen can hf ht names none found =
     (λ k r e. cc)
     (λ u n e. absurd cc)
     found c (copy_balances s seen.found.0 (a.regs thread to) none c.2) (stepped_up a.word s steps.Copy seen.found.0 c)
-    (copy_row (a.regs thread from) s (a.regs thread) to seen (with_reg a.regs thread to (Ref s) thread) names none refl
+    (copy_row (a.regs thread from) (facts_shown a) s (a.regs thread) to seen
+    (with_reg a.regs thread to (Ref s) thread) names none refl counted
     (becomes a.regs thread to (Ref s)))
     (contents_left threads ls ps a thread (ops.Copy from to) seen steps.Copy can.told refl (λ r v e. cc) found c (λ e. cc))
 

@@ -1,5 +1,5 @@
 -- Before the first line, over a line that begins a phase, and what is the same to the eye.
-use Rattle.std.proofs.Common.{◌≡◌, ℕ, ◌+◌, ◌<◌, List, [], ◌∷◌, ◌++◌, length, refl, sym, ◌∙◌, subst, arith, zero, suc, length-append}
+use Rattle.std.proofs.Common.{◌≡◌, ℕ, Bool, ◌+◌, ◌<◌, List, [], ◌∷◌, ◌++◌, length, refl, sym, ◌∙◌, subst, arith, zero, suc, length-append}
 use Rattle.std.proofs.Math.Path.{fun_ext}
 use Rattle.pa_slot.specs.declared.word.SlotName.{SlotName}
 use Rattle.pa_slot.specs.Count.{held_of, number_of}
@@ -43,6 +43,7 @@ starts_told threads rules = record {
   lines = refl;
   rows = refl;
   sized = λ x seen n c e. absurd (omega (arith, c.1));
+  placed = λ x seen n c e. absurd (omega (arith, c.1));
   exchanged = exchanged_none (λ k. []) (λ k. Nothing) 2 (λ k. refl) (λ k. refl);
   runs = runs_none (λ s. 0) (λ s. refl);
   numbers = numbers_none 2 (omega arith);
@@ -65,6 +66,7 @@ phase_goes_on threads ls ps a h =
       lines = h.lines ∙ sym (lines_phase a.rules 2 1 ls);
       rows = h.rows;
       sized = h.sized;
+      placed = h.placed;
       exchanged = subst X (sym later) (exchanged_later a.cells a.held ps (length ls + 2) h.exchanged);
       runs = h.runs;
       numbers = subst N (sym later) (numbers_later (marks_of ps) (length ls + 2) a.word h.numbers);
@@ -73,17 +75,22 @@ phase_goes_on threads ls ps a h =
       handles = h.handles;
     }
 
--- with other contents and usable numbers if they don't count
-changed : (threads : ℕ) (ls : List Line) (ps : List Played) (a : Shown) (content usable : SlotName → ℕ) → IsToldTo threads ls ps a
+-- with other contents, usable numbers and partitions if they don't count
+changed : (threads : ℕ) (ls : List Line) (ps : List Played) (a : Shown) (content usable : SlotName → ℕ) (plain : SlotName → Bool)
+    → IsToldTo threads ls ps a
     → ((s : SlotName) → held_of (a.word s) ≡ 1 → content s ≡ a.content s) → ((s : SlotName) → 0 < a.word s → usable s ≡ a.usable s)
-    → IsToldTo threads ls ps (record a { content = content; usable = usable })
-changed threads ls ps a content usable h same sizes = record {
+    → ((s : SlotName) → 0 < a.word s → plain s ≡ a.plain s)
+    → IsToldTo threads ls ps (record a { content = content; usable = usable; plain = plain })
+changed threads ls ps a content usable plain h same sizes places = record {
   lines = h.lines;
-  rows = rows_on a.rules.version a.word a.word a.usable usable a.cells a.cells
-      (record { used = λ s u. u; sizes = sizes; exchanges = λ k j e i. i }) no_regs ps a.regs h.rows;
+  rows = rows_on a.rules.version a.word a.word a.usable usable a.plain plain a.cells a.cells
+      (record { used = λ s u. u; sizes = sizes; places = places; exchanges = λ k j e i. i }) no_regs ps a.regs h.rows;
   sized = λ x seen n c e.
       let made : 0 < a.word seen.slot = made_used ps a.word x seen n h.runs c e in
       h.sized x seen n c e ∙ sym (sizes seen.slot made);
+  placed = λ x seen n c e.
+      let made : 0 < a.word seen.slot = made_used ps a.word x seen n h.runs c e in
+      h.placed x seen n c e ∙ sym (places seen.slot made);
   exchanged = h.exchanged;
   runs = h.runs;
   numbers = h.numbers;
@@ -110,4 +117,4 @@ like_is_told threads ls ps a b h like =
     let U : Rules → Type 0 = λ x. IsToldTo threads ls ps (record b { rules = x }) in
     subst U (sym like.rules)
     (subst W (sym word) (subst C (sym cells)
-    (subst H (sym held) (subst R (sym regs) (changed threads ls ps a b.content b.usable h like.content like.usable)))))
+    (subst H (sym held) (subst R (sym regs) (changed threads ls ps a b.content b.usable b.plain h like.content like.usable like.plain)))))

@@ -91,7 +91,9 @@ swap_goes_on threads ls ps a thread cell reg can hk hr =
       );
       regs = ap (λ (r : Regs). with_thread a.regs thread r) (sym (reg_here a.regs thread reg (reg_of (a.held cell))));
       usable = refl;
+      plain = refl;
       sized = λ u n f. absurd cc;
+      placed = λ u n f. absurd cc;
       stand = grown_kept cell e a.cells b.cells grows;
       exchanged = exchanged_more a.cells b.cells a.held b.held ps line x cell reg e can.told.exchanged grows refl
           (at_held a.held cell (handle_of (a.regs thread reg)))

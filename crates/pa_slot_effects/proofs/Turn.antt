@@ -1,5 +1,5 @@
 -- A line more: what its op does to registers, cells, words and contents, and that with its record all is known again.
-use Rattle.std.proofs.Common.{◌≡◌, ℕ, ◌+◌, ◌<◌, inl, inr, List, [], ◌∷◌, ◌++◌, length, Option, Some, None, Contains, refl, sym, ap, ◌∙◌, subst, arith, length-append}
+use Rattle.std.proofs.Common.{◌≡◌, ℕ, Bool, ◌+◌, ◌<◌, inl, inr, List, [], ◌∷◌, ◌++◌, length, Option, Some, None, Contains, refl, sym, ap, ◌∙◌, subst, arith, length-append}
 use Rattle.std.proofs.Math.Path.{fun_ext}
 use Rattle.std.proofs.lemmas.Bool.{cases_eq, eq-eqb, ne_eqb}
 use Rattle.std.proofs.lemmas.List.Elements.{Contains-push_cases}
@@ -19,10 +19,10 @@ use Rattle.pa_record.specs.declared.entry.Answer.TheVariants.{Made}
 use Rattle.pa_record.specs.declared.history.CellEntry.{CellEntry}
 use Rattle.pa_rules.specs.declared.played.Played.{Played}
 use Rattle.pa_rules.specs.Played.{mark_of, marks_of, AreLines}
-use Rattle.pa_rules.specs.Registers.{AllRegs, Row, no_regs, with_thread}
+use Rattle.pa_rules.specs.Registers.{AllRegs, Row, no_regs, with_thread, is_plain_op}
 use Rattle.pa_rules.specs.Cells.{IsExchange}
 use Rattle.pa_slot_effects.specs.Shown.{Shown, AreHandles}
-use Rattle.pa_slot_effects.specs.Known.{facts_of, RowsNamed, AreSized, HasExchanged, HasNumbers, HasContents, IsToldTo}
+use Rattle.pa_slot_effects.specs.Known.{facts_of, RowsNamed, AreSized, ArePlaced, HasExchanged, HasNumbers, HasContents, IsToldTo}
 use Rattle.pa_slot_effects.specs.Turns.{played_at, LeadsTo}
 use Rattle.pa_slot_effects.proofs.Marking.{with_mark, marks_push, answer_line, line_or}
 use Rattle.pa_slot_effects.proofs.Lines.{lines_more}
@@ -101,10 +101,12 @@ looks_used (Some n) word after t m e none =
 -- What the record x of the next line does. Its exchange, if it is one, and its contents are stated for all records so far.
 pub record IsTurn (threads : ℕ) (ps : List Played) (x : Played) (a b : Shown) : Type 0 where
   pub rules : b.rules ≡ a.rules
-  pub row : Row (facts_of b.rules.version a.usable b.cells) x.op (a.regs x.thread) x.answer (b.regs x.thread)
+  pub row : Row (facts_of b.rules.version a.usable a.plain b.cells) x.op (a.regs x.thread) x.answer (b.regs x.thread)
   pub regs : b.regs ≡ with_thread a.regs x.thread (b.regs x.thread)
   pub usable : b.usable ≡ a.usable
+  pub plain : b.plain ≡ a.plain
   pub sized : (seen : Seen) (n : ℕ) → x.answer ≡ Made seen n → n ≡ a.usable seen.slot
+  pub placed : (seen : Seen) (n : ℕ) → x.answer ≡ Made seen n → is_plain_op x.rules x.op ≡ a.plain seen.slot
   pub stand : (k j : ℕ) (e : CellEntry) → IsExchange a.cells k j e → IsExchange b.cells k j e
   pub exchanged : HasExchanged b.cells b.held (ps ++ x ∷ []) (x.line + 1)
   pub tells : Tells (mark_of x) a.word b.word
@@ -125,26 +127,33 @@ turn_extends threads ls ps thread op answer a b h t =
     (answer_line line op answer) t.tells in
     let W : List Mark → Type 0 = λ ms. HasWords ms (line + 1) b.word in
     let all : HasWords (marks_of qs) (line + 1) b.word = subst W (sym (marks_push ps x)) words in
-    let rows : RowsNamed b.rules.version b.word a.usable b.cells no_regs ps a.regs =
-    subst (λ (k : Rules). RowsNamed k.version b.word a.usable b.cells no_regs ps a.regs) (sym t.rules)
-    (rows_on a.rules.version a.word b.word a.usable a.usable a.cells b.cells
-    (record { used = up; sizes = λ s u. refl; exchanges = t.stand }) no_regs ps a.regs h.rows) in
-    let R : AllRegs → Type 0 = λ end. RowsNamed b.rules.version b.word a.usable b.cells no_regs qs end in
+    let rows : RowsNamed b.rules.version b.word a.usable a.plain b.cells no_regs ps a.regs =
+    subst (λ (k : Rules). RowsNamed k.version b.word a.usable a.plain b.cells no_regs ps a.regs) (sym t.rules)
+    (rows_on a.rules.version a.word b.word a.usable a.usable a.plain a.plain a.cells b.cells
+    (record { used = up; sizes = λ s u. refl; places = λ s u. refl; exchanges = t.stand }) no_regs ps a.regs h.rows) in
+    let R : AllRegs → Type 0 = λ end. RowsNamed b.rules.version b.word a.usable a.plain b.cells no_regs qs end in
     let more : R b.regs = subst R (sym t.regs)
-    (rows_push b.rules.version b.word a.usable b.cells no_regs ps a.regs x (b.regs thread) rows
+    (rows_push b.rules.version b.word a.usable a.plain b.cells no_regs ps a.regs x (b.regs thread) rows
     (λ r. used_on a.word b.word up (a.regs thread r) (h.handles.named thread r)) t.row) in
-    let U : (SlotName → ℕ) → Type 0 = λ u. RowsNamed b.rules.version b.word u b.cells no_regs qs b.regs in
+    let U : (SlotName → ℕ) → Type 0 = λ u. RowsNamed b.rules.version b.word u a.plain b.cells no_regs qs b.regs in
+    let V : (SlotName → Bool) → Type 0 = λ v. RowsNamed b.rules.version b.word b.usable v b.cells no_regs qs b.regs in
     let S : (SlotName → ℕ) → Type 0 = λ u. AreSized u qs in
+    let P : (SlotName → Bool) → Type 0 = λ v. ArePlaced v qs in
     let X : ℕ → Type 0 = λ l. HasExchanged b.cells b.held qs l in
     let N : ℕ → Type 0 = λ l. HasNumbers (marks_of qs) l b.word in
     let sized : AreSized a.usable qs = λ y seen n c e. elim (Contains-push_cases ps x y c) [
       | inl old ↦ h.sized y seen n old e
       | inr new ↦ t.sized seen n (ap (λ (z : Played). z.answer) new ∙ e)
     ] in
+    let placed : ArePlaced a.plain qs = λ y seen n c e. elim (Contains-push_cases ps x y c) [
+      | inl old ↦ h.placed y seen n old e
+      | inr new ↦ ap (λ (z : Played). is_plain_op z.rules z.op) (sym new) ∙ t.placed seen n (ap (λ (z : Played). z.answer) new ∙ e)
+    ] in
     record {
       lines = lines_more b.rules ls ps thread op answer (subst (λ (k : Rules). AreLines k ls ps) (sym t.rules) h.lines);
-      rows = subst U (sym t.usable) more;
+      rows = subst V (sym t.plain) (subst U (sym t.usable) more);
       sized = subst S (sym t.usable) sized;
+      placed = subst P (sym t.plain) placed;
       exchanged = subst X (sym later) t.exchanged;
       runs = all.runs;
       numbers = subst N (sym later) all.numbers;

@@ -45,13 +45,15 @@ worked_turns =
       word = λ s. refl;
       content = λ s h. refl;
       usable = λ s h. absurd (omega (arith, h));
+      plain = λ s h. absurd (omega (arith, h));
     }) in
     let s : ℕ → Seen = λ w. record { slot = record { start = 16384; born = 0 }; found = record { 0 = w } } in
     let one = made_goes_on 1 [] [] before 0 0 0 1 (s 0) (can [] [] before start (omega arith)) (omega arith) tt
-    (omega arith) refl refl refl refl in
+    (omega arith) refl refl refl refl refl in
     let ls = Do 0 (Alloc 0 0 1) ∷ [] in
     let ps = played_at (first_rules 1) [] 0 (Alloc 0 0 1) (Made (s 0) (usable_of 1 1)) ∷ [] in
-    let two = copy_goes_on 1 ls ps made 0 0 1 (s 16777217) (can ls ps made one (omega arith)) (omega arith) (omega arith) refl tt refl in
+    let two = copy_goes_on 1 ls ps made 0 0 1 (s 16777217) (can ls ps made one (omega arith)) (omega arith) (omega arith)
+    refl tt refl refl in
     let ms = ls ++ Do 0 (Copy 0 1) ∷ [] in
     let qs = ps ++ played_at (first_rules 1) ls 0 (Copy 0 1) (Done (s 16777217)) ∷ [] in
     let three = free_goes_on 1 ms qs copied 0 0 (s 33554435) (can ms qs copied two (omega arith)) (omega arith) refl refl in

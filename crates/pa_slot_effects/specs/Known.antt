@@ -1,5 +1,5 @@
 -- What is known of the records so far, if they left this state.
-use Rattle.std.specs.Prelude.{◌≡◌, ℕ, ◌+◌, ◌<◌, ◌≤◌, List, [], ◌∷◌, length, Contains}
+use Rattle.std.specs.Prelude.{◌≡◌, ℕ, Bool, ◌+◌, ◌<◌, ◌≤◌, List, [], ◌∷◌, length, Contains}
 use Rattle.pa_slot.specs.declared.word.SlotName.{SlotName}
 use Rattle.pa_slot.specs.Count.{number_of, held_of}
 use Rattle.pa_slot.specs.Run.{Mark}
@@ -13,7 +13,7 @@ use Rattle.pa_record.specs.declared.history.Held.{Held}
 use Rattle.pa_record.specs.declared.history.Held.TheVariants.{Nothing}
 use Rattle.pa_rules.specs.declared.played.Played.{Played}
 use Rattle.pa_rules.specs.Played.{AreLines, marks_of}
-use Rattle.pa_rules.specs.Registers.{Regs, AllRegs, Facts, Row, no_regs, with_thread}
+use Rattle.pa_rules.specs.Registers.{Regs, AllRegs, Facts, Row, no_regs, with_thread, is_plain_op}
 use Rattle.pa_rules.specs.Cells.{IsChain, IsExchange}
 use Rattle.pa_rules.specs.Order.{IsOfLine}
 use Rattle.pa_rules.specs.Contents.{IsContent, AreExactContents}
@@ -22,21 +22,32 @@ use Rattle.pa_rules.specs.Sizes.{usable_of}
 use Rattle.pa_legal.specs.Known.{FindsInUse}
 use Rattle.pa_slot_effects.specs.Shown.{Shown, IsUsed, AreHandles}
 
--- what the rows need, by the version, the usable numbers of slots and the histories so far
-abbrev pub facts_of : ℕ → (SlotName → ℕ) → (ℕ → List CellEntry) → Facts
-facts_of version usable cells = record { usable_of = usable_of version; usable_at = usable; cells = cells }
+-- what the rows need, by the version, the usable numbers of slots, which of them are plain, and the histories so far
+abbrev pub facts_of : ℕ → (SlotName → ℕ) → (SlotName → Bool) → (ℕ → List CellEntry) → Facts
+facts_of version usable plain cells =
+    record { usable_of = usable_of version; usable_at = usable; plain_at = plain; cells = cells }
+
+-- what they need by all that is shown
+abbrev pub facts_shown : Shown → Facts
+facts_shown a = facts_of a.rules.version a.usable a.plain a.cells
 
 -- Each answer is the one that the rows require, and leads to the next registers. Before each, the thread's registers name slots
 -- that were stepped on by now.
-abbrev pub RowsNamed : ℕ → (SlotName → ℕ) → (SlotName → ℕ) → (ℕ → List CellEntry) → AllRegs → List Played → AllRegs → Type 0
-RowsNamed version word usable cells all [] end = end ≡ all
-RowsNamed version word usable cells all (x ∷ xs) end =
-    ((r : ℕ) → IsUsed word (all x.thread r)) × (next : Regs) × Row (facts_of version usable cells) x.op (all x.thread) x.answer next
-    × RowsNamed version word usable cells (with_thread all x.thread next) xs end
+abbrev pub RowsNamed : ℕ → (SlotName → ℕ) → (SlotName → ℕ) → (SlotName → Bool) → (ℕ → List CellEntry) → AllRegs → List Played →
+    AllRegs → Type 0
+RowsNamed version word usable plain cells all [] end = end ≡ all
+RowsNamed version word usable plain cells all (x ∷ xs) end =
+    ((r : ℕ) → IsUsed word (all x.thread r)) × (next : Regs) × Row (facts_of version usable plain cells) x.op (all x.thread) x.answer next
+    × RowsNamed version word usable plain cells (with_thread all x.thread next) xs end
 
 -- a slot is made with as many usable bytes as it has
 abbrev pub AreSized : (SlotName → ℕ) → List Played → Type 0
 AreSized usable ps = (x : Played) (seen : Seen) (n : ℕ) → Contains ps x → x.answer ≡ Made seen n → n ≡ usable seen.slot
+
+-- a slot is plain exactly if its partition, that of the ops which made it, is
+abbrev pub ArePlaced : (SlotName → Bool) → List Played → Type 0
+ArePlaced plain ps =
+    (x : Played) (seen : Seen) (n : ℕ) → Contains ps x → x.answer ≡ Made seen n → is_plain_op x.rules x.op ≡ plain seen.slot
 
 -- what a cell holds after these exchanges
 abbrev pub chain_end : Held → List CellEntry → Held
@@ -73,8 +84,9 @@ pub record HasContents (ps : List Played) (word content : SlotName → ℕ) : Ty
 -- `length ls + 2`, and its phase `phases_in ls`.
 pub record IsToldTo (threads : ℕ) (ls : List Line) (ps : List Played) (a : Shown) : Type 0 where
   pub lines : AreLines a.rules ls ps
-  pub rows : RowsNamed a.rules.version a.word a.usable a.cells no_regs ps a.regs
+  pub rows : RowsNamed a.rules.version a.word a.usable a.plain a.cells no_regs ps a.regs
   pub sized : AreSized a.usable ps
+  pub placed : ArePlaced a.plain ps
   pub exchanged : HasExchanged a.cells a.held ps (length ls + 2)
   pub runs : HasRuns (marks_of ps) a.word
   pub numbers : HasNumbers (marks_of ps) (length ls + 2) a.word

@@ -1,5 +1,5 @@
 -- The laws of turns: the start, each op's turn, a line that begins a phase, and the end.
-use Rattle.std.specs.Prelude.{◌≡◌, ℕ, ◌+◌, ◌<◌, ◌≤◌, List, [], ◌∷◌, ◌++◌, length, map, AllPairs, Contains}
+use Rattle.std.specs.Prelude.{◌≡◌, ℕ, false, nat_le, ◌+◌, ◌<◌, ◌≤◌, ◌&&◌, List, [], ◌∷◌, ◌++◌, length, map, AllPairs, Contains}
 use Rattle.pa_slot.specs.declared.word.SlotName.{SlotName}
 use Rattle.pa_slot.specs.declared.word.Step.TheVariants as steps
 use Rattle.pa_slot.specs.Count.{held_of, refs_of, CanStep}
@@ -17,6 +17,7 @@ use Rattle.pa_record.specs.declared.history.Held.TheVariants.{Nothing}
 use Rattle.pa_trace.specs.Limits.{register_count, cell_count}
 use Rattle.pa_rules.specs.declared.register.Register.TheVariants.{Own, Ref}
 use Rattle.pa_rules.specs.declared.played.Played.{Played}
+use Rattle.pa_rules.specs.Nexts.{is_owner}
 use Rattle.pa_rules.specs.Played.{AreDue, entry_of, marks_of}
 use Rattle.pa_rules.specs.Registers.{Row, no_regs, AreRegisters}
 use Rattle.pa_rules.specs.Cells.{AreCells}
@@ -27,7 +28,7 @@ use Rattle.pa_rules.specs.Sizes.{usable_of}
 use Rattle.pa_rules.specs.FileOrder.{AreCellsInFileOrder, AreNumbersInFileOrder}
 use Rattle.pa_legal.specs.Known.{FindsInUse}
 use Rattle.pa_slot_effects.specs.Shown.{Shown, IsLike}
-use Rattle.pa_slot_effects.specs.Known.{IsToldTo, facts_of}
+use Rattle.pa_slot_effects.specs.Known.{IsToldTo, facts_shown}
 use Rattle.pa_slot_effects.specs.Turns.{CanPlay, LeadsTo, Names, HoldsNone, TellsNone, Looks, after_made, after_copy, after_reset, after_free, after_write, after_swap}
 
 -- before the first line: no handle, no exchange, and every word is 0
@@ -41,6 +42,7 @@ nothing_shown rules =
       word = λ s. 0;
       content = λ s. 0;
       usable = λ s. 0;
+      plain = λ s. false;
     }
 
 -- no lines and no records leave this, for any number of threads and any rules
@@ -63,7 +65,7 @@ NoneGoesOn =
     (threads : ℕ) (ls : List Line) (ps : List Played) (a : Shown) (thread : ℕ) (op : Op) (answer : Answer) →
     CanPlay threads ls ps a thread →
     TellsNone answer → ((cell reg : ℕ) → op ≡ ops.Swap cell reg → ⊥) →
-    Row (facts_of a.rules.version a.usable a.cells) op (a.regs thread) answer (a.regs thread) → LeadsTo threads ls ps thread op answer a
+    Row (facts_shown a) op (a.regs thread) answer (a.regs thread) → LeadsTo threads ls ps thread op answer a
 
 -- a look at the slot that a register names leaves all as it is
 abbrev pub LookGoesOn : Type 0
@@ -72,7 +74,7 @@ LookGoesOn =
     CanPlay threads ls ps a thread →
     reg < register_count → Names seen.slot (a.regs thread reg) → seen.found.0 ≡ a.word seen.slot → Looks a seen answer →
     ((cell reg : ℕ) → op ≡ ops.Swap cell reg → ⊥) →
-    Row (facts_of a.rules.version a.usable a.cells) op (a.regs thread) answer (a.regs thread) → LeadsTo threads ls ps thread op answer a
+    Row (facts_shown a) op (a.regs thread) answer (a.regs thread) → LeadsTo threads ls ps thread op answer a
 
 -- an allocation of a free slot, into a register without a handle, leaves what `after_made` says
 abbrev pub MadeGoesOn : Type 0
@@ -82,15 +84,15 @@ MadeGoesOn =
     reg < register_count → HoldsNone (a.regs thread reg) → size ≤ greatest_size → seen.found.0 ≡ a.word seen.slot →
     held_of seen.found.0 ≡ 0 →
     refs_of seen.found.0 ≡ 0 →
-    a.usable seen.slot ≡ usable_of a.rules.version size →
+    a.usable seen.slot ≡ usable_of a.rules.version size → nat_le a.rules.plain_from partition ≡ a.plain seen.slot →
     LeadsTo threads ls ps thread (ops.Alloc reg partition size) (Made seen (usable_of a.rules.version size)) (after_made a thread reg seen)
 
--- a copy from a register that has a handle to one that has none leaves what `after_copy` says
+-- a copy from a register that has a handle, and is no owner of a plain slot, to one that has none leaves what `after_copy` says
 abbrev pub CopyGoesOn : Type 0
 CopyGoesOn =
     (threads : ℕ) (ls : List Line) (ps : List Played) (a : Shown) (thread from to : ℕ) (seen : Seen) → CanPlay threads ls ps a thread →
     from < register_count → to < register_count → Names seen.slot (a.regs thread from) → HoldsNone (a.regs thread to) →
-    seen.found.0 ≡ a.word seen.slot →
+    seen.found.0 ≡ a.word seen.slot → (is_owner (a.regs thread from) && a.plain seen.slot) ≡ false →
     LeadsTo threads ls ps thread (ops.Copy from to) (Done seen) (after_copy a thread to seen)
 
 -- a reset of a raw_ptr leaves what `after_reset` says

@@ -1,5 +1,6 @@
--- What the lines so far left, by the names of slots: registers, cells, and each slot's word, content and usable number.
-use Rattle.std.specs.Prelude.{◌≡◌, ℕ, zero, suc, ◌+◌, ◌<◌, ◌==◌, if◌then◌else◌, List, [], ◌∷◌, ◌++◌}
+-- What the lines so far left, by the names of slots: registers, cells, and each slot's word, content and usable number, and whether
+-- it is plain.
+use Rattle.std.specs.Prelude.{◌≡◌, ℕ, Bool, zero, suc, ◌+◌, ◌<◌, ◌==◌, if◌then◌else◌, List, [], ◌∷◌, ◌++◌}
 use Rattle.pa_slot.specs.declared.word.SlotName.{SlotName}
 use Rattle.pa_slot.specs.Count.{held_of, refs_of}
 use Rattle.pa_slot.specs.Run.{same_slot}
@@ -20,6 +21,7 @@ pub record Shown : Type 0 where
   pub word : SlotName → ℕ
   pub content : SlotName → ℕ
   pub usable : SlotName → ℕ
+  pub plain : SlotName → Bool
 
 -- the registers of all threads, with one register of one thread changed
 abbrev pub with_reg : AllRegs → ℕ → ℕ → Reg → AllRegs
@@ -37,7 +39,7 @@ with_held held cell h k = if k == cell then h else held k
 abbrev pub with_entry : (ℕ → List CellEntry) → ℕ → CellEntry → ℕ → List CellEntry
 with_entry cells cell e k = if k == cell then cells k ++ e ∷ [] else cells k
 
--- b looks the same as a: a content counts while the slot is held, and a usable number once the slot was stepped on
+-- b looks the same as a: a content counts while the slot is held, and a usable number and the partition once the slot was stepped on
 pub record IsLike (a b : Shown) : Type 0 where
   pub rules : b.rules ≡ a.rules
   pub regs : (t r : ℕ) → b.regs t r ≡ a.regs t r
@@ -46,6 +48,7 @@ pub record IsLike (a b : Shown) : Type 0 where
   pub word : (s : SlotName) → b.word s ≡ a.word s
   pub content : (s : SlotName) → held_of (a.word s) ≡ 1 → b.content s ≡ a.content s
   pub usable : (s : SlotName) → 0 < a.word s → b.usable s ≡ a.usable s
+  pub plain : (s : SlotName) → 0 < a.word s → b.plain s ≡ a.plain s
 
 -- 1 if the register owns the slot, and else 0
 abbrev pub owns : SlotName → Reg → ℕ

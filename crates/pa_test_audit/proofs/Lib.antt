@@ -1,2 +1,2 @@
-pub mod Homed
+pub mod OneHome
 pub mod Shortness

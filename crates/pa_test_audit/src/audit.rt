@@ -82,7 +82,7 @@ fn text(alloc: Global, lines: &[&[u8]]) -> Result<Vec<u8>, OutOfMemory> {
 }
 
 // The verdict on a run of these lines.
-fn told_of(alloc: Global, trace: &[u8], lines: &[&[u8]]) -> Option<Verdict> {
+pub(crate) fn told_of(alloc: Global, trace: &[u8], lines: &[&[u8]]) -> Option<Verdict> {
     match text(alloc, lines) {
         Ok(run) => tell(alloc, trace, run.as_slice()),
         Err(OutOfMemory) => None,

@@ -1,10 +1,8 @@
 ghost use Rattle.std.specs.Prelude.{◌-◌, ◌<◌, ◌^◌, length};
 
-use crate::caches::{
-    FREE, alloc_of, are_homed, are_short, are_within, dense_of, done, fill, give, made, numbered,
-    purge, row,
-};
+use crate::caches::{FREE, alloc_of, dense_of, done, fill, give, made, numbered, purge, row};
 use crate::contents::RULES;
+use crate::homed::{are_homed, are_short, are_within};
 use pa_audit_holders::{Books, CachesFound, caches_meet, homes_of};
 use pa_audit_records::{Salt, record_ends, records_of};
 use pa_buckets::Class;

@@ -55,7 +55,7 @@ pub(crate) fn entry(line: u32, thread: u32, answer: Answer) -> Entry {
 }
 
 // The slot at a count word.
-fn seen(word: u64) -> Seen {
+pub(crate) fn seen(word: u64) -> Seen {
     Seen {
         slot: FIRST,
         found: Word(word),

@@ -1,9 +1,8 @@
 ghost use Rattle.std.specs.Prelude.{◌-◌, ◌<◌, ◌^◌, length};
 
-use crate::caches::{
-    FREE, alloc_of, are_short, dense_of, done, fill, give, made, numbered, row, single,
-};
+use crate::caches::{FREE, alloc_of, dense_of, done, fill, give, made, numbered, row, single};
 use crate::contents::RULES;
+use crate::homed::are_short;
 use pa_audit_holders::holders_meet;
 use pa_audit_records::{Salt, records_of, slots_meet};
 use pa_buckets::Class;

@@ -14,7 +14,11 @@ mod heap;
 #[cfg(test)]
 mod holders;
 #[cfg(test)]
+mod homed;
+#[cfg(test)]
 mod input;
+#[cfg(test)]
+mod plain;
 #[cfg(test)]
 mod purges;
 #[cfg(test)]

@@ -1,6 +1,6 @@
 //! What is another thing in version 2: the usable bytes of a request, and its class or direct map.
 use crate::caches::{self, alloc_of};
-use crate::contents::{FIRST, entry, line};
+use crate::contents::{FIRST, entry, line, rules_of};
 use crate::heap::{self, First, record, roots_of, seen, took};
 use crate::purges;
 use crate::records::registers_of;
@@ -21,7 +21,7 @@ fn told_of_usable(
     let seen = seen(FIRST.start, FIRST.born, 0);
     let lines = [line(0, alloc_of(size))];
     let entries = [entry(2, 0, Answer::Made { seen, usable })];
-    registers_of(alloc, version, &lines, &entries, &[])
+    registers_of(alloc, rules_of(version), &lines, &entries, &[])
 }
 
 // The usable bytes of either version, also of a request that is a direct map in version 1 and has a class in version 2.

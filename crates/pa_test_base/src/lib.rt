@@ -31,3 +31,5 @@ mod sources;
 mod text;
 #[cfg(test)]
 mod trace;
+#[cfg(test)]
+mod trace_heads;

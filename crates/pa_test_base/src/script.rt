@@ -34,7 +34,7 @@ fn fault_of(alloc: Global, line: &str) -> Result<Option<TraceFault>, Fail> {
     Ok(read_script(alloc, text.as_bytes()).err())
 }
 
-// A line that is outside the grammar, and one with a number past its limit.
+// A line or a head that is outside the grammar, and a line with a number past its limit.
 #[test]
 fn names_faults_of_scripts(rt: HostRuntime) -> Result<(), Fail> {
     for line in [
@@ -67,8 +67,14 @@ fn names_faults_of_scripts(rt: HostRuntime) -> Result<(), Fail> {
             "{line}"
         );
     }
-    let trace = "trace 1 region 1 partitions 1 threads 1\n";
-    assert!(rt; read_script(rt.alloc(), trace.as_bytes()).err() == Some(TraceFault::BadLine(1)));
+    for head in [
+        "trace 1 region 1 partitions 1 threads 1\n",
+        "script 1 region 1 partitions 1 threads 1 plain 0\n",
+        "script 3 region 1 partitions 1 threads 1 plain 0\n",
+    ] {
+        let fault = read_script(rt.alloc(), head.as_bytes()).err();
+        assert!(rt; fault == Some(TraceFault::BadLine(1)), "{head}");
+    }
     Ok(())
 }
 

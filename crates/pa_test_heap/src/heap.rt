@@ -51,11 +51,12 @@ fn has_told_nothing<N: Name>(worker: &Worker<N>) -> bool {
 // Three ops of a worker, and then its stake is handed over and taken back.
 fn play<N: Name, R: Abort>(rt: &R, alloc: Global, region: Region, seat: Seat) -> Result<(), Fail>
     requires regions { (region ≡ N.region) × (seat.region ≡ N.region) }
+    requires plain { N.plain_from ≡ 1 }
     requires first { seat.view ≡ first_view 262144 3 }
 {
     let (heap, mut seat) = Heap::<N>::open(alloc, 1, region, seat, 3)?;
     let note = hand_over(heap.region(), &mut seat);
-    let mut worker = Worker::<N>::open(alloc, note, 2, 1, 1, 3)?;
+    let mut worker = Worker::<N>::open(alloc, note, 2, 1, 1, 1, 3)?;
     assert!(rt; worker.copy(&heap, 2, 0, 63) == Answer::Nothing);
     assert!(rt; worker.write(&heap, 3, 5, 7) == Answer::Nothing);
     assert!(rt; worker.deref(&heap, 5, 63, 0) == Answer::Nothing);
@@ -112,11 +113,12 @@ fn purge_twice<N: Name, R: Abort + Wait>(
     seat: Seat,
 ) -> Result<(), Fail>
     requires regions { (region ≡ N.region) × (seat.region ≡ N.region) }
+    requires plain { N.plain_from ≡ 2 }
     requires first { seat.view ≡ first_view 262144 3 }
 {
     let (heap, mut seat) = Heap::<N>::open(alloc, 1, region, seat, 3)?;
     let note = hand_over(heap.region(), &mut seat);
-    let mut worker = Worker::<N>::open(alloc, note, 2, 2, 1, 3)?;
+    let mut worker = Worker::<N>::open(alloc, note, 2, 2, 2, 1, 3)?;
     let first = worker.purge(rt, &heap, 4)?;
     let second = worker.purge(rt, &heap, 7)?;
     assert!(rt; has_purged_nothing(&worker, [first, second]));

@@ -1,4 +1,5 @@
-//! A worker's slot in quarantine: it is freed while a `raw_ptr` points to it, read through that, and returned by the reset.
+//! A worker's slot in quarantine: it is freed while a `raw_ptr` points to it, read through that, and returned by the reset. A slot of a
+//! plain partition, to which no `raw_ptr` is made.
 ghost use Rattle.std.specs.Prelude.{◌≡◌};
 ghost use Rattle.pa_region.specs.Start.{first_view};
 ghost use Rattle.pa_thread_state.specs.Starts.{HasAllStakes};
@@ -33,9 +34,13 @@ fn seen(found: u64) -> Seen {
     }
 }
 
+// The answer of a step on that slot.
+fn done(found: u64) -> Answer {
+    Answer::Done { seen: seen(found) }
+}
+
 // Whether these are the answers of the seven lines.
 fn are_due(answers: [Answer; 7]) -> bool {
-    let done = |found: u64| Answer::Done { seen: seen(found) };
     let due = [
         Answer::Made {
             seen: seen(0),
@@ -86,11 +91,12 @@ fn play<N: Name, R: Abort + Wait>(
     seat: Seat,
 ) -> Result<(), Fail>
     requires regions { (region ≡ N.region) × (seat.region ≡ N.region) }
+    requires plain { N.plain_from ≡ 1 }
     requires first { seat.view ≡ first_view 262144 7 }
 {
     let (heap, mut seat) = Heap::<N>::open(alloc, 1, region, seat, LINES)?;
     let note = hand_over(heap.region(), &mut seat);
-    let mut worker = Worker::<N>::open(alloc, note, 0, 1, 1, LINES)?;
+    let mut worker = Worker::<N>::open(alloc, note, 0, 1, 1, 1, LINES)?;
     let made = worker.alloc(rt, &heap, 2, 0, 0, 8)?;
     let written = worker.write(&heap, 3, 0, 7);
     let copied = worker.copy(&heap, 4, 0, 1);
@@ -117,11 +123,12 @@ fn play_dense<N: Name, R: Abort + Wait>(
     seat: Seat,
 ) -> Result<(), Fail>
     requires regions { (region ≡ N.region) × (seat.region ≡ N.region) }
+    requires plain { N.plain_from ≡ 1 }
     requires first { seat.view ≡ first_view 262144 7 }
 {
     let (heap, mut seat) = Heap::<N>::open(alloc, 1, region, seat, LINES)?;
     let note = hand_over(heap.region(), &mut seat);
-    let mut worker = Worker::<N>::open(alloc, note, 0, 1, 2, LINES)?;
+    let mut worker = Worker::<N>::open(alloc, note, 0, 1, 1, 2, LINES)?;
     let made = worker.alloc(rt, &heap, 2, 0, 0, 130)?;
     let freed = worker.free(rt, &heap, 3, 0)?;
     let listed = worker.cached(0);
@@ -132,12 +139,7 @@ fn play_dense<N: Name, R: Abort + Wait>(
             usable: 136
         }
     );
-    assert!(rt;
-        freed
-            == Answer::Done {
-                seen: seen(0x100_0001)
-            }
-    );
+    assert!(rt; freed == done(0x100_0001));
     assert!(rt;
         listed
             == Tally {
@@ -154,4 +156,42 @@ fn play_dense<N: Name, R: Abort + Wait>(
 fn a_worker_of_version_2_has_its_classes(rt: HostRuntime) -> Result<(), Fail> {
     let (region, seat) = Region::new(rt.alloc(), 1, LINES)?;
     play_dense::<Brand, _>(&rt, rt.alloc(), region, seat)
+}
+
+// A worker whose one partition is plain makes a slot, copies it to its own register and to an empty one, writes it and frees it: no
+// `raw_ptr` to it is made, and the free returns it.
+fn play_plain<N: Name, R: Abort + Wait>(
+    rt: &R,
+    alloc: Global,
+    region: Region,
+    seat: Seat,
+) -> Result<(), Fail>
+    requires regions { (region ≡ N.region) × (seat.region ≡ N.region) }
+    requires plain { N.plain_from ≡ 0 }
+    requires first { seat.view ≡ first_view 262144 7 }
+{
+    let (heap, mut seat) = Heap::<N>::open(alloc, 1, region, seat, LINES)?;
+    let note = hand_over(heap.region(), &mut seat);
+    let mut worker = Worker::<N>::open(alloc, note, 0, 1, 0, 3, LINES)?;
+    let made = worker.alloc(rt, &heap, 2, 0, 0, 8)?;
+    let filled = worker.copy(&heap, 3, 0, 0);
+    let uncounted = worker.copy(&heap, 4, 0, 1);
+    let written = worker.write(&heap, 5, 0, 7);
+    let freed = worker.free(rt, &heap, 6, 0)?;
+    assert!(rt;
+        made == Answer::Made {
+            seen: seen(0),
+            usable: 8
+        }
+    );
+    assert!(rt; filled == Answer::Filled && uncounted == Answer::Uncounted);
+    assert!(rt; [written, freed] == [done(0x100_0001), done(0x200_0001)]);
+    assert!(rt; worker.records().len() == 5 && worker.counts()[0].entered == 0);
+    Ok(())
+}
+
+#[test]
+fn no_raw_ptr_to_a_plain_slot_is_made(rt: HostRuntime) -> Result<(), Fail> {
+    let (region, seat) = Region::new(rt.alloc(), 1, LINES)?;
+    play_plain::<Brand, _>(&rt, rt.alloc(), region, seat)
 }

@@ -296,3 +296,43 @@ end
     assert!(rt; gives(rt.alloc(), text, due)?);
     Ok(())
 }
+
+// A partition without reference counts beside one with them: no `raw_ptr` to its slots, and each free of them returns the slot.
+#[test]
+fn plain_partition(rt: HostRuntime) -> Result<(), Fail> {
+    let text = b"trace 3 region 2 partitions 2 threads 1 plain 1
+0 A r0 p1 8
+0 C r0 r1
+0 W r0 0000000000000005
+0 F r0
+0 A r2 p0 8
+0 C r2 r3
+0 A r0 p1 8
+0 X c0 r0
+0 X c0 r4
+0 C r4 r1
+";
+    let due = b"run 1
+e 2 0 made 00004000.0 8 0000000000000000
+e 3 0 uncounted
+e 4 0 done 00004000.0 0000000001000001
+e 5 0 done 00004000.0 0000000002000001
+e 6 0 made 00204000.1 8 0000000000000000
+e 7 0 done 00204000.1 0000000001000001
+e 8 0 made 00004000.0 8 0000000003000000
+e 9 0 swapped 0
+e 10 0 swapped 1
+e 11 0 uncounted
+r 0 0 6 fill 59 1 00204000.1@0 00204010.1@0 00204020.1@0 00204030.1@0 00204040.1@0 00204050.1@0 00204060.1@0 00204070.1@0
+r 1 0 2 fill 59 0 00004000.0@0 00004010.0@0 00004020.0@0 00004030.0@0 00004040.0@0 00004050.0@0 00004060.0@0 00004070.0@0
+p 0 2 1 take 1 0
+p 1 6 0 take 1 1
+c 0 0 9 own:00004000.0 -
+c 0 1 10 - own:00004000.0
+s 1 0 live 1 16 quarantined 0 0 cached 7 112 root 248 3968 committed 4096 reserved 2097152 full 0 active 1 empty 0 decommitted 0
+s 1 1 live 1 16 quarantined 0 0 cached 7 112 root 248 3968 committed 4096 reserved 2097152 full 0 active 1 empty 0 decommitted 0
+end
+";
+    assert!(rt; gives(rt.alloc(), text, due)?);
+    Ok(())
+}

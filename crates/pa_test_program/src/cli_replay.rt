@@ -131,6 +131,44 @@ end
     ),
 ];
 
+// A trace of version 3 with a plain partition: an owner of its slots is copied to no register, not before and not after its way through
+// a cell.
+const PLAIN: &[u8] = b"trace 3 region 2 partitions 2 threads 1 plain 1
+0 A r0 p1 8
+0 C r0 r1
+0 W r0 0000000000000005
+0 F r0
+0 A r2 p0 8
+0 C r2 r3
+0 A r0 p1 8
+0 X c0 r0
+0 X c0 r4
+0 C r4 r1
+";
+
+// What `replay` writes for it.
+const PLAIN_TEXT: &[u8] = b"run 1
+e 2 0 made 00004000.0 8 0000000000000000
+e 3 0 uncounted
+e 4 0 done 00004000.0 0000000001000001
+e 5 0 done 00004000.0 0000000002000001
+e 6 0 made 00204000.1 8 0000000000000000
+e 7 0 done 00204000.1 0000000001000001
+e 8 0 made 00004000.0 8 0000000003000000
+e 9 0 swapped 0
+e 10 0 swapped 1
+e 11 0 uncounted
+r 0 0 6 fill 59 1 00204000.1@0 00204010.1@0 00204020.1@0 00204030.1@0 00204040.1@0 00204050.1@0 00204060.1@0 00204070.1@0
+r 1 0 2 fill 59 0 00004000.0@0 00004010.0@0 00004020.0@0 00004030.0@0 00004040.0@0 00004050.0@0 00004060.0@0 00004070.0@0
+p 0 2 1 take 1 0
+p 1 6 0 take 1 1
+c 0 0 9 own:00004000.0 -
+c 0 1 10 - own:00004000.0
+s 1 0 live 1 16 quarantined 0 0 cached 7 112 root 248 3968 committed 4096 reserved 2097152 full 0 active 1 empty 0 decommitted 0
+s 1 1 live 1 16 quarantined 0 0 cached 7 112 root 248 3968 committed 4096 reserved 2097152 full 0 active 1 empty 0 decommitted 0
+end
+";
+
 // The answers that line 8 may have: before the free, while it poisons, and after it.
 const READS: [&[u8]; 3] = [
     b"word 00004000.0 0000000002000003 0000000000000000",
@@ -174,6 +212,15 @@ fn traces_of_version_2_are_replayed(rt: HostRuntime) -> Result<(), Fail> {
 }
 
 #[test]
+fn no_raw_ptr_to_a_plain_slot_is_made(rt: HostRuntime) -> Result<(), Fail> {
+    for piece in [1, 7, 1000] {
+        let text = replayed(&rt, rt.alloc(), PLAIN, piece)?;
+        assert!(rt; text.as_slice() == PLAIN_TEXT);
+    }
+    Ok(())
+}
+
+#[test]
 fn what_was_freed_reads_poison_on_another_thread(rt: HostRuntime) -> Result<(), Fail> {
     for _ in 0..20 {
         let text = replayed(&rt, rt.alloc(), FREED, 1000)?;
@@ -205,7 +252,7 @@ fn a_read_beside_a_free_has_one_of_three_answers(rt: HostRuntime) -> Result<(), 
 #[test]
 fn what_is_refused_tells_no_run(rt: HostRuntime) -> Result<(), Fail> {
     let replay = words(rt.alloc(), &["replay"])?;
-    let faulty: [(&[u8], &[u64], Status); 7] = [
+    let faulty: [(&[u8], &[u64], Status); 9] = [
         (b"", &[], Status::BadLine(1)),
         (
             b"trace 1 region 1 partitions 1 threads 1\n0 P\n0 P",
@@ -223,7 +270,17 @@ fn what_is_refused_tells_no_run(rt: HostRuntime) -> Result<(), Fail> {
             Status::Limit(1),
         ),
         (
-            b"trace 3 region 1 partitions 1 threads 1 plain 0\n",
+            b"trace 3 region 1 partitions 2 threads 1 plain 3\n",
+            &[],
+            Status::Limit(1),
+        ),
+        (
+            b"trace 3 region 1 partitions 1 threads 1\n",
+            &[],
+            Status::BadLine(1),
+        ),
+        (
+            b"trace 4 region 1 partitions 1 threads 1 plain 0\n",
             &[],
             Status::BadLine(1),
         ),

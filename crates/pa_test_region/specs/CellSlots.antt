@@ -13,6 +13,7 @@ use Rattle.pa_region.specs.Shares.{Share}
 use Rattle.pa_region.specs.Lending.{CanLend}
 use Rattle.pa_cells.specs.declared.handle.Handle.{Handle}
 use Rattle.pa_cells.specs.Handles.{HasSeenMade, ParkedHandle}
+use Rattle.pa_cells.specs.Cells.{IsOf}
 
 -- the slot's title: 32 bytes from byte 16384 on, out of what the pool's entry 0 took
 abbrev pub test_slot : Title
@@ -54,6 +55,6 @@ pub record IsForCells (v : View) : Type 0 where
 abbrev pub IsReadyIn : TableId → Share → Type 0
 IsReadyIn region s = (s.region ≡ region) × CanLend s.view
 
--- what came out of a cell is of this region
-abbrev pub IsFoundIn : TableId → Option ParkedHandle → Type 0
-IsFoundIn region found = IfSome found (λ p. p.note.region ≡ region)
+-- what came out of a cell is of this region, and sealed exactly if its partition is plain
+abbrev pub IsFoundIn : TableId → ℕ → Option ParkedHandle → Type 0
+IsFoundIn region plain_from found = IfSome found (IsOf region plain_from)

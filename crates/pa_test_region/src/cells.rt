@@ -1,12 +1,16 @@
 //! Handles go into cells and come out, on one thread and on two.
-ghost use Rattle.std.specs.Prelude.{◌≡◌, ◌<◌, IfSome, IfOk, ℕ, true, false, [], ◌∷◌};
+ghost use Rattle.std.specs.Prelude.{◌≡◌, ◌<◌, ◌&&◌, IfSome, IfOk, ℕ, true, false, [], ◌∷◌};
 ghost use Rattle.pa_trace.specs.Limits.{cell_count};
+ghost use Rattle.pa_slot.specs.declared.title.Title.{Title};
+ghost use Rattle.pa_slot.specs.Titles.{same_title};
+ghost use Rattle.pa_slot.specs.Holdings.{one};
 ghost use Rattle.pa_region.specs.Views.{sealed_of, stake_of};
 ghost use Rattle.pa_region.specs.Lists.{keeper_of, list_of};
-ghost use Rattle.pa_region.specs.Hands.{HoldsGiven, left_after};
+ghost use Rattle.pa_region.specs.Hands.{HoldsGiven, first_sealed, is_clean_of, left_after};
 ghost use Rattle.pa_region.specs.Marks.{parcel_of};
 ghost use Rattle.pa_region.specs.Lending.{CanLend};
 ghost use Rattle.pa_cells.specs.Handles.{HasSeenMade, TakesHandle, handle_item};
+ghost use Rattle.pa_cells.specs.Cells.{IsOf};
 ghost use Rattle.pa_test_region.specs.CellSlots.{test_slot, test_handle, test_entry, IsFresh, HasTestSlot, IsForCells, IsReadyIn, IsFoundIn};
 
 use pa_cells::{
@@ -95,10 +99,11 @@ fn park(region: &Region, seat: &mut Seat, own: bool) -> Parked
     requires region { seat.old.region ≡ region.now }
     requires holds { HoldsGiven (handle_item own test_slot) seat.old.view }
     requires made { HasSeenMade test_handle seat.old.view }
-    requires sealed { sealed_of seat.old.view test_slot ≡ 0 }
     ensures regions { (seat.new.region ≡ region.now) × (result.note.region ≡ region.now) }
     ensures left { seat.new.view ≡ left_after (parcel_of (handle_item own test_slot ∷ []) 0 []) seat.old.view }
     ensures handle { (result.handle ≡ test_handle) × (result.own ≡ own) }
+    ensures sealed { (t : Title) → sealed_of result.note.view t
+        ≡ one ((own && same_title test_slot t) && first_sealed (is_clean_of test_slot) seat.old.view.owns) }
 {
     what_was_handed_can_wait();
     let note = region.hand(seat, &[item(own)], 0, &[]);
@@ -109,14 +114,14 @@ fn park(region: &Region, seat: &mut Seat, own: bool) -> Parked
     }
 }
 
-// The Own and a Ref of the slot, each on its way.
-fn make_both(region: &Region, seat: &mut Seat) -> (Parked, Parked)
-    requires region { seat.old.region ≡ region.now }
+// The Own and a Ref of the slot, each on its way. Partition 0 isn't plain.
+fn make_both<N: Name>(region: &Region, seat: &mut Seat) -> (Parked, Parked)
+    requires region { (region.now ≡ N.region) × (seat.old.region ≡ region.now) }
+    requires plain { N.plain_from ≡ 1 }
     requires fresh { IsFresh seat.old.view }
-    ensures ready { IsReadyIn region.now seat.new }
-    ensures notes { (result.0.note.region ≡ region.now) × (result.1.note.region ≡ region.now) }
-    ensures own { (result.0.handle ≡ test_handle) × (result.0.own ≡ true) }
-    ensures other { (result.1.handle ≡ test_handle) × (result.1.own ≡ false) }
+    ensures ready { IsReadyIn N.region seat.new }
+    ensures own { IsOf N.region N.plain_from result.0 }
+    ensures other { IsOf N.region N.plain_from result.1 }
 {
     givers_lack_handles();
     make_slot(region, seat);
@@ -151,10 +156,10 @@ fn swap<N: Name>(
 ) -> Option<(u32, Option<Parked>)>
     requires region { region.now ≡ N.region }
     requires seat { IsReadyIn N.region seat.old }
-    requires given { IsFoundIn N.region given }
+    requires given { IsFoundIn N.region N.plain_from given }
     requires cell { cell < cell_count }
     ensures seat { IsReadyIn N.region seat.new }
-    ensures found { IfSome result (λ r. IsFoundIn N.region r.1) }
+    ensures found { IfSome result (λ r. IsFoundIn N.region N.plain_from r.1) }
 {
     cells.exchange(region, seat, line, cell, given).ok()
 }
@@ -215,10 +220,11 @@ fn exchange_here<N: Name, R: Abort>(
     keeper: Note,
 ) -> Result<(), Fail>
     requires regions { (region.now ≡ N.region) × (seat.old.region ≡ N.region) × (keeper.region ≡ N.region) }
+    requires plain { N.plain_from ≡ 1 }
     requires fresh { IsFresh seat.old.view }
     requires cells { IsForCells keeper.view }
 {
-    let (own, other) = make_both(region, seat);
+    let (own, other) = make_both::<N>(region, seat);
     let mut cells = Cells::<N>::new(alloc, keeper)?;
     let (index, found) = swap(&mut cells, region, seat, 3, 3, Some(own)).ok_or("no memory")?;
     assert!(rt; index == 0 && found.is_none());
@@ -256,9 +262,9 @@ fn swap_as<N: Name, R: Wait>(
 ) -> Option<(Seat, u32, Option<Parked>)>
     requires region { region.now ≡ N.region }
     requires seat { IsReadyIn N.region seat }
-    requires given { IsFoundIn N.region given }
+    requires given { IsFoundIn N.region N.plain_from given }
     requires cell { cell < cell_count }
-    ensures { IfSome result (λ r. IsReadyIn N.region r.0 × IsFoundIn N.region r.2) }
+    ensures { IfSome result (λ r. IsReadyIn N.region r.0 × IsFoundIn N.region N.plain_from r.2) }
 {
     let mut seat = seat;
     let mut held = cells.lock(rt);
@@ -290,26 +296,27 @@ fn exchange_on_two<N: Name + Send + Sync, R: Threads + Wait + Abort + Sync>(
     keeper: Note,
 ) -> Result<(), Fail>
     requires regions { (region.now ≡ N.region) × (seat.region ≡ N.region) × (keeper.region ≡ N.region) }
+    requires plain { N.plain_from ≡ 1 }
     requires fresh { IsFresh seat.view }
     requires second { IsReadyIn N.region second }
     requires cells { IsForCells keeper.view }
 {
     let mut seat = seat;
-    let (own, other) = make_both(region, &mut seat);
+    let (own, other) = make_both::<N>(region, &mut seat);
     let cells = Mutex::new(Cells::<N>::new(alloc, keeper)?);
     let (here, there) = join(
         rt,
         || -> Option<(Seat, u32, Option<Parked>)>
             requires region { region.now ≡ N.region }
             requires seat { IsReadyIn N.region seat }
-            requires given { other.note.region ≡ N.region }
-            ensures { IfSome result (λ r. IsReadyIn N.region r.0 × IsFoundIn N.region r.2) }
+            requires given { IsOf N.region N.plain_from other }
+            ensures { IfSome result (λ r. IsReadyIn N.region r.0 × IsFoundIn N.region N.plain_from r.2) }
         { swap_as(rt, region, &cells, seat, 3, 9, Some(other)) },
         || -> Option<(Seat, u32, Option<Parked>)>
             requires region { region.now ≡ N.region }
             requires seat { IsReadyIn N.region second }
-            requires given { own.note.region ≡ N.region }
-            ensures { IfSome result (λ r. IsReadyIn N.region r.0 × IsFoundIn N.region r.2) }
+            requires given { IsOf N.region N.plain_from own }
+            ensures { IfSome result (λ r. IsReadyIn N.region r.0 × IsFoundIn N.region N.plain_from r.2) }
         { swap_as(rt, region, &cells, second, 4, 10, Some(own)) },
     );
     let (seat, first, _) = here.ok_or("no memory")?;
@@ -320,12 +327,12 @@ fn exchange_on_two<N: Name + Send + Sync, R: Threads + Wait + Abort + Sync>(
         || -> Option<(Seat, u32, Option<Parked>)>
             requires region { region.now ≡ N.region }
             requires seat { IsReadyIn N.region seat }
-            ensures { IfSome result (λ r. IsReadyIn N.region r.0 × IsFoundIn N.region r.2) }
+            ensures { IfSome result (λ r. IsReadyIn N.region r.0 × IsFoundIn N.region N.plain_from r.2) }
         { swap_as(rt, region, &cells, seat, 5, 10, None) },
         || -> Option<(Seat, u32, Option<Parked>)>
             requires region { region.now ≡ N.region }
             requires seat { IsReadyIn N.region second }
-            ensures { IfSome result (λ r. IsReadyIn N.region r.0 × IsFoundIn N.region r.2) }
+            ensures { IfSome result (λ r. IsReadyIn N.region r.0 × IsFoundIn N.region N.plain_from r.2) }
         { swap_as(rt, region, &cells, second, 6, 9, None) },
     );
     let (_, index, found) = here.ok_or("no memory")?;

@@ -90,6 +90,7 @@ fn knows_what_registers_own(rt: HostRuntime) -> Result<(), Fail> {
         region: 1,
         partitions: 2,
         threads: 1,
+        plain: 0,
     };
     let mut player = Player::new(rt.alloc(), head)?;
     assert!(rt; player.own(0, 5).is_none());

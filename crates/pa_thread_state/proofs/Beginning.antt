@@ -15,7 +15,7 @@ use Rattle.pa_rules.proofs.Versions.{class_cases, place_within, real_in}
 use Rattle.pa_cache.specs.Caches.{CacheList, IsCache}
 use Rattle.pa_rules.specs.declared.register.Register.TheVariants.{Empty}
 use Rattle.pa_rules.specs.Lists.{cache_place}
-use Rattle.pa_op_specs.specs.Stocks.{StockRegister, WorkerLists, IsStock, IsForThread, IsMadeFor, AreNoLists, titles_in, owns_one, refs_one, no_cache}
+use Rattle.pa_op_specs.specs.Stocks.{StockRegister, WorkerLists, IsStock, IsForThread, IsMadeFor, AreNoLists, titles_in, owns_one, seals_one, refs_one, no_cache}
 use Rattle.pa_thread_state.proofs.Leaving.{seals_own}
 use Rattle.pa_thread_state.proofs.Places.{class_in_turn, turn_real, titles_here, titles_none}
 
@@ -72,17 +72,25 @@ real_class version n lists k are = elim (cases_lt k n) [
 ]
 
 -- the thread state is sound
-pub new_stock : (thread partitions : ℕ) (v : View) (caches : WorkerLists) → IsForThread thread v → unclean_of v ≡ 0 → partitions ≤ 4 →
-    AreNoLists caches.version (4 * class_total caches.version) caches.lists →
-    IsStock (record { thread = thread; partitions = partitions; view = v; registers = replicate 64 Empty; caches = caches })
-new_stock thread partitions v caches for clean few are = record {
+pub new_stock : (thread partitions plain_from : ℕ) (v : View) (caches : WorkerLists) → IsForThread thread v → unclean_of v ≡ 0 →
+    partitions ≤ 4 → AreNoLists caches.version (4 * class_total caches.version) caches.lists →
+    IsStock (record {
+      thread = thread;
+      partitions = partitions;
+      plain_from = plain_from;
+      view = v;
+      registers = replicate 64 Empty;
+      caches = caches;
+    })
+new_stock thread partitions plain_from v caches for clean few are = record {
   partitions = few;
   handles = record {
     count = long_replicate 64;
     owns = λ t. let e = for.unused t in let s = sum_by-replicate (owns_one t) 64 Empty in omega arith;
     refs = λ t. let e = for.unused t in let s = sum_by-replicate (refs_one t) 64 Empty in omega arith;
     clean = clean;
-    sealed = λ t. let e = for.unused t in let s = seals_own v t in omega arith;
+    sealed = λ t. let e = for.unused t in let s = seals_own v t in let n = sum_by-replicate (seals_one plain_from t) 64 Empty in
+        omega arith;
     made = λ i. subst (IsMadeFor v) (sym (all_empty 64 i)) tt;
   };
   lists = record {

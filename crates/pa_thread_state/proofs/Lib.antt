@@ -28,6 +28,7 @@ pub mod Receiving
 pub mod Released
 pub mod Allocated
 pub mod Settled
+pub mod Seals
 pub mod Chained
 pub mod Places
 pub mod Summing

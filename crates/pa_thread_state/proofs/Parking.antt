@@ -20,17 +20,19 @@ use Rattle.pa_region.specs.Hands.{CanHand, HoldsGiven, left_after, united}
 use Rattle.pa_region.specs.Lending.{Keeps}
 use Rattle.pa_region.specs.Marks.{parcel_of}
 use Rattle.pa_region.specs.Aware.{IsAware}
+use Rattle.pa_region.specs.Leaves.{HandsKeepSeals}
 use Rattle.pa_region.proofs.Pieces.{owns_have, seals_have, refs_have}
 use Rattle.pa_cells.specs.declared.handle.Handle.{Handle}
-use Rattle.pa_cells.specs.Handles.{ParkedHandle, IsParked, HasSeenMade, LacksHandle, GiversLackHandles, TakersHaveHandles, SlotsStaySeen, handle_item}
+use Rattle.pa_cells.specs.Handles.{ParkedHandle, IsParked, IsSealedFrom, HasSeenMade, LacksHandle, GiversLackHandles, TakersHaveHandles, SlotsStaySeen, handle_item}
 use Rattle.pa_rules.specs.declared.register.Register.TheVariants.{Empty, Own, Ref, Freed, Cleared}
-use Rattle.pa_op_specs.specs.Stocks.{StockRegister, StockValue, IsStock, IsMadeFor, HasNoHandle, register_in, owns_one, refs_one}
+use Rattle.pa_op_specs.specs.Stocks.{StockRegister, StockValue, IsStock, IsMadeFor, HasNoHandle, register_in, owns_one, seals_one, refs_one}
 use Rattle.pa_op_specs.specs.Workers.{HasItsStake}
 use Rattle.pa_thread_state.specs.Exchanging.{handle_register, register_of}
 use Rattle.pa_op_specs.proofs.Registers.{sum_set, made_set}
 use Rattle.pa_op_specs.proofs.Seeing.{made_for_kept}
 use Rattle.pa_op_specs.proofs.Stakes.{least_is}
 use Rattle.pa_thread_state.proofs.Leaving.{clean_own}
+use Rattle.pa_thread_state.proofs.Seals.{seal_owned, hands_plain, handle_seals}
 use Rattle.pa_op_specs.proofs.Stocks.{register_owns, register_points, stock_kept, stock_with}
 use Rattle.pa_op_specs.proofs.Entered.{Rests}
 use Rattle.pa_root.proofs.Seeing.{free_kept}
@@ -100,9 +102,10 @@ parked_rests own h v lacks = record {
 abbrev pub parked_stock_of : StockValue → Bool → Handle → ℕ → StockValue
 parked_stock_of s own h reg = record s { view = parked_view s.view own h; registers = slice_set s.registers reg Empty }
 
-pub parked_stock : GiversLackHandles → (s : StockValue) (reg : ℕ) (own : Bool) (h : Handle) → IsStock s → HasItsStake s → reg < 64 →
-    register_in s.registers reg ≡ handle_register own h → IsStock (parked_stock_of s own h reg)
-parked_stock law s reg own h is stake below has =
+pub parked_stock : GiversLackHandles → HandsKeepSeals → (s : StockValue) (reg : ℕ) (own : Bool) (h : Handle) → IsStock s →
+    IsAware s.view → HasItsStake s → reg < 64 → register_in s.registers reg ≡ handle_register own h →
+    IsStock (parked_stock_of s own h reg)
+parked_stock law seals s reg own h is aware stake below has =
     let w = parked_view s.view own h in
     let lacks = law own h.title 0 s.view (holds_given s reg own h is below has) in
     let rests = parked_rests own h s.view lacks in
@@ -118,7 +121,10 @@ parked_stock law s reg own h is stake below has =
           let d : refs_one u (register_in rs reg) ≡ one (not own && same_title h.title u) = ap (refs_one u) has ∙ handle_points own h u in
           omega arith;
       clean = (lacks.lends ((least_is s.thread s.view is.stake stake).1, is.handles.clean)).1;
-      sealed = λ u. let a = lacks.sealed u in let b = is.handles.sealed u in omega arith;
+      sealed = λ u. let a = lacks.sealed u in let b = is.handles.sealed u in
+          let c = sum_set (seals_one s.plain_from u) rs reg Empty Empty inside in
+          let d = ap (seals_one s.plain_from u) has ∙ handle_seals s.plain_from own h u in
+          let e = hands_plain seals s reg own h is aware below has u in omega arith;
       made = made_set w rs reg Empty inside tt (λ k. made_for_kept s.view w refl (register_in rs k) (is.handles.made k));
     })
     refl rests.frees rests.stakes
@@ -212,9 +218,9 @@ made_parked false h v m = m
 -- the thread state with it
 pub taken_stock : TakersHaveHandles → BeginningsJoin → SlotsStaySeen → (s : StockValue) (reg : ℕ) (p : ParkedHandle) → IsStock s →
     reg < 64 →
-    HasNoHandle (register_in s.registers reg) → IsParked p → IsAware (united s.view p.note.view) →
+    HasNoHandle (register_in s.registers reg) → IsParked p → IsSealedFrom s.plain_from p → IsAware (united s.view p.note.view) →
     IsStock (record s { view = united s.view p.note.view; registers = slice_set s.registers reg (register_of p) })
-taken_stock law joins stays s reg p is below bare parked both =
+taken_stock law joins stays s reg p is below bare parked seals both =
     let w = united s.view p.note.view in
     let takes = law p s.view parked both in
     let rs = s.registers in
@@ -229,7 +235,10 @@ taken_stock law joins stays s reg p is below bare parked both =
           let d = none_pointed u (register_in rs reg) bare in let e = handle_points p.own p.handle u in omega arith;
       clean = let a = is.handles.clean in let b = parked.clean in
           omega (arith, sum_by-append (λ (o : OwnTitle). one (is_unclean o.state)) s.view.owns p.note.view.owns);
-      sealed = λ u. let a = takes.sealed u in let b = is.handles.sealed u in let c = parked.sealed u in omega arith;
+      sealed = λ u. let a = takes.sealed u in let b = is.handles.sealed u in let c = seals u in
+          let d = sum_set (seals_one s.plain_from u) rs reg r Empty inside in
+          let e = none_owned u (register_in rs reg) bare in let f = seal_owned s.plain_from u (register_in rs reg) in
+          let g = handle_seals s.plain_from p.own p.handle u in omega arith;
       made = made_set w rs reg r inside (made_parked p.own p.handle w takes.made)
           (λ k. made_for_more stays s.view w (λ q. (joins s.view p.note.view q both).0) (register_in rs k) (is.handles.made k));
     })

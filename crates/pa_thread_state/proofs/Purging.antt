@@ -244,6 +244,7 @@ purged_gives law s w line p aware now low (j, it) =
       budget = keeps.budget;
       same = (refl, refl, refl);
       version = refl;
+      plain = refl;
       lists = enters.lists;
       grows = enters.grows;
       numbers = λ n t well free. law s.view w n t aware now keeps well (let e = free_kept s.view w t keeps in omega arith);

@@ -9,7 +9,7 @@ use Rattle.pa_region.specs.Moves.{CanCount, after_count}
 use Rattle.pa_region.specs.Leaves.{CountLeaves}
 use Rattle.pa_cells.specs.declared.handle.Handle.{Handle}
 use Rattle.pa_rules.specs.declared.register.Register.TheVariants.{Empty, Ref, Cleared}
-use Rattle.pa_op_specs.specs.Stocks.{StockValue, IsStock, register_in, owns_one, refs_one}
+use Rattle.pa_op_specs.specs.Stocks.{StockValue, IsStock, register_in, owns_one, seals_one, refs_one}
 use Rattle.pa_op_specs.specs.Workers.{HasItsStake}
 use Rattle.pa_op_specs.proofs.Registers.{sum_set, made_set}
 use Rattle.pa_op_specs.proofs.Seeing.{made_for_kept}
@@ -43,7 +43,8 @@ cleared_stock counts s r word h is stake budget below ref =
       refs = λ u. let a = leaves.refs u in let b = is.handles.refs u in let c = sum_set (refs_one u) rs r Cleared Empty inside in
           let d : refs_one u (register_in rs r) ≡ one (same_title t u) = ap (refs_one u) ref in omega arith;
       clean = is.handles.clean;
-      sealed = is.handles.sealed;
+      sealed = λ u. let b = is.handles.sealed u in let c = sum_set (seals_one s.plain_from u) rs r Cleared Empty inside in
+          let d : seals_one s.plain_from u (register_in rs r) ≡ 0 = ap (seals_one s.plain_from u) ref in omega arith;
       made = made_set w rs r Cleared inside tt (λ k. made_for_kept s.view w refl (register_in rs k) (is.handles.made k));
     })
     refl (λ u. let a = leaves.frees u in omega arith) leaves.entry.stakes

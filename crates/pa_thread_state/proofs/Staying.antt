@@ -26,8 +26,9 @@ use Rattle.pa_thread_state.specs.Lists.{WorkerCaches, lists_in}
 use Rattle.pa_thread_state.proofs.Chained.{as_many, lists_kept}
 
 -- the thread state that these make: its lists are those that the view has of the caches
-abbrev pub stock_of : (thread partitions : ℕ) → View → List StockRegister → WorkerCaches → StockValue
-stock_of thread partitions v rs cs = record { thread = thread; partitions = partitions; view = v; registers = rs; caches = lists_in v cs }
+abbrev pub stock_of : (thread partitions plain_from : ℕ) → View → List StockRegister → WorkerCaches → StockValue
+stock_of thread partitions plain_from v rs cs =
+    record { thread = thread; partitions = partitions; plain_from = plain_from; view = v; registers = rs; caches = lists_in v cs }
 
 -- each listed title has in the other view the first word that it has
 abbrev pub FirstsStay : StockValue → View → Type 0

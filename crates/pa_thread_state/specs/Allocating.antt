@@ -1,5 +1,5 @@
 -- The parts of an allocation: a title comes off a list, in a fill or as a direct map, and is issued to a register.
-use Rattle.std.specs.Prelude.{◌≡◌, ℕ, ◌-◌, ◌<◌, ◌≤◌, List, [], ◌∷◌, length, Option, Some, None, Contains, All, AllPairs, ◌≢◌, slice_set}
+use Rattle.std.specs.Prelude.{◌≡◌, ℕ, ◌-◌, ◌<◌, ◌≤◌, List, [], ◌∷◌, length, Option, Some, None, Contains, All, AllPairs, ◌≢◌, Bool, true, false, slice_set}
 use Rattle.pa_slot.specs.declared.title.Title.{Title}
 use Rattle.pa_slot.specs.declared.word.Step.TheVariants.{Issue}
 use Rattle.pa_slot.specs.Count.{number_of}
@@ -12,7 +12,7 @@ use Rattle.pa_record.specs.Spans.{name_of}
 use Rattle.pa_trace.specs.Limits.{most_partitions}
 use Rattle.pa_region.specs.declared.view.View.{View}
 use Rattle.pa_region.specs.Views.{free_of, seen_of}
-use Rattle.pa_region.specs.Moves.{CanCount, IsFound, after_count}
+use Rattle.pa_region.specs.Moves.{CanCount, IsFound, after_count, after_sealed}
 use Rattle.pa_region.specs.Hands.{united}
 use Rattle.pa_region.specs.Aware.{IsAware}
 use Rattle.pa_region.specs.Shares.{Share}
@@ -22,7 +22,7 @@ use Rattle.pa_root.specs.declared.fault.FillFault.{FillFault}
 use Rattle.pa_root.specs.declared.fault.FillFault.TheVariants.{Full, OutOfMemory}
 use Rattle.pa_root.specs.Handing.{HasOnly, FillGives, MapGives, IsFullFor}
 use Rattle.pa_cells.specs.declared.handle.Handle.{Handle}
-use Rattle.pa_cells.specs.Handles.{HasSeenMade}
+use Rattle.pa_cells.specs.Handles.{HasSeenMade, is_plain}
 use Rattle.pa_rules.specs.Sizes.{HasClass}
 use Rattle.pa_cache.specs.Caches.{CacheList}
 use Rattle.pa_rules.specs.declared.register.Register.TheVariants.{Own}
@@ -55,8 +55,13 @@ abbrev pub Pops : ℕ → ℕ → Option Title → (before after : StockValue) �
 Pops p class None before after = (after ≡ before) × (titles_in before.caches p class ≡ [])
 Pops p class (Some t) before after = TakesFront p class t before after
 
+-- the view after an issue of the title that found this word, whose Own is sealed if the slot is plain
+abbrev pub after_issue : Bool → Title → ℕ → View → View
+after_issue true t word v = after_sealed t word v
+after_issue false t word v = after_count Issue t word v
+
 -- A free title was issued to a register, its content zeroed before, as the seat could do. The answer says what the step found,
--- and how many bytes are usable.
+-- and how many bytes are usable. The Own of a slot in a plain partition is sealed.
 pub record Issues (h : Handle) (reg : ℕ) (answer : Answer) (before after : StockValue) : Type 0 where
   pub seen : Seen
   pub answer_is : answer ≡ answers.Made seen (h.title.len - 8)
@@ -64,7 +69,7 @@ pub record Issues (h : Handle) (reg : ℕ) (answer : Answer) (before after : Sto
   pub slot : seen.slot ≡ name_of h.title
   pub after_is :
       after ≡ record before {
-        view = after_count Issue h.title seen.found.0 (zeroed h.title before.view);
+        view = after_issue (is_plain before.plain_from h) h.title seen.found.0 (zeroed h.title before.view);
         registers = slice_set before.registers reg (Own h);
       }
   pub able : CanCount Issue h.title (zeroed h.title before.view)

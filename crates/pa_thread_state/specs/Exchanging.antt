@@ -71,6 +71,7 @@ TakesIn reg (Some p) before after = TakesHandleIn reg p before after
 pub record IsUndone (before after : StockValue) : Type 0 where
   pub thread : after.thread ≡ before.thread
   pub partitions : after.partitions ≡ before.partitions
+  pub plain : after.plain_from ≡ before.plain_from
   pub registers : after.registers ≡ before.registers
   pub caches : after.caches ≡ before.caches
   pub frees : (t : Title) → free_of after.view t ≡ free_of before.view t

@@ -25,7 +25,7 @@ use Rattle.pa_op_specs.specs.Stocks.{StockValue, titles_in, listed_in}
 -- Acts of the line were entered in the list of partition p's root, and the lists have these titles then.
 --   entries, says: the entries, which say the acts
 --   logs: the log of the thread state's stake has them, and no other log has more
---   stakes, budget, same, version: stay
+--   stakes, budget, same, version, plain: stay
 --   lists, grows: it forgets nothing
 --   numbers: it has seen the same number of each title that it still holds free
 --   fewer, frees: it holds no more titles free than before, and still those that were on no list
@@ -38,6 +38,7 @@ pub record Gives (line p : ℕ) (acts : List RootAct) (left : ℕ → ℕ → Li
   pub budget : after.view.budget ≡ before.view.budget
   pub same : (after.thread ≡ before.thread) × (after.partitions ≡ before.partitions) × (after.registers ≡ before.registers)
   pub version : after.caches.version ≡ before.caches.version
+  pub plain : after.plain_from ≡ before.plain_from
   pub lists : (k : ℕ) → IsBeginning (list_of k before.view) (list_of k after.view)
   pub grows : (t : Title) → seen_of before.view t ≤ seen_of after.view t
   pub numbers : (n : ℕ) (t : Title) → IsWellFormed n t → 0 < free_of after.view t → seen_of after.view t ≡ seen_of before.view t

@@ -2,6 +2,7 @@
 ghost use Rattle.std.specs.Prelude.{◌≡◌, ◌<◌, IfOk, IfErr, OnErr, IfSome, IfNone, Some};
 ghost use Rattle.pa_trace.specs.Limits.{register_count, cell_count};
 ghost use Rattle.pa_cells.specs.Handles.{IsParked, handle_item};
+ghost use Rattle.pa_cells.specs.Cells.{IsOf};
 ghost use Rattle.pa_op_specs.specs.Stocks.{HasNoHandle, register_in};
 ghost use Rattle.pa_op_specs.specs.Workers.{HasItsStake};
 ghost use Rattle.pa_thread_state.specs.Exchanging.{Parks, SwapsHandles, TakesIn, handle_register};
@@ -13,7 +14,7 @@ use pa_cells::{
     what_was_handed_can_wait,
 };
 use pa_machine::Item;
-use pa_region::{Name, Note, Region, beginnings_join};
+use pa_region::{Name, Note, Region, beginnings_join, hands_keep_seals};
 use pa_rules::Register;
 use pa_slot::{OutOfMemory, Title};
 use std::sync::Wait;
@@ -25,7 +26,7 @@ impl<N: Name> Stock<N> {
         requires stake { HasItsStake self.old }
         requires reg { reg < register_count }
         ensures parks { Parks reg result self.old self.new }
-        ensures note { IfSome result (λ p. p.note.region ≡ N.region) }
+        ensures note { IfSome result (IsOf N.region N.plain_from) }
     {
         self.kept();
         match self.register(reg) {
@@ -44,10 +45,11 @@ impl<N: Name> Stock<N> {
         requires reg { reg < register_count }
         requires handle { register_in self.old.registers reg ≡ handle_register own handle }
         ensures parks { Parks reg (Some result) self.old self.new }
-        ensures note { result.note.region ≡ N.region }
+        ensures note { IsOf N.region N.plain_from result }
     {
         what_was_handed_can_wait();
         givers_lack_handles();
+        hands_keep_seals();
         self.kept();
         let item = own_or_ref(handle.title, own);
         let note = region.hand(&mut self.seat, &[item], 0, &[]);
@@ -66,10 +68,10 @@ impl<N: Name> Stock<N> {
         given: Option<Parked>,
     ) -> Result<(u32, Option<Parked>), Option<Parked>>
         requires stake { HasItsStake self.old }
-        requires given { IfSome given (λ p. p.note.region ≡ N.region) }
+        requires given { IfSome given (IsOf N.region N.plain_from) }
         requires cell { cell < cell_count }
         ensures made { IfOk result (λ r. SwapsHandles line cell given r.1 r.0 self.old self.new) }
-        ensures note { IfOk result (λ r. IfSome r.1 (λ p. p.note.region ≡ N.region)) }
+        ensures note { IfOk result (λ r. IfSome r.1 (IsOf N.region N.plain_from)) }
         ensures back { IfErr result (λ p. p ≡ given) }
         ensures same { OnErr result (self.new ≡ self.old) }
     {
@@ -86,7 +88,7 @@ impl<N: Name> Stock<N> {
     /// Takes in what was found: the register has it then.
     pub fn take_in(&mut self, region: &Region, found: Option<Parked>, reg: u32)
         requires region { region.now ≡ N.region }
-        requires note { IfSome found (λ p. p.note.region ≡ N.region) }
+        requires note { IfSome found (IsOf N.region N.plain_from) }
         requires reg { reg < register_count }
         requires none { HasNoHandle (register_in self.old.registers reg) }
         ensures taken { TakesIn reg found self.old self.new }
@@ -101,7 +103,7 @@ impl<N: Name> Stock<N> {
     /// Takes a handle that was given back in again, if there was one.
     pub fn put_back(&mut self, region: &Region, given: Option<Parked>, reg: u32)
         requires region { region.now ≡ N.region }
-        requires note { IfSome given (λ p. p.note.region ≡ N.region) }
+        requires note { IfSome given (IsOf N.region N.plain_from) }
         requires reg { reg < register_count }
         requires none { HasNoHandle (register_in self.old.registers reg) }
         ensures taken { IfSome given (λ p. TakesIn reg (Some p) self.old self.new) }
@@ -115,7 +117,7 @@ impl<N: Name> Stock<N> {
     // Takes this handle in.
     fn take_handle(&mut self, region: &Region, parked: Parked, reg: u32)
         requires region { region.now ≡ N.region }
-        requires note { parked.note.region ≡ N.region }
+        requires note { IsOf N.region N.plain_from parked }
         requires reg { reg < register_count }
         requires none { HasNoHandle (register_in self.old.registers reg) }
         ensures taken { TakesIn reg (Some parked) self.old self.new }

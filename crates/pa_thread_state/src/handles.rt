@@ -1,5 +1,5 @@
 //! Single calls on the slot of a register's handle.
-ghost use Rattle.std.specs.Prelude.{◌≡◌, ℕ, ◌+◌, ◌<◌, ◌≤◌, ◌↔◌};
+ghost use Rattle.std.specs.Prelude.{◌≡◌, ℕ, ◌+◌, ◌<◌, ◌≤◌, ◌↔◌, true, false};
 ghost use Rattle.pa_trace.specs.Limits.{register_count};
 ghost use Rattle.pa_op_specs.specs.Stocks.{HasHandleTo, HasNoHandle, register_in};
 ghost use Rattle.pa_op_specs.specs.Workers.{HasItsStake};
@@ -9,8 +9,12 @@ ghost use Rattle.pa_slot.specs.Titles.{content_count};
 ghost use Rattle.pa_slot.specs.declared.word.Step.TheVariants as steps;
 ghost use Rattle.pa_slot.specs.Run.{IsReturning};
 ghost use Rattle.pa_count.specs.declared.steps.Fate.TheVariants as fates;
-ghost use Rattle.pa_region.specs.Views.{free_of};
-ghost use Rattle.pa_quarantine.specs.Filling.{poisoned};
+ghost use Rattle.pa_slot.specs.declared.title.OwnState.TheVariants.{Clean, Dirty};
+ghost use Rattle.pa_region.specs.Views.{HasStake, free_of, own_as, sealed_of};
+ghost use Rattle.pa_region.specs.Waiting.{poisoned_owns};
+ghost use Rattle.pa_region.specs.Shares.{IsStepMade};
+ghost use Rattle.pa_cells.specs.Handles.{is_plain};
+ghost use Rattle.pa_quarantine.specs.Filling.{poisoned, poisoned_share};
 ghost use Rattle.pa_rules.specs.declared.register.Register.TheVariants as registers;
 
 use crate::stock::{Stock, slot_name};
@@ -18,10 +22,11 @@ use pa_cells::Handle;
 use pa_count::Fate;
 use pa_record::Seen;
 use pa_region::{
-    Name, Region, counted_steps_leave, entries_stand_in_logs, filled_words_have_the_value,
+    Name, Region, Seat, counted_steps_leave, entries_stand_in_logs, filled_words_have_the_value,
     looks_leave, owns_change, states_are_owns,
 };
 use pa_rules::Register;
+use pa_slot::{Title, Word};
 
 impl<N: Name> Stock<N> {
     /// Looks at the slot of a register's handle.
@@ -90,7 +95,7 @@ impl<N: Name> Stock<N> {
         }
     }
 
-    /// Makes the second register a `raw_ptr` to the slot that the first has a handle of.
+    /// Makes the second register a `raw_ptr` to the slot that the first has a handle of. An owner's slot is in no plain partition.
     pub fn point(&mut self, region: &Region, handle: Handle, from: u32, to: u32) -> Seen
         requires region { region.now ≡ N.region }
         requires stake { HasItsStake self.old }
@@ -98,6 +103,7 @@ impl<N: Name> Stock<N> {
         requires registers { (from < register_count) × (to < register_count) }
         requires handle { HasHandleTo handle (register_in self.old.registers from) }
         requires none { HasNoHandle (register_in self.old.registers to) }
+        requires counted { register_in self.old.registers from ≡ Own handle → is_plain self.old.plain_from handle ≡ false }
         ensures points { PointsTo handle to result self.old self.new }
         ensures budget { self.old.view.budget ≤ self.new.view.budget + 1 }
     {
@@ -155,12 +161,33 @@ impl<N: Name> Stock<N> {
         states_are_owns();
         self.kept();
         self.placed(handle, reg);
-        let (found, fate) = pa_quarantine::free_owned(region, &mut self.seat, handle.title);
+        let plain = self.is_plain(handle);
+        let (found, fate) = free_as(region, &mut self.seat, handle.title, plain);
         self.registers[reg as usize] = Register::Freed;
         let seen = Seen {
             slot: slot_name(handle),
             found,
         };
         (seen, fate)
+    }
+}
+
+// Poisons the content of an Own, which is sealed if the slot is plain, and frees it in one step. `Last` says that this returned the
+// slot, as it always does that of a sealed Own.
+fn free_as(region: &Region, seat: &mut Seat, title: Title, plain: bool) -> (Word, Fate)
+    requires region { seat.old.region ≡ region.now }
+    requires own { 0 < own_as seat.old.view title Clean + own_as seat.old.view title Dirty }
+    requires sealed { plain ≡ true → 0 < sealed_of seat.old.view title }
+    requires able { HasStake seat.old.view × (0 < seat.old.view.budget) }
+    requires begins { poisoned_owns seat.old.view ≡ 0 }
+    ensures made { IsStepMade steps.Free title result.0.0 (poisoned_share title seat.old) seat.new }
+    ensures fate { (result.1 ≡ fates.Last) ↔ IsReturning steps.Free result.0.0 }
+    ensures last { result.1 ≡ fates.Last → free_of seat.new.view title ≡ 1 }
+{
+    if plain {
+        let found = pa_quarantine::free_sealed(region, seat, title);
+        (found, Fate::Last)
+    } else {
+        pa_quarantine::free_owned(region, seat, title)
     }
 }

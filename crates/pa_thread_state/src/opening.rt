@@ -19,19 +19,21 @@ use std::alloc::Global;
 use std::marker::PhantomData;
 
 impl<N: Name> Stock<N> {
-    /// The thread state of a thread's worker at the start, in a run of a trace of this version:
-    /// its registers and lists are empty, and it has what the note has.
+    /// The thread state of a thread's worker at the start, in a run of a trace of this version whose partitions are plain from this
+    /// one on: its registers and lists are empty, and it has what the note has.
     pub fn open(
         alloc: Global,
         note: Note,
         thread: u32,
         partitions: u32,
+        plain_from: u32,
         version: u32,
     ) -> Result<Stock<N>, OutOfMemory>
         requires region { note.region ≡ N.region }
         requires note { IsForThread thread note.view }
         requires partitions { partitions ≤ most_partitions }
-        ensures { IfOk result (IsNewStock thread partitions version note.view) }
+        requires plain { plain_from ≡ N.plain_from }
+        ensures { IfOk result (IsNewStock thread partitions plain_from version note.view) }
     {
         let caches = Lists::new(alloc, version)?;
         let registers = empty_registers();
@@ -39,6 +41,7 @@ impl<N: Name> Stock<N> {
         Ok(Stock {
             thread,
             partitions,
+            plain_from,
             seat,
             registers,
             caches,

@@ -9,6 +9,7 @@ ghost use Rattle.pa_region.specs.Lending.{CanHost};
 ghost use Rattle.pa_region.specs.Views.{HasTitle, stake_of};
 ghost use Rattle.pa_region.specs.Shares.{byte_word_count};
 ghost use Rattle.pa_link.specs.Chains.{slot_names};
+ghost use Rattle.pa_cells.specs.Handles.{is_plain};
 ghost use Rattle.pa_op_specs.specs.Stocks.{IsStock, HasHandleTo, register_in, titles_in};
 
 use crate::lists::Lists;
@@ -19,11 +20,13 @@ use pa_slot::{SlotName, Title};
 use std::marker::{Model, PhantomData};
 
 /// A worker's thread state: its seat, its registers and its lists of free slots, with the number of its thread and of the run's
-/// partitions. The lists are those that the words of its seat's view have. `N` names the region.
+/// partitions, and the first plain one. The lists are those that the words of its seat's view have. `N` names the region, and the
+/// same first plain partition.
 #[derive(Drop)]
 pub struct Stock<N: Name> {
     pub(crate) thread: u32,
     pub(crate) partitions: u32,
+    pub(crate) plain_from: u32,
     pub(crate) seat: Seat,
     pub(crate) registers: [Register<Handle>; 64],
     pub(crate) caches: Lists,
@@ -42,6 +45,7 @@ impl<N: Name> Model for Stock<N> {
         record {
           thread = s.thread;
           partitions = s.partitions;
+          plain_from = s.plain_from;
           view = s.seat.view;
           registers = s.registers;
           caches = lists_in s.seat.view s.caches;
@@ -51,11 +55,13 @@ impl<N: Name> Model for Stock<N> {
         × IsStock (record {
           thread = s.thread;
           partitions = s.partitions;
+          plain_from = s.plain_from;
           view = s.seat.view;
           registers = s.registers;
           caches = lists_in s.seat.view s.caches;
         })
-        × All (HoldsList s.seat.view) s.caches.parts };
+        × All (HoldsList s.seat.view) s.caches.parts
+        × (s.plain_from ≡ N.plain_from) };
 }
 
 impl<N: Name> Stock<N> {
@@ -65,6 +71,7 @@ impl<N: Name> Stock<N> {
         ensures links { (p class : ℕ) → AreLinked self.now.view.words (slot_names (titles_in self.now.caches p class)) }
         ensures aware { IsAware self.now.view }
         ensures long { length self.now.view.words ≡ byte_word_count N.region }
+        ensures plain { self.now.plain_from ≡ N.plain_from }
     {
         self.seat.aware();
     }
@@ -81,6 +88,20 @@ impl<N: Name> Stock<N> {
         ensures { result ≡ self.now.partitions }
     {
         self.partitions
+    }
+
+    /// The first plain partition, whose Owns are sealed.
+    pub fn plain_from(&self) -> u32
+        ensures { result ≡ self.now.plain_from }
+    {
+        self.plain_from
+    }
+
+    /// Whether the handle's slot is in a plain partition.
+    pub fn is_plain(&self, handle: &Handle) -> bool
+        ensures { result ≡ is_plain self.now.plain_from handle.now }
+    {
+        self.plain_from <= handle.partition
     }
 
     /// The title of a register's handle is well formed, and the seat's list
@@ -129,6 +150,7 @@ impl<N: Name> Stock<N> {
         let Stock {
             thread: _,
             partitions: _,
+            plain_from: _,
             seat,
             registers: _,
             caches: _,

@@ -29,7 +29,7 @@ told_as records journals pools histories report =
 
 -- a trace of one super page, one partition and two threads
 abbrev pub trace_as : List Line → Trace
-trace_as lines = record { version = 1; region = 1; partitions = 1; threads = 2; lines = lines }
+trace_as lines = record { version = 1; region = 1; partitions = 1; threads = 2; plain = 0; lines = lines }
 
 -- the first of the two slots of these runs
 abbrev pub lower_slot : SlotName
@@ -232,6 +232,7 @@ purges_trace = record {
   region = 2;
   partitions = 2;
   threads = 2;
+  plain = 0;
   lines = Do 0 ops.Purge ∷ Do 1 ops.Purge ∷ Do 1 ops.Purge ∷ [];
 }
 

@@ -13,7 +13,8 @@ use Rattle.pa_trace.specs.Grammar.{IsVersionTo, IsHeadText, IsLineText}
 use Rattle.pa_trace.specs.Limits.{IsHeadWithin, IsLineWithin}
 use Rattle.pa_trace.specs.Faults.{lines_of, IsPast, IsBodyLine, IsHeadLine, IsBadLine, IsBadHead, IsFirstBehind, IsFirstOf, IsFirstFault, IsFault}
 use Rattle.pa_trace.specs.Cut.{IsOneLine, told}
-use Rattle.pa_trace.proofs.Limits.{IsNotRead, IsHeadNotRead}
+use Rattle.pa_trace.proofs.Limits.{IsNotRead}
+use Rattle.pa_trace.proofs.Heads.{IsHeadNotRead}
 use Rattle.pa_trace.proofs.Cuts.{cut_lines, last_line, no_lines, no_cut}
 
 -- ---- the length of a line and its text

@@ -1,5 +1,5 @@
 -- Lines in a text: where a line ends, and that a text is cut in one way.
-use Rattle.std.proofs.Common.{◌≡◌, ℕ, zero, suc, ◌+◌, ◌/◌, ◌%◌, ◌<◌, inl, inr, List, [], ◌∷◌, ◌++◌, length, get_or, take, drop, Bool, true, not, ◌&&◌, eqb, codes, refl, sym, ap, subst, ◌∙◌, arith}
+use Rattle.std.proofs.Common.{◌≡◌, ℕ, zero, suc, ◌+◌, ◌/◌, ◌%◌, ◌<◌, inl, inr, List, [], ◌∷◌, ◌++◌, length, get_or, take, drop, Bool, true, false, not, ◌&&◌, eqb, codes, refl, sym, ap, subst, ◌∙◌, arith}
 use Rattle.std.specs.List.{AllByRecursion}
 use Rattle.std.proofs.lemmas.List.{drop_more, take-append-drop}
 use Rattle.std.proofs.lemmas.Bool.{and_parts, eqb-false, ne_eqb, not-true, cases_lt, lt-ltb, le-ltb}
@@ -10,7 +10,7 @@ use Rattle.pa_trace.specs.declared.script.Line.{Line}
 use Rattle.pa_trace.specs.declared.script.Line.TheVariants.{Phase, Do}
 use Rattle.pa_trace.specs.declared.script.Op.{Op}
 use Rattle.pa_trace.specs.declared.script.Op.TheVariants.{Alloc, Copy, Reset, Free, Write, Read, Swap, Purge}
-use Rattle.pa_trace.specs.Grammar.{IsOpText, IsLineText, IsHeadText}
+use Rattle.pa_trace.specs.Grammar.{IsOpText, IsLineText, IsPlainText, IsHeadText, tells_plain}
 use Rattle.pa_trace.specs.Cut.{IsOneLine}
 use Rattle.pa_trace.specs.Faults.{with_front, lines_of}
 
@@ -145,11 +145,16 @@ line_line (Do thread op) text h =
     along text _ h.4 (one_line_append (h.0 ++ codes " ") h.1
     (one_line_append h.0 (codes " ") (numeral_one thread h.0 h.2) (word_line (codes " ") refl)) (op_line op h.1 h.3))
 
+plain_line : (b : Bool) (n : ℕ) (text : List ℕ) → IsPlainText b n text → IsOneLine text
+plain_line true n text h = along text _ h.2 (field_line (codes " plain ") h.0 n (word_line (codes " plain ") refl) h.1)
+plain_line false n text h = along text _ h.1 tt
+
 pub head_line : (h : Head) (text : List ℕ) → IsHeadText h text → IsOneLine text
-head_line h text t =
-    let first : IsOneLine (codes "trace " ++ t.0) = field_line (codes "trace ") t.0 h.version (word_line (codes "trace ") refl) t.4 in
-    let front : IsOneLine (codes "trace " ++ t.0 ++ codes " region ") =
-    one_line_append (codes "trace " ++ t.0) (codes " region ") first (word_line (codes " region ") refl) in
-    along text _ t.8 (three_line (codes "trace " ++ t.0 ++ codes " region ") t.1 (codes " partitions ") t.2
-    (codes " threads ") t.3 h.region h.partitions h.threads
-    front (word_line (codes " partitions ") refl) (word_line (codes " threads ") refl) t.5 t.6 t.7)
+head_line h text (v, n, p, t, q, hv, hn, hp, ht, hq, is) =
+    let first : IsOneLine (codes "trace " ++ v) = field_line (codes "trace ") v h.version (word_line (codes "trace ") refl) hv in
+    let front : IsOneLine (codes "trace " ++ v ++ codes " region ") =
+    one_line_append (codes "trace " ++ v) (codes " region ") first (word_line (codes " region ") refl) in
+    along text _ is (one_line_append (codes "trace " ++ v ++ codes " region " ++ n ++ codes " partitions " ++ p ++ codes " threads " ++ t) q
+    (three_line (codes "trace " ++ v ++ codes " region ") n (codes " partitions ") p (codes " threads ") t h.region h.partitions h.threads
+    front (word_line (codes " partitions ") refl) (word_line (codes " threads ") refl) hn hp ht)
+    (plain_line (tells_plain h.version) h.plain q hq))

@@ -12,7 +12,7 @@ use Rattle.pa_text.proofs.Numerals.{number_takes, number_again, begins_read}
 use Rattle.pa_text.proofs.Words.{hexes_take, hexes_again}
 use Rattle.pa_trace.specs.declared.field.LineFault.{LineFault}
 use Rattle.pa_trace.specs.declared.field.LineFault.TheVariants.{Outside}
-use Rattle.pa_trace.specs.Reading.{◌>>=◌, or_outside, behind, hand_on, number_in, word_in, field_in, ended, one_in, two_in, three_in, field_and_word_in}
+use Rattle.pa_trace.specs.Reading.{◌>>=◌, or_outside, behind, hand_on, number_in, word_in, field_in, ended, one_in, two_in, field_and_word_in}
 
 -- the value of a step that did not fail
 pub bind_ok : {A B : Type 0} (r : Result A LineFault) (f : A → Result B LineFault) (y : B) → (r >>= f) ≡ Ok y → (x : A) × (r ≡ Ok x) ×
@@ -73,7 +73,7 @@ pub field_again : (word : List ℕ) (n : ℕ) (i rest : List ℕ) → IsNumeral 
 unfolding field_at
 field_again word n i rest h stop = rw (behind_again word (i ++ rest), number_again n i rest h stop) refl
 
--- ---- one, two or three words with numbers
+-- ---- one or two words with numbers
 
 pub ended_ok : (bytes : List ℕ) (u : Unit {0}) → ended bytes ≡ Ok u → bytes ≡ []
 ended_ok bytes u e = nil_from_length bytes (eqb-true _ _ (if_ok (eqb (length bytes) 0) Outside tt u e).0)
@@ -91,18 +91,10 @@ two_at bytes first second = do
   end ← ended b.1
   Ok (a.0, b.0)
 
-unfoldable pub three_at : List ℕ → List ℕ → List ℕ → List ℕ → Result (ℕ × ℕ × ℕ) LineFault
-three_at bytes first second third = do
-  a ← field_at first bytes
-  b ← field_at second a.1
-  c ← field_at third b.1
-  end ← ended c.1
-  Ok (a.0, b.0, c.0)
-
-ok_is : {A : Type 0} (x y : A) → ◌≡◌ {A = Result A LineFault} (Ok x) (Ok y) → x ≡ y
+pub ok_is : {A : Type 0} (x y : A) → ◌≡◌ {A = Result A LineFault} (Ok x) (Ok y) → x ≡ y
 ok_is x y e = cc
 
-join_one : (bytes w i r : List ℕ) → bytes ≡ w ++ i ++ r → r ≡ [] → bytes ≡ w ++ i
+pub join_one : (bytes w i r : List ℕ) → bytes ≡ w ++ i ++ r → r ≡ [] → bytes ≡ w ++ i
 join_one bytes w i r e none = e ∙ ap (λ (x : List ℕ). w ++ i ++ x) none ∙ append-nil (w ++ i)
 
 pub one_takes : (bytes w : List ℕ) (n : ℕ) → one_at bytes w ≡ Ok n → (i : List ℕ) × IsNumeral n i × (bytes ≡ w ++ i)
@@ -152,44 +144,6 @@ two_again v w m n i j stop hi hj =
     let second : field_at w (w ++ j) ≡ Ok (n, []) = ap (λ (x : List ℕ). field_at w (w ++ x)) (sym (append-nil j)) ∙
     field_again w n j [] hj tt in
     rw (first, second) refl
-
-join_three : (bytes v i r w j s y k z : List ℕ) → bytes ≡ v ++ i ++ r → r ≡ w ++ j ++ s → s ≡ y ++ k ++ z → z ≡ [] → bytes ≡ v ++ i ++ w ++
-    j ++ y ++ k
-join_three bytes v i r w j s y k z e f g none = e ∙
-    ap (λ (x : List ℕ). v ++ i ++ x) (f ∙ ap (λ (x : List ℕ). w ++ j ++ x) (join_one s y k z g none)) ∙ simp append_assoc
-
-pub three_takes : (bytes v w y : List ℕ) (x : ℕ × ℕ × ℕ) → three_at bytes v w y ≡ Ok x
-    → (i j k : List ℕ) × IsNumeral x.0 i × IsNumeral x.1 j × IsNumeral x.2 k × (bytes ≡ v ++ i ++ w ++ j ++ y ++ k)
-unfolding three_at
-three_takes bytes v w y x e =
-    let a = bind_ok (field_at v bytes) (λ a. field_at w a.1 >>= λ b. field_at y b.1 >>= λ c. ended c.1 >>= λ end. Ok (a.0, b.0, c.0)) x e in
-    let b = bind_ok (field_at w a.0.1) (λ b. field_at y b.1 >>= λ c. ended c.1 >>= λ end. Ok (a.0.0, b.0, c.0)) x a.2 in
-    let c = bind_ok (field_at y b.0.1) (λ c. ended c.1 >>= λ end. Ok (a.0.0, b.0.0, c.0)) x b.2 in
-    let z = bind_ok (ended c.0.1) (λ end. Ok (a.0.0, b.0.0, c.0.0)) x c.2 in
-    let t = field_takes v bytes a.0 a.1 in
-    let u = field_takes w a.0.1 b.0 b.1 in
-    let s = field_takes y b.0.1 c.0 c.1 in
-    let same = ok_is (a.0.0, b.0.0, c.0.0) x z.2 in (
-      t.numeral,
-      u.numeral,
-      s.numeral,
-      subst (λ (k : ℕ × ℕ × ℕ). IsNumeral k.0 t.numeral) same t.spelled,
-      subst (λ (k : ℕ × ℕ × ℕ). IsNumeral k.1 u.numeral) same u.spelled,
-      subst (λ (k : ℕ × ℕ × ℕ). IsNumeral k.2 s.numeral) same s.spelled,
-      join_three bytes v t.numeral a.0.1 w u.numeral b.0.1 y s.numeral c.0.1 t.parts u.parts s.parts (ended_ok c.0.1 z.0 z.1),
-    )
-
-pub three_again : (v w y : List ℕ) (m n p : ℕ) (i j k : List ℕ) → ((x : List ℕ) → IsStop (w ++ x)) → ((x : List ℕ) → IsStop (y ++ x)) →
-    IsNumeral m i → IsNumeral n j → IsNumeral p k
-    → three_at (v ++ i ++ w ++ j ++ y ++ k) v w y ≡ Ok (m, n, p)
-unfolding three_at
-three_again v w y m n p i j k stop_w stop_y hi hj hk =
-    let first : field_at v (v ++ i ++ w ++ j ++ y ++ k) ≡ Ok (m, w ++ (j ++ (y ++ k))) = ap (field_at v) (simp append_assoc) ∙
-    field_again v m i (w ++ (j ++ (y ++ k))) hi (stop_w (j ++ (y ++ k))) in
-    let second : field_at w (w ++ (j ++ (y ++ k))) ≡ Ok (n, y ++ k) = field_again w n j (y ++ k) hj (stop_y k) in
-    let third : field_at y (y ++ k) ≡ Ok (p, []) = ap (λ (x : List ℕ). field_at y (y ++ x)) (sym (append-nil k)) ∙
-    field_again y p k [] hk tt in
-    rw (first, second, third) refl
 
 -- ---- a word with a number, a space, and sixteen digits
 
@@ -287,9 +241,6 @@ one_handed n = Ok (fit n)
 abbrev pub two_handed : ℕ × ℕ → Result (Option ℕ × Option ℕ) LineFault
 two_handed x = Ok (fit x.0, fit x.1)
 
-abbrev pub three_handed : ℕ × ℕ × ℕ → Result (Option ℕ × Option ℕ × Option ℕ) LineFault
-three_handed x = Ok (fit x.0, fit x.1, fit x.2)
-
 end_one : (n : ℕ) (r : Result (Unit {0}) LineFault) → (r >>= λ end. Ok (fit n)) ≡ ((r >>= λ end. Ok n) >>= one_handed)
 end_one n (Ok u) = refl
 end_one n (Err e) = refl
@@ -322,38 +273,6 @@ pub two_is : (bytes v w : List ℕ) → two_in bytes v w ≡ (two_at bytes v w >
 unfolding two_in two_at
 two_is bytes v w = ap (λ (r : Result (Option ℕ × List ℕ) LineFault). r >>= λ a. field_in w a.1 >>= λ b. ended b.1 >>= λ end. Ok (a.0, b.0))
     (field_handed v bytes) ∙ two_cases w (field_at v bytes)
-
-end_three : (m n k : ℕ) (r : Result (Unit {0}) LineFault) →
-    (r >>= λ end. Ok (fit m, fit n, fit k)) ≡ ((r >>= λ end. Ok (m, n, k)) >>= three_handed)
-end_three m n k (Ok u) = refl
-end_three m n k (Err e) = refl
-
-go_three : (m n : ℕ) (r : Result (ℕ × List ℕ) LineFault) →
-    ((r >>= handed) >>= λ c. ended c.1 >>= λ end. Ok (
-      fit m,
-      fit n,
-      c.0,
-    )) ≡ ((r >>= λ c. ended c.1 >>= λ end. Ok (m, n, c.0)) >>= three_handed)
-go_three m n (Ok c) = end_three m n c.0 (ended c.1)
-go_three m n (Err e) = refl
-
-three_last : (m : ℕ) (y : List ℕ) (r : Result (ℕ × List ℕ) LineFault)
-    → ((r >>= handed) >>= λ b. field_in y b.1 >>= λ c. ended c.1 >>= λ end. Ok (fit m, b.0, c.0)) ≡
-    ((r >>= λ b. field_at y b.1 >>= λ c. ended c.1 >>= λ end. Ok (m, b.0, c.0)) >>= three_handed)
-three_last m y (Ok b) = rw field_handed (go_three m b.0 (field_at y b.1))
-three_last m y (Err e) = refl
-
-three_cases : (w y : List ℕ) (r : Result (ℕ × List ℕ) LineFault)
-    → ((r >>= handed) >>= λ a. field_in w a.1 >>= λ b. field_in y b.1 >>= λ c. ended c.1 >>= λ end. Ok (a.0, b.0, c.0)) ≡
-    ((r >>= λ a. field_at w a.1 >>= λ b. field_at y b.1 >>= λ c. ended c.1 >>= λ end. Ok (a.0, b.0, c.0)) >>= three_handed)
-three_cases w y (Ok a) = ap (λ (r : Result (Option ℕ × List ℕ) LineFault). r >>= λ b. field_in y b.1 >>= λ c. ended c.1 >>= λ end. Ok
-    (fit a.0, b.0, c.0)) (field_handed w a.1) ∙ three_last a.0 y (field_at w a.1)
-three_cases w y (Err e) = refl
-
-pub three_is : (bytes v w y : List ℕ) → three_in bytes v w y ≡ (three_at bytes v w y >>= three_handed)
-unfolding three_in three_at
-three_is bytes v w y = ap (λ (r : Result (Option ℕ × List ℕ) LineFault). r >>= λ a. field_in w a.1 >>= λ b. field_in y b.1 >>= λ c. ended
-    c.1 >>= λ end. Ok (a.0, b.0, c.0)) (field_handed v bytes) ∙ three_cases w y (field_at v bytes)
 
 abbrev pub word_handed : ℕ × ℕ → Result (Option ℕ × ℕ) LineFault
 word_handed x = Ok (fit x.0, x.1)

@@ -15,7 +15,8 @@ use Rattle.pa_trace.specs.Faults.{lines_of, IsFirstBehind, IsFirstFault}
 use Rattle.pa_trace.specs.Reading.{line_in, head_in}
 use Rattle.pa_trace.specs.Cut.{IsOneLine, told}
 use Rattle.pa_trace.specs.Unread.{trace_with}
-use Rattle.pa_trace.proofs.Limits.{line_read, line_not_read, head_read, head_not_read}
+use Rattle.pa_trace.proofs.Limits.{line_read, line_not_read}
+use Rattle.pa_trace.proofs.Heads.{head_read, head_not_read}
 use Rattle.pa_trace.proofs.Behind.{first_past, first_unread, first_later, end_past, end_bad, head_past, head_first_unread, head_later, end_limit, end_badly}
 
 -- ---- the first line of bytes
@@ -111,7 +112,7 @@ module _ (partitions threads : ℕ) (few : partitions ≤ 4294967296) (few_threa
 abbrev HasFault : ℕ → List ℕ → Type 0
 HasFault known bytes = (e : TraceFault) × IsFirstFault known e bytes
 
-module _ (known : ℕ) (recent : known ≤ 2) where
+module _ (known : ℕ) (recent : known ≤ 3) where
   abbrev NoInput : List ℕ → Type 0
   NoInput bytes = (t : Trace) → t.version ≤ known → IsInput t bytes → ⊥
 

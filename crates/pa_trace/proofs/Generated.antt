@@ -91,8 +91,8 @@ pub generated_within : (words : List ℕ) (rounds : ℕ) (t : Trace) → 1 ≤ r
     IsWithinLimits t
 generated_within words rounds t some few h = record {
   version = rw (h.version) (omega arith, omega arith);
-  head = rw (h.version, h.region, h.partitions, h.threads)
-      ((omega arith, omega arith), (omega arith, omega arith), (omega arith, omega arith));
+  head = rw (h.version, h.region, h.partitions, h.threads, h.plain)
+      ((omega arith, omega arith), (omega arith, omega arith), (omega arith, omega arith), omega arith);
   lines = rw (h.partitions, h.threads, h.lines) (lines_within words rounds);
   few = (let l = generated_length words rounds t some h in omega arith);
 }

@@ -1,5 +1,5 @@
 -- A text within the limits is short: no line has more than 64 bytes with its LF.
-use Rattle.std.proofs.Common.{◌≡◌, ℕ, zero, suc, ◌+◌, ◌*◌, ◌/◌, ◌<◌, ◌≤◌, List, [], ◌∷◌, ◌++◌, length, codes, refl, ap, arith}
+use Rattle.std.proofs.Common.{◌≡◌, ℕ, Bool, true, false, zero, suc, ◌+◌, ◌*◌, ◌/◌, ◌<◌, ◌≤◌, List, [], ◌∷◌, ◌++◌, length, codes, refl, ap, arith}
 use Rattle.std.specs.List.{AllByRecursion}
 use Rattle.std.specs.Fmt.{decimal}
 use Rattle.std.proofs.lemmas.List.{length-append}
@@ -13,9 +13,9 @@ use Rattle.pa_trace.specs.declared.script.Line.{Line}
 use Rattle.pa_trace.specs.declared.script.Line.TheVariants.{Phase, Do}
 use Rattle.pa_trace.specs.declared.script.Op.{Op}
 use Rattle.pa_trace.specs.declared.script.Op.TheVariants.{Alloc, Copy, Reset, Free, Write, Read, Swap, Purge}
-use Rattle.pa_trace.specs.Grammar.{IsVersionTo, IsOpText, IsLineText, AreLinesText, IsHeadText, IsTraceText, head_of_trace, last_version}
+use Rattle.pa_trace.specs.Grammar.{IsVersionTo, IsOpText, IsLineText, AreLinesText, IsPlainText, IsHeadText, IsTraceText, head_of_trace, last_version, tells_plain}
 use Rattle.pa_trace.specs.Limits.{IsOpWithin, IsLineWithin, IsHeadWithin, IsWithinLimits}
-use Rattle.pa_trace.proofs.Versions.{region_most}
+use Rattle.pa_trace.proofs.Versions.{region_most, plain_most}
 
 numeral_length : (n : ℕ) (i : List ℕ) → IsNumeral n i → n < 4294967296 → length i ≤ 10
 numeral_length n i h small =
@@ -34,9 +34,9 @@ three_length : (v i w j y k : List ℕ) →
     length (v ++ i ++ w ++ j ++ y ++ k) ≡ length v + length i + length w + length j + length y + length k
 three_length v i w j y k = simp length-append
 
-four_length : (u h v i w j y k : List ℕ) →
-    length (u ++ h ++ v ++ i ++ w ++ j ++ y ++ k) ≡ length u + length h + length v + length i + length w + length j + length y + length k
-four_length u h v i w j y k = simp length-append
+head_parts_length : (u h v i w j y k q : List ℕ) → length (u ++ h ++ v ++ i ++ w ++ j ++ y ++ k ++ q) ≡
+    length u + length h + length v + length i + length w + length j + length y + length k + length q
+head_parts_length u h v i w j y k q = simp length-append
 
 op_length : (partitions : ℕ) (op : Op) (text : List ℕ) → partitions ≤ 4 → IsOpWithin partitions op → IsOpText op text → length text ≤ 40
 op_length partitions (Alloc reg partition size) text few h t =
@@ -110,16 +110,23 @@ lines_length partitions threads (l ∷ ls) text few few_threads h t =
       lines_length partitions threads ls t.1 few few_threads h.1 t.3,
     )
 
+plain_length : (b : Bool) (plain : ℕ) (text : List ℕ) → plain < 4294967296 → IsPlainText b plain text → length text ≤ 17
+plain_length true plain text small t =
+    omega (arith, ap length t.2, length-append (codes " plain ") t.0, numeral_length plain t.0 t.1 small)
+plain_length false plain text small t = omega (arith, ap length t.1)
+
 head_length : (h : Head) (text : List ℕ) → IsVersionTo last_version h.version → IsHeadWithin h → IsHeadText h text → length text ≤ 99
-head_length h text to within t =
+head_length h text to within (v, n, p, t, q, hv, hn, hp, ht, hq, is) =
     omega (
       arith,
-      ap length t.8,
-      four_length (codes "trace ") t.0 (codes " region ") t.1 (codes " partitions ") t.2 (codes " threads ") t.3,
-      numeral_length h.version t.0 t.4 (omega (arith, to.1)),
-      numeral_length h.region t.1 t.5 (omega (arith, within.0.1, region_most h.version)),
-      numeral_length h.partitions t.2 t.6 (omega (arith, within.1.1)),
-      numeral_length h.threads t.3 t.7 (omega (arith, within.2.1)),
+      ap length is,
+      head_parts_length (codes "trace ") v (codes " region ") n (codes " partitions ") p (codes " threads ") t q,
+      numeral_length h.version v hv (omega (arith, to.1)),
+      numeral_length h.region n hn (omega (arith, within.0.1, region_most h.version)),
+      numeral_length h.partitions p hp (omega (arith, within.1.1)),
+      numeral_length h.threads t ht (omega (arith, within.2.1)),
+      plain_length (tells_plain h.version) h.plain q
+          (omega (arith, within.3, plain_most h.version h.partitions, within.1.1)) hq,
     )
 
 pub trace_length : (t : Trace) (text : List ℕ) → IsWithinLimits t → IsTraceText t text → length text ≤ 4194304

@@ -1,8 +1,10 @@
 pub mod Fields
+pub mod Threes
 pub mod Spelled
 pub mod Shapes
 pub mod Versions
 pub mod Limits
+pub mod Heads
 pub mod Cuts
 pub mod Behind
 pub mod Texts

@@ -6,18 +6,17 @@ use Rattle.std.specs.Cmp.Lexicographic.{pointwise}
 use Rattle.pa_text.specs.Reading.{fit, number_at}
 use Rattle.pa_trace.specs.declared.field.LineFault.{LineFault}
 use Rattle.pa_trace.specs.declared.field.LineFault.TheVariants.{Outside, Past}
-use Rattle.pa_trace.specs.declared.line.Head.{Head}
 use Rattle.pa_trace.specs.declared.script.Line.{Line}
 use Rattle.pa_trace.specs.declared.script.Line.TheVariants.{Phase, Do}
 use Rattle.pa_trace.specs.declared.script.Op.{Op}
 use Rattle.pa_trace.specs.declared.script.Op.TheVariants.{Alloc, Copy, Reset, Free, Write, Read, Swap, Purge}
-use Rattle.pa_trace.specs.Limits.{IsOpWithin, IsLineWithin, IsHeadWithin, most_region}
-use Rattle.pa_trace.specs.Reading.{◌>>=◌, or_outside, behind, three_in, ended, below, within, known_in, count_in, head_of, head_in, alloc_in, copy_in, reset_in, free_in, write_in, read_in, swap_in, purge_in, op_in, do_in, line_in}
-use Rattle.pa_trace.proofs.Fields.{bind_ok, handed, field_at, field_handed, one_at, one_handed, two_at, two_handed, three_at, three_handed, one_is, two_is, three_is, number_handed, field_and_word_at, word_handed, field_and_word_is}
-use Rattle.pa_trace.specs.Grammar.{IsLineText, IsHeadText, IsVersionTo}
-use Rattle.pa_trace.proofs.Shapes.{line_outside, head_outside}
-use Rattle.pa_trace.proofs.Spelled.{alloc_at, copy_at, reset_at, free_at, write_at, read_at, swap_at, op_at, do_at, line_at, line_takes, line_again, head_at, head_with, head_takes, head_again}
-use Rattle.pa_trace.proofs.Versions.{region_most}
+use Rattle.pa_trace.specs.Limits.{IsOpWithin, IsLineWithin}
+use Rattle.pa_trace.specs.Reading.{◌>>=◌, or_outside, behind, ended, below, within, count_in, alloc_in, copy_in, reset_in, free_in, write_in, read_in, swap_in, purge_in, op_in, do_in, line_in}
+use Rattle.pa_trace.proofs.Fields.{bind_ok, handed, field_at, field_handed, one_at, one_handed, two_at, two_handed, one_is, two_is, number_handed, field_and_word_at, word_handed, field_and_word_is}
+use Rattle.pa_trace.proofs.Threes.{three_at, three_handed, three_is}
+use Rattle.pa_trace.specs.Grammar.{IsLineText}
+use Rattle.pa_trace.proofs.Shapes.{line_outside}
+use Rattle.pa_trace.proofs.Spelled.{alloc_at, copy_at, reset_at, free_at, write_at, read_at, swap_at, op_at, do_at, line_at, line_takes, line_again}
 
 -- ---- tests of one number
 
@@ -39,7 +38,7 @@ within_fit n =
       | inr le ↦ rw (le-ltb n 4294967296 le) refl
     ]
 
-count_fit : (n most : ℕ) → most < 4294967296 → count_in (fit n) most ≡ tested (leb 1 n && leb n most) n
+pub count_fit : (n most : ℕ) → most < 4294967296 → count_in (fit n) most ≡ tested (leb 1 n && leb n most) n
 count_fit n most small =
     elim (cases_lt n 4294967296) [
       | inl lt ↦ rw (lt-ltb n 4294967296 lt) refl
@@ -221,77 +220,6 @@ module _ (partitions threads : ℕ) (few : partitions ≤ 4294967296) (few_threa
   unfolding line_in line_at
   line_is bytes = phase_or (pointwise nat_eq bytes (codes "phase")) (do_in partitions threads bytes) (do_at bytes) (do_is bytes)
 
--- ---- the head
-
-abbrev pub head_ok : Head → Bool
-head_ok h =
-    (leb 1 h.region && leb h.region (most_region h.version)) &&
-    ((leb 1 h.partitions && leb h.partitions 4) && (leb 1 h.threads && leb h.threads 16))
-
-abbrev pub checked_head : Head → Result Head LineFault
-checked_head h = cond (head_ok h) (Ok h) (Err Past)
-
--- the version is one up to the last that is known
-abbrev pub version_ok : ℕ → ℕ → Bool
-version_ok known version = leb 1 version && leb version known
-
--- the head of a version that is known, within its limits
-abbrev pub known_head : ℕ → Head → Result Head LineFault
-known_head known h = cond (version_ok known h.version) (checked_head h) (Err Outside)
-
-head_tested : (a b c : Bool) (v m n k : ℕ) → (tested a m >>= λ region. tested b n >>= λ partitions. tested c k >>= λ threads. Ok
-    (head_with v region partitions threads)) ≡ cond (a && (b && c)) (Ok (head_with v m n k)) (Err Past)
-head_tested true true true v m n k = refl
-head_tested true true false v m n k = refl
-head_tested true false c v m n k = refl
-head_tested false b c v m n k = refl
-
-head_counted : (v m n k : ℕ) → head_of v (fit m) (fit n) (fit k) ≡ checked_head (head_with v m n k)
-head_counted v m n k =
-    let small : most_region v < 4294967296 = omega (arith, region_most v) in
-    rw (count_fit m (most_region v) small, count_fit n 4 (omega arith), count_fit k 16 (omega arith))
-    (head_tested (leb 1 m && leb m (most_region v)) (leb 1 n && leb n 4) (leb 1 k && leb k 16) v m n k)
-
--- the head of three numbers, of a version that is given
-pub head_cases : (v : ℕ) (r : Result (ℕ × ℕ × ℕ) LineFault)
-    → ((r >>= three_handed) >>= λ numbers. head_of v numbers.0 numbers.1 numbers.2) ≡ (r >>= λ x. checked_head (head_with v x.0 x.1 x.2))
-head_cases v (Ok x) = head_counted v x.0 x.1 x.2
-head_cases v (Err e) = refl
-
-known_fit : (known n : ℕ) → known < 4294967296 → known_in known (fit n) ≡ cond (version_ok known n) (Ok n) (Err Outside)
-known_fit known n small =
-    elim (cases_lt n 4294967296) [
-      | inl lt ↦ rw (lt-ltb n 4294967296 lt) refl
-      | inr le ↦ rw (le-ltb n 4294967296 le, le-leb 1 n (omega arith), lt-leb n known (omega arith)) refl
-    ]
-
-known_tested : (b : Bool) (v m n k : ℕ) →
-    (cond b (Ok v) (Err Outside) >>= λ version. head_of version (fit m) (fit n) (fit k)) ≡ cond b (checked_head (head_with v m n k))
-    (Err Outside)
-known_tested true v m n k = head_counted v m n k
-known_tested false v m n k = refl
-
-module _ (known : ℕ) (small : known < 4294967296) where
-  head_numbers : (v : ℕ) (r : Result (ℕ × ℕ × ℕ) LineFault)
-      → ((r >>= three_handed) >>= λ numbers. known_in known (fit v) >>= λ version. head_of version numbers.0 numbers.1 numbers.2)
-      ≡ ((r >>= λ x. Ok (head_with v x.0 x.1 x.2)) >>= known_head known)
-  head_numbers v (Ok x) = rw (known_fit known v small) (known_tested (version_ok known v) v x.0 x.1 x.2)
-  head_numbers v (Err e) = refl
-
-  head_behind : (r : Result (ℕ × List ℕ) LineFault)
-      → ((r >>= handed) >>= λ first. three_in first.1 (codes " region ") (codes " partitions ") (codes " threads ")
-      >>= λ numbers. known_in known first.0 >>= λ version. head_of version numbers.0 numbers.1 numbers.2)
-      ≡ ((r >>= λ first. three_at first.1 (codes " region ") (codes " partitions ") (codes " threads ") >>= λ x. Ok
-      (head_with first.0 x.0 x.1 x.2))
-      >>= known_head known)
-  head_behind (Ok first) =
-      rw three_is (head_numbers first.0 (three_at first.1 (codes " region ") (codes " partitions ") (codes " threads ")))
-  head_behind (Err e) = refl
-
-  pub head_is : (bytes : List ℕ) → head_in known bytes ≡ (head_at bytes >>= known_head known)
-  unfolding head_in head_at
-  head_is bytes = rw field_handed (head_behind (field_at (codes "trace ") bytes))
-
 -- ---- the limits as tests
 
 op_within : (partitions : ℕ) (op : Op) → op_ok partitions op ≡ true → IsOpWithin partitions op
@@ -328,32 +256,6 @@ within_line : (partitions threads : ℕ) (line : Line) → IsLineWithin partitio
 within_line partitions threads Phase h = refl
 within_line partitions threads (Do thread op) h = and_from _ _ (within_op partitions op h.1) (lt-ltb thread threads h.0)
 
-pub head_within : (h : Head) → head_ok h ≡ true → IsHeadWithin h
-head_within h e =
-    let most = most_region h.version in
-    let p = and_parts (leb 1 h.region && leb h.region most)
-    ((leb 1 h.partitions && leb h.partitions 4) && (leb 1 h.threads && leb h.threads 16)) e in
-    let q = and_parts (leb 1 h.partitions && leb h.partitions 4) (leb 1 h.threads && leb h.threads 16) p.1 in
-    let n = and_parts (leb 1 h.region) (leb h.region most) p.0 in
-    let m = and_parts (leb 1 h.partitions) (leb h.partitions 4) q.0 in
-    let k = and_parts (leb 1 h.threads) (leb h.threads 16) q.1 in (
-      (leb-true 1 h.region n.0, leb-true h.region most n.1),
-      (leb-true 1 h.partitions m.0, leb-true h.partitions 4 m.1),
-      (leb-true 1 h.threads k.0, leb-true h.threads 16 k.1),
-    )
-
-pub within_head : (h : Head) → IsHeadWithin h → head_ok h ≡ true
-within_head h w =
-    and_from _ _ (and_from _ _ (le-leb 1 h.region w.0.0) (le-leb h.region (most_region h.version) w.0.1))
-    (and_from _ _ (and_from _ _ (le-leb 1 h.partitions w.1.0) (le-leb h.partitions 4 w.1.1))
-    (and_from _ _ (le-leb 1 h.threads w.2.0) (le-leb h.threads 16 w.2.1)))
-
-version_to : (known version : ℕ) → version_ok known version ≡ true → IsVersionTo known version
-version_to known version e = let p = and_parts (leb 1 version) (leb version known) e in (leb-true 1 version p.0, leb-true version known p.1)
-
-to_version : (known version : ℕ) → IsVersionTo known version → version_ok known version ≡ true
-to_version known version h = and_from _ _ (le-leb 1 version h.0) (le-leb version known h.1)
-
 -- which way a test of limits went
 pub let_through : {A : Type 0} (b : Bool) (x y : A) → cond b (Ok x) (Err Past) ≡ Ok y → (b ≡ true) × (x ≡ y)
 let_through true x y e = (refl, cc)
@@ -365,7 +267,7 @@ kept_out false x d e = (refl, cc)
 
 -- ---- what is read of a line
 
-err_parts : {A : Type 0} (f d : LineFault) → Outside ≡ f → ◌≡◌ {A = Result A LineFault} (Err f) (Err d) → Outside ≡ d
+pub err_parts : {A : Type 0} (f d : LineFault) → Outside ≡ f → ◌≡◌ {A = Result A LineFault} (Err f) (Err d) → Outside ≡ d
 err_parts f d out e = let same : f ≡ d = cc in out ∙ same
 
 -- what a line that was not read is: outside the grammar, or in it and not within the limits
@@ -399,54 +301,3 @@ module _ (partitions threads : ℕ) (few : partitions ≤ 4294967296) (few_threa
 
   pub line_not_read : (bytes : List ℕ) (d : LineFault) → line_in partitions threads bytes ≡ Err d → IsNotRead partitions threads d bytes
   line_not_read bytes d e = not_read_cases bytes (line_at bytes) d refl (sym (line_is partitions threads few few_threads bytes) ∙ e)
-
--- which way the test of a version went
-known_through : (b : Bool) (r : Result Head LineFault) (h : Head) → cond b r (Err Outside) ≡ Ok h → (b ≡ true) × (r ≡ Ok h)
-known_through true r h e = (refl, e)
-known_through false r h e = absurd cc
-
--- what a head that was not read is: outside the grammar or of a version that isn't known, or in the grammar and not within the limits
-abbrev pub IsHeadNotRead : ℕ → LineFault → List ℕ → Type 0
-IsHeadNotRead known Outside bytes = (h : Head) → IsVersionTo known h.version → IsHeadText h bytes → ⊥
-IsHeadNotRead known Past bytes = (h : Head) × IsVersionTo known h.version × IsHeadText h bytes × (IsHeadWithin h → ⊥)
-
-module _ (known : ℕ) (small : known < 4294967296) where
-  pub head_read : (bytes : List ℕ) (h : Head) → head_in known bytes ≡ Ok h → IsHeadText h bytes × IsHeadWithin h ×
-      IsVersionTo known h.version
-  head_read bytes h e =
-      let b = bind_ok (head_at bytes) (known_head known) h (sym (head_is known small bytes) ∙ e) in
-      let v = known_through (version_ok known b.0.version) (checked_head b.0) h b.2 in
-      let t = let_through (head_ok b.0) b.0 h v.1 in
-      subst (λ (k : Head). IsHeadText k bytes × IsHeadWithin k × IsVersionTo known k.version) t.1
-      (head_takes bytes b.0 b.1, head_within b.0 t.0, version_to known b.0.version v.0)
-
-  -- a head in the grammar: of a version that is known or not
-  unread_by : (bytes : List ℕ) (x : Head) (d : LineFault) → head_at bytes ≡ Ok x → (b : Bool) → version_ok known x.version ≡ b →
-      cond b (checked_head x) (Err Outside) ≡ Err d
-      → IsHeadNotRead known d bytes
-  unread_by bytes x d same true is e =
-      let t = kept_out (head_ok x) x d e in
-      let past : IsHeadNotRead known Past bytes =
-      (x, version_to known x.version is, head_takes bytes x same, λ h. both_ways (head_ok x) t.0 (within_head x h)) in
-      subst (λ (k : LineFault). IsHeadNotRead known k bytes) (sym t.1) past
-  unread_by bytes x d same false is e =
-      let out : IsHeadNotRead known Outside bytes =
-      λ h to text.
-      let read : ◌≡◌ {A = Result Head LineFault} (Ok x) (Ok h) = sym same ∙ head_again h bytes text in
-      let one : x ≡ h = cc in
-      both_ways (version_ok known x.version) is
-      (subst (λ (k : Head). version_ok known k.version ≡ true) (sym one) (to_version known h.version to)) in
-      let told : Outside ≡ d = cc in
-      subst (λ (k : LineFault). IsHeadNotRead known k bytes) told out
-
-  head_cases_of : (bytes : List ℕ) (r : Result Head LineFault) (d : LineFault) → head_at bytes ≡ r → (r >>= known_head known) ≡ Err d →
-      IsHeadNotRead known d bytes
-  head_cases_of bytes (Ok x) d same e = unread_by bytes x d same (version_ok known x.version) refl e
-  head_cases_of bytes (Err f) d same e =
-      let out : IsHeadNotRead known Outside bytes =
-      λ h to text. let read : ◌≡◌ {A = Result Head LineFault} (Err f) (Ok h) = sym same ∙ head_again h bytes text in cc in
-      let is : Outside ≡ d = err_parts f d (head_outside bytes f same) e in
-      subst (λ (k : LineFault). IsHeadNotRead known k bytes) is out
-
-  pub head_not_read : (bytes : List ℕ) (d : LineFault) → head_in known bytes ≡ Err d → IsHeadNotRead known d bytes
-  head_not_read bytes d e = head_cases_of bytes (head_at bytes) d refl (sym (head_is known small bytes) ∙ e)

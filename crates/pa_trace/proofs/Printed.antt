@@ -1,5 +1,5 @@
 -- What is printed of a head and of a line is their text.
-use Rattle.std.proofs.Common.{◌≡◌, ℕ, ◌<◌, List, [], ◌∷◌, ◌++◌, codes, refl, append_assoc, ◌∙◌, ap, arith}
+use Rattle.std.proofs.Common.{◌≡◌, ℕ, Bool, true, false, ◌<◌, List, [], ◌∷◌, ◌++◌, codes, refl, append_assoc, ◌∙◌, ap, arith}
 use Rattle.std.specs.Fmt.{decimal}
 use Rattle.pa_text.specs.Hex.{hex}
 use Rattle.pa_text.proofs.Numerals.{decimal_numeral}
@@ -9,8 +9,8 @@ use Rattle.pa_trace.specs.declared.script.Line.TheVariants.{Phase, Do}
 use Rattle.pa_trace.specs.declared.script.Op.{Op}
 use Rattle.pa_trace.specs.declared.script.Op.TheVariants.{Alloc, Copy, Reset, Free, Write, Read, Swap, Purge}
 use Rattle.pa_trace.specs.Faults.{IsBodyLine, IsHeadLine}
-use Rattle.pa_trace.specs.Grammar.{IsVersionTo, IsOpText, last_version}
-use Rattle.pa_trace.specs.Printed.{word_then_number, head_text, line_text, op_text, OpInBits, LineInBits}
+use Rattle.pa_trace.specs.Grammar.{IsVersionTo, IsToldPlain, IsOpText, IsPlainText, last_version, tells_plain}
+use Rattle.pa_trace.specs.Printed.{word_then_number, plain_text, head_text, line_text, op_text, OpInBits, LineInBits}
 
 -- the op without the space before it
 op_spelled : (op : Op) → OpInBits op → (o : List ℕ) × IsOpText op o × (op_text op ≡ codes " " ++ o)
@@ -60,49 +60,58 @@ line_spelled (Do thread op) h =
       ap (λ (x : List ℕ). decimal thread ++ x ++ 10 ∷ []) at ∙ simp append_assoc,
     )
 
-four : (w v a n b p d t e : List ℕ) → (w ++ v) ++ ((a ++ n) ++ ((b ++ p) ++ ((d ++ t) ++ e))) ≡ (w ++ v ++ a ++ n ++ b ++ p ++ d ++ t) ++ e
-four w v a n b p d t e = simp append_assoc
+all_printed : (w v a n b p d t q e : List ℕ) →
+    (w ++ v) ++ ((a ++ n) ++ ((b ++ p) ++ ((d ++ t) ++ (q ++ e)))) ≡ (w ++ v ++ a ++ n ++ b ++ p ++ d ++ t ++ q) ++ e
+all_printed w v a n b p d t q e = simp append_assoc
+
+plain_spelled : (b : Bool) (plain : ℕ) → plain < 4294967296 → (b ≡ false → plain ≡ 0) → IsPlainText b plain (plain_text b plain)
+plain_spelled true plain small told = (decimal plain, decimal_numeral plain (omega (arith, small)), refl)
+plain_spelled false plain small told = (told refl, refl)
 
 pub head_spelled : (head : Head) → head.region < 4294967296 → head.partitions < 4294967296 → head.threads < 4294967296 →
-    IsVersionTo last_version head.version
+    head.plain < 4294967296 → IsVersionTo last_version head.version → IsToldPlain head
     → IsHeadLine last_version head (head_text head)
-head_spelled head r p t to =
+head_spelled head r p t q to told =
     let v : List ℕ = decimal head.version in
     let a : List ℕ = decimal head.region in
     let b : List ℕ = decimal head.partitions in
-    let d : List ℕ = decimal head.threads in (
-      codes "trace " ++ v ++ codes " region " ++ a ++ codes " partitions " ++ b ++ codes " threads " ++ d,
+    let d : List ℕ = decimal head.threads in
+    let z : List ℕ = plain_text (tells_plain head.version) head.plain in (
+      codes "trace " ++ v ++ codes " region " ++ a ++ codes " partitions " ++ b ++ codes " threads " ++ d ++ z,
       (
         v,
         a,
         b,
         d,
+        z,
         decimal_numeral head.version (omega (arith, to.1)),
         decimal_numeral head.region (omega (arith, r)),
         decimal_numeral head.partitions (omega (arith, p)),
         decimal_numeral head.threads (omega (arith, t)),
+        plain_spelled (tells_plain head.version) head.plain q told,
         refl,
       ),
-      four (codes "trace ") v (codes " region ") a (codes " partitions ") b (codes " threads ") d (10 ∷ []),
+      all_printed (codes "trace ") v (codes " region ") a (codes " partitions ") b (codes " threads ") d z (10 ∷ []),
       to,
     )
 
 -- what is printed part by part
-five : (old a b c d e x y z w u : List ℕ) → a ≡ old ++ x → b ≡ a ++ y → c ≡ b ++ z → d ≡ c ++ w → e ≡ d ++ u → e ≡ old ++
-    (x ++ (y ++ (z ++ (w ++ u))))
-five old a b c d e x y z w u ea eb ec ed ee =
-    ee ∙ ap (λ (t : List ℕ). t ++ u)
-    (ed ∙ ap (λ (t : List ℕ). t ++ w) (ec ∙ ap (λ (t : List ℕ). t ++ z) (eb ∙ ap (λ (t : List ℕ). t ++ y) ea)))
+joined : (old a b c d e f x y z w q u : List ℕ) → a ≡ old ++ x → b ≡ a ++ y → c ≡ b ++ z → d ≡ c ++ w → e ≡ d ++ q → f ≡ e ++ u →
+    f ≡ old ++ (x ++ (y ++ (z ++ (w ++ (q ++ u)))))
+joined old a b c d e f x y z w q u ea eb ec ed ee ef =
+    ef ∙ ap (λ (t : List ℕ). t ++ u) (ee ∙ ap (λ (t : List ℕ). t ++ q)
+    (ed ∙ ap (λ (t : List ℕ). t ++ w) (ec ∙ ap (λ (t : List ℕ). t ++ z) (eb ∙ ap (λ (t : List ℕ). t ++ y) ea))))
     ∙ simp append_assoc
 
-pub head_joined : (head : Head) (old a b c d e : List ℕ) → a ≡ old ++ word_then_number (codes "trace ") head.version → b ≡ a ++
+pub head_joined : (head : Head) (old a b c d e f : List ℕ) → a ≡ old ++ word_then_number (codes "trace ") head.version → b ≡ a ++
     word_then_number (codes " region ") head.region
-    → c ≡ b ++ word_then_number (codes " partitions ") head.partitions → d ≡ c ++ word_then_number (codes " threads ") head.threads →
-    e ≡ d ++ 10 ∷ []
-    → e ≡ old ++ head_text head
-head_joined head old a b c d e ea eb ec ed ee =
+    → c ≡ b ++ word_then_number (codes " partitions ") head.partitions → d ≡ c ++ word_then_number (codes " threads ") head.threads
+    → e ≡ d ++ plain_text (tells_plain head.version) head.plain → f ≡ e ++ 10 ∷ []
+    → f ≡ old ++ head_text head
+head_joined head old a b c d e f ea eb ec ed ee ef =
     let x : List ℕ = word_then_number (codes "trace ") head.version in
     let y : List ℕ = word_then_number (codes " region ") head.region in
     let z : List ℕ = word_then_number (codes " partitions ") head.partitions in
     let w : List ℕ = word_then_number (codes " threads ") head.threads in
-    five old a b c d e x y z w (10 ∷ []) ea eb ec ed ee
+    let q : List ℕ = plain_text (tells_plain head.version) head.plain in
+    joined old a b c d e f x y z w q (10 ∷ []) ea eb ec ed ee ef

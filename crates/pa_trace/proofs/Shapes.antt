@@ -7,9 +7,11 @@ use Rattle.pa_trace.specs.declared.field.LineFault.{LineFault}
 use Rattle.pa_trace.specs.declared.field.LineFault.TheVariants.{Outside}
 use Rattle.pa_trace.specs.declared.script.Line.TheVariants.{Phase, Do}
 use Rattle.pa_trace.specs.declared.script.Op.TheVariants.{Alloc, Copy, Reset, Free, Write, Read, Swap, Purge}
+use Rattle.pa_trace.specs.Grammar.{tells_plain}
 use Rattle.pa_trace.specs.Reading.{◌>>=◌, or_outside, behind, ended, word_in, purge_in}
-use Rattle.pa_trace.proofs.Fields.{field_at, one_at, two_at, three_at, field_and_word_at}
-use Rattle.pa_trace.proofs.Spelled.{alloc_at, copy_at, reset_at, free_at, write_at, read_at, swap_at, op_at, do_at, line_at, head_at, head_with}
+use Rattle.pa_trace.proofs.Fields.{field_at, one_at, two_at, field_and_word_at}
+use Rattle.pa_trace.proofs.Threes.{fields_at, three_at}
+use Rattle.pa_trace.proofs.Spelled.{alloc_at, copy_at, reset_at, free_at, write_at, read_at, swap_at, op_at, do_at, line_at, plain_number_at, head_behind_at, head_at, head_with}
 
 -- what fails is outside the grammar
 abbrev pub IsShape : {A : Type 0} → Result A LineFault → Type 0
@@ -59,14 +61,19 @@ two_shape bytes v w =
     then_shape (field_at w a.1) (λ b. ended b.1 >>= λ end. Ok (a.0, b.0)) (field_shape w a.1) (λ b.
     then_shape (ended b.1) (λ end. Ok (a.0, b.0)) (ended_shape b.1) (λ end. tt)))
 
+fields_shape : (bytes v w y : List ℕ) → IsShape (fields_at bytes v w y)
+unfolding fields_at
+fields_shape bytes v w y =
+    then_shape (field_at v bytes) (λ a. field_at w a.1 >>= λ b. field_at y b.1 >>= λ c. Ok (a.0, b.0, c.0, c.1))
+    (field_shape v bytes) (λ a.
+    then_shape (field_at w a.1) (λ b. field_at y b.1 >>= λ c. Ok (a.0, b.0, c.0, c.1)) (field_shape w a.1) (λ b.
+    then_shape (field_at y b.1) (λ c. Ok (a.0, b.0, c.0, c.1)) (field_shape y b.1) (λ c. tt)))
+
 pub three_shape : (bytes v w y : List ℕ) → IsShape (three_at bytes v w y)
 unfolding three_at
 three_shape bytes v w y =
-    then_shape (field_at v bytes) (λ a. field_at w a.1 >>= λ b. field_at y b.1 >>= λ c. ended c.1 >>= λ end. Ok (a.0, b.0, c.0))
-    (field_shape v bytes) (λ a.
-    then_shape (field_at w a.1) (λ b. field_at y b.1 >>= λ c. ended c.1 >>= λ end. Ok (a.0, b.0, c.0)) (field_shape w a.1) (λ b.
-    then_shape (field_at y b.1) (λ c. ended c.1 >>= λ end. Ok (a.0, b.0, c.0)) (field_shape y b.1) (λ c.
-    then_shape (ended c.1) (λ end. Ok (a.0, b.0, c.0)) (ended_shape c.1) (λ end. tt))))
+    then_shape (fields_at bytes v w y) (λ x. ended x.3 >>= λ end. Ok (x.0, x.1, x.2)) (fields_shape bytes v w y) (λ x.
+    then_shape (ended x.3) (λ end. Ok (x.0, x.1, x.2)) (ended_shape x.3) (λ end. tt))
 
 field_and_word_shape : (bytes v : List ℕ) → IsShape (field_and_word_at bytes v)
 unfolding field_and_word_at
@@ -110,14 +117,25 @@ line_shape : (bytes : List ℕ) → IsShape (line_at bytes)
 unfolding line_at
 line_shape bytes = cond_shape (pointwise nat_eq bytes (codes "phase")) (Ok Phase) (do_at bytes) tt (do_shape bytes)
 
+plain_shape : (b : Bool) (bytes : List ℕ) → IsShape (plain_number_at b bytes)
+unfolding plain_number_at
+plain_shape true bytes = one_shape bytes (codes " plain ")
+plain_shape false bytes = then_shape (ended bytes) (λ end. Ok 0) (ended_shape bytes) (λ end. tt)
+
+pub head_behind_shape : (version : ℕ) (bytes : List ℕ) → IsShape (head_behind_at version bytes)
+unfolding head_behind_at
+head_behind_shape version bytes =
+    then_shape (fields_at bytes (codes " region ") (codes " partitions ") (codes " threads "))
+    (λ x. plain_number_at (tells_plain version) x.3 >>= λ plain. Ok (head_with version x.0 x.1 x.2 plain))
+    (fields_shape bytes (codes " region ") (codes " partitions ") (codes " threads ")) (λ x.
+    then_shape (plain_number_at (tells_plain version) x.3) (λ plain. Ok (head_with version x.0 x.1 x.2 plain))
+    (plain_shape (tells_plain version) x.3) (λ plain. tt))
+
 head_shape : (bytes : List ℕ) → IsShape (head_at bytes)
 unfolding head_at
 head_shape bytes =
-    then_shape (field_at (codes "trace ") bytes)
-    (λ first. three_at first.1 (codes " region ") (codes " partitions ") (codes " threads ") >>= λ x. Ok (head_with first.0 x.0 x.1 x.2))
-    (field_shape (codes "trace ") bytes) (λ first.
-    then_shape (three_at first.1 (codes " region ") (codes " partitions ") (codes " threads ")) (λ x. Ok (head_with first.0 x.0 x.1 x.2))
-    (three_shape first.1 (codes " region ") (codes " partitions ") (codes " threads ")) (λ x. tt))
+    then_shape (field_at (codes "trace ") bytes) (λ first. head_behind_at first.0 first.1) (field_shape (codes "trace ") bytes)
+    (λ first. head_behind_shape first.0 first.1)
 
 pub shape_of : {A : Type 0} (r : Result A LineFault) (d : LineFault) → r ≡ Err d → IsShape r → Outside ≡ d
 shape_of {A} r d e h = subst (λ (x : Result A LineFault). IsShape x) e h

@@ -4,7 +4,7 @@ use Rattle.std.specs.Prelude.{nat_eq}
 use Rattle.std.specs.Cmp.Lexicographic.{pointwise}
 use Rattle.std.proofs.lemmas.Bool.{eqb-true, ne_eqb}
 use Rattle.pa_text.specs.Numeral.{IsNumeral}
-use Rattle.pa_text.specs.Reading.{number_at}
+use Rattle.pa_text.specs.Reading.{IsStop, number_at}
 use Rattle.pa_text.proofs.Fronts.{word_same}
 use Rattle.pa_text.proofs.Numerals.{number_takes, number_again}
 use Rattle.pa_trace.specs.declared.field.LineFault.{LineFault}
@@ -14,9 +14,10 @@ use Rattle.pa_trace.specs.declared.script.Line.{Line}
 use Rattle.pa_trace.specs.declared.script.Line.TheVariants.{Phase, Do}
 use Rattle.pa_trace.specs.declared.script.Op.{Op}
 use Rattle.pa_trace.specs.declared.script.Op.TheVariants.{Alloc, Copy, Reset, Free, Write, Read, Swap, Purge}
-use Rattle.pa_trace.specs.Grammar.{IsOpText, IsLineText, IsHeadText}
+use Rattle.pa_trace.specs.Grammar.{IsOpText, IsLineText, IsPlainText, IsHeadText, tells_plain}
 use Rattle.pa_trace.specs.Reading.{◌>>=◌, or_outside, behind, ended, purge_in}
-use Rattle.pa_trace.proofs.Fields.{bind_ok, behind_takes, behind_again, ended_ok, field_at, field_takes, field_again, one_at, one_takes, one_again, two_at, two_takes, two_again, three_at, three_takes, three_again, field_and_word_at, field_and_word_takes, field_and_word_again}
+use Rattle.pa_trace.proofs.Fields.{bind_ok, ok_is, behind_takes, behind_again, ended_ok, field_at, field_takes, field_again, one_at, one_takes, one_again, two_at, two_takes, two_again, field_and_word_at, field_and_word_takes, field_and_word_again}
+use Rattle.pa_trace.proofs.Threes.{fields_at, fields_take, fields_again, three_at, three_takes, three_again}
 
 -- ---- ops
 
@@ -234,50 +235,86 @@ line_again (Do thread op) text h =
 
 -- ---- the head
 
--- the head of four numbers
-abbrev pub head_with : ℕ → ℕ → ℕ → ℕ → Head
-head_with version region partitions threads = record { version = version; region = region; partitions = partitions; threads = threads }
+-- the head of five numbers
+abbrev pub head_with : ℕ → ℕ → ℕ → ℕ → ℕ → Head
+head_with version region partitions threads plain =
+    record { version = version; region = region; partitions = partitions; threads = threads; plain = plain }
+
+-- how many partitions are plain, if it is told, and that no more follows
+unfoldable pub plain_number_at : Bool → List ℕ → Result ℕ LineFault
+plain_number_at true bytes = one_at bytes (codes " plain ")
+plain_number_at false bytes = do
+  end ← ended bytes
+  Ok 0
+
+-- what follows the version of a head
+unfoldable pub head_behind_at : ℕ → List ℕ → Result Head LineFault
+head_behind_at version bytes = do
+  x ← fields_at bytes (codes " region ") (codes " partitions ") (codes " threads ")
+  plain ← plain_number_at (tells_plain version) x.3
+  Ok (head_with version x.0 x.1 x.2 plain)
 
 unfoldable pub head_at : List ℕ → Result Head LineFault
 head_at bytes = do
   first ← field_at (codes "trace ") bytes
-  x ← three_at first.1 (codes " region ") (codes " partitions ") (codes " threads ")
-  Ok (head_with first.0 x.0 x.1 x.2)
+  head_behind_at first.0 first.1
 
 ok_head : (x y : Head) → ◌≡◌ {A = Result Head LineFault} (Ok x) (Ok y) → x ≡ y
 ok_head x y e = cc
 
-join_head : (bytes w v r a n b p d t : List ℕ) → bytes ≡ w ++ v ++ r → r ≡ a ++ n ++ b ++ p ++ d ++ t → bytes ≡ w ++ v ++ a ++ n ++ b ++
-    p ++ d ++ t
-join_head bytes w v r a n b p d t e f = e ∙ ap (λ (x : List ℕ). w ++ v ++ x) f ∙ simp append_assoc
+plain_takes : (b : Bool) (bytes : List ℕ) (n : ℕ) → plain_number_at b bytes ≡ Ok n → IsPlainText b n bytes
+unfolding plain_number_at
+plain_takes true bytes n e = one_takes bytes (codes " plain ") n e
+plain_takes false bytes n e =
+    let z = bind_ok (ended bytes) (λ end. Ok 0) n e in
+    let none : n ≡ 0 = sym (ok_is 0 n z.2) in
+    (none, ended_ok bytes z.0 z.1)
 
-part_head : (w v a n b p d t : List ℕ) → w ++ v ++ a ++ n ++ b ++ p ++ d ++ t ≡ w ++ (v ++ (a ++ n ++ b ++ p ++ d ++ t))
-part_head w v a n b p d t = simp append_assoc
+-- a text of plain partitions begins with no digit
+plain_stops : (b : Bool) (n : ℕ) (text : List ℕ) → IsPlainText b n text → IsStop text
+plain_stops true n text h = subst IsStop (sym h.2) refl
+plain_stops false n text h = subst IsStop (sym h.1) tt
+
+plain_again : (b : Bool) (n : ℕ) (text : List ℕ) → IsPlainText b n text → plain_number_at b text ≡ Ok n
+unfolding plain_number_at
+plain_again true n text h = ap (λ (x : List ℕ). one_at x (codes " plain ")) h.2 ∙ one_again (codes " plain ") n h.0 h.1
+plain_again false n text h = ap (λ (x : List ℕ). ended x >>= λ end. Ok 0) h.1 ∙ ap (λ (x : ℕ). Ok x) (sym h.0)
+
+-- the version of a head and what follows it
+join_head : (bytes w v r a n b p d t q : List ℕ) → bytes ≡ w ++ v ++ r → r ≡ a ++ n ++ b ++ p ++ d ++ t ++ q →
+    bytes ≡ w ++ v ++ a ++ n ++ b ++ p ++ d ++ t ++ q
+join_head bytes w v r a n b p d t q e f = e ∙ ap (λ (x : List ℕ). w ++ v ++ x) f ∙ simp append_assoc
+
+part_head : (w v a n b p d t q : List ℕ) → w ++ v ++ a ++ n ++ b ++ p ++ d ++ t ++ q ≡ w ++ (v ++ (a ++ n ++ b ++ p ++ d ++ t ++ q))
+part_head w v a n b p d t q = simp append_assoc
 
 pub head_takes : (bytes : List ℕ) (h : Head) → head_at bytes ≡ Ok h → IsHeadText h bytes
-unfolding head_at
+unfolding head_at head_behind_at
 head_takes bytes h e =
-    let a = bind_ok (field_at (codes "trace ") bytes)
-    (λ first. three_at first.1 (codes " region ") (codes " partitions ") (codes " threads ") >>= λ x. Ok (head_with first.0 x.0 x.1 x.2)) h
-    e in
-    let b = bind_ok (three_at a.0.1 (codes " region ") (codes " partitions ") (codes " threads "))
-    (λ x. Ok (head_with a.0.0 x.0 x.1 x.2)) h a.2 in
+    let a = bind_ok (field_at (codes "trace ") bytes) (λ first. head_behind_at first.0 first.1) h e in
+    let version = a.0.0 in
+    let b = bind_ok (fields_at a.0.1 (codes " region ") (codes " partitions ") (codes " threads "))
+    (λ x. plain_number_at (tells_plain version) x.3 >>= λ plain. Ok (head_with version x.0 x.1 x.2 plain)) h a.2 in
+    let c = bind_ok (plain_number_at (tells_plain version) b.0.3)
+    (λ plain. Ok (head_with version b.0.0 b.0.1 b.0.2 plain)) h b.2 in
     let f = field_takes (codes "trace ") bytes a.0 a.1 in
-    let s = three_takes a.0.1 (codes " region ") (codes " partitions ") (codes " threads ") b.0 b.1 in
+    let s = fields_take a.0.1 (codes " region ") (codes " partitions ") (codes " threads ") b.0 b.1 in
+    let q = plain_takes (tells_plain version) b.0.3 c.0 c.1 in
     let joined = join_head bytes (codes "trace ") f.numeral a.0.1 (codes " region ") s.0 (codes " partitions ") s.1
-    (codes " threads ") s.2 f.parts s.6 in
-    subst (λ (k : Head). IsHeadText k bytes) (ok_head (head_with a.0.0 b.0.0 b.0.1 b.0.2) h b.2)
-    (f.numeral, s.0, s.1, s.2, f.spelled, s.3, s.4, s.5, joined)
+    (codes " threads ") s.2 b.0.3 f.parts s.6 in
+    subst (λ (k : Head). IsHeadText k bytes) (ok_head (head_with version b.0.0 b.0.1 b.0.2 c.0) h c.2)
+    (f.numeral, s.0, s.1, s.2, b.0.3, f.spelled, s.3, s.4, s.5, q, joined)
 
 pub head_again : (h : Head) (text : List ℕ) → IsHeadText h text → head_at text ≡ Ok h
-unfolding head_at
-head_again h text t =
-    let rest : List ℕ = codes " region " ++ t.1 ++ codes " partitions " ++ t.2 ++ codes " threads " ++ t.3 in
-    let parted : text ≡ codes "trace " ++ (t.0 ++ rest) = t.8 ∙
-    part_head (codes "trace ") t.0 (codes " region ") t.1 (codes " partitions ") t.2 (codes " threads ") t.3 in
-    let first : field_at (codes "trace ") (codes "trace " ++ (t.0 ++ rest)) ≡ Ok (h.version, rest) =
-    field_again (codes "trace ") h.version t.0 rest t.4 refl in
-    let others : three_at rest (codes " region ") (codes " partitions ") (codes " threads ") ≡ Ok (h.region, h.partitions, h.threads) =
-    three_again (codes " region ") (codes " partitions ") (codes " threads ") h.region h.partitions h.threads t.1 t.2 t.3 (λ x. refl)
-    (λ x. refl) t.5 t.6 t.7 in
-    ap head_at parted ∙ rw (first, others) refl
+unfolding head_at head_behind_at
+head_again h text (v, n, p, t, q, hv, hn, hp, ht, hq, is) =
+    let rest : List ℕ = codes " region " ++ n ++ codes " partitions " ++ p ++ codes " threads " ++ t ++ q in
+    let parted : text ≡ codes "trace " ++ (v ++ rest) = is ∙
+    part_head (codes "trace ") v (codes " region ") n (codes " partitions ") p (codes " threads ") t q in
+    let first : field_at (codes "trace ") (codes "trace " ++ (v ++ rest)) ≡ Ok (h.version, rest) =
+    field_again (codes "trace ") h.version v rest hv refl in
+    let others : fields_at rest (codes " region ") (codes " partitions ") (codes " threads ") ≡ Ok (h.region, h.partitions, h.threads, q) =
+    fields_again (codes " region ") (codes " partitions ") (codes " threads ") h.region h.partitions h.threads n p t q (λ x. refl)
+    (λ x. refl) (plain_stops (tells_plain h.version) h.plain q hq) hn hp ht in
+    let last : plain_number_at (tells_plain h.version) q ≡ Ok h.plain = plain_again (tells_plain h.version) h.plain q hq in
+    ap head_at parted ∙ rw (first, others, last) refl

@@ -1,5 +1,6 @@
 -- A line, a head and a trace have one text each, and a text belongs to one of them.
-use Rattle.std.proofs.Common.{◌≡◌, ◌↔◌, ℕ, List, [], ◌∷◌, ◌++◌, codes, Result, Ok, sym, ap, refl, subst, ◌∙◌, append_assoc}
+use Rattle.std.proofs.Common.{◌≡◌, ◌↔◌, ℕ, Bool, true, false, List, [], ◌∷◌, ◌++◌, codes, Result, Ok, sym, ap, refl, subst, ◌∙◌, append_assoc, arith}
+use Rattle.std.proofs.lemmas.List.{append-nil}
 use Rattle.std.specs.List.{AllByRecursion}
 use Rattle.pa_trace.specs.declared.field.LineFault.{LineFault}
 use Rattle.pa_trace.specs.declared.script.Trace.{Trace}
@@ -10,10 +11,10 @@ use Rattle.pa_trace.specs.declared.script.Op.{Op}
 use Rattle.pa_trace.specs.declared.script.Op.TheVariants.{Alloc, Copy, Reset, Free, Write, Read, Swap, Purge}
 use Rattle.pa_text.specs.Numeral.{IsNumeral}
 use Rattle.pa_text.proofs.Numerals.{one_numeral}
-use Rattle.pa_trace.specs.Grammar.{IsOpText, IsLineText, AreLinesText, IsHeadText, IsTraceText, IsSameTrace, head_of_trace}
+use Rattle.pa_trace.specs.Grammar.{IsOpText, IsLineText, AreLinesText, IsPlainText, IsHeadText, IsTraceText, IsSameTrace, head_of_trace, tells_plain}
 use Rattle.pa_trace.proofs.Spelled.{line_again, head_again}
 use Rattle.pa_trace.proofs.Cuts.{one_cut, line_line, head_line}
-use Rattle.pa_trace.proofs.Versions.{one_only, one_spelled}
+use Rattle.pa_trace.proofs.Versions.{tells_none, one_only, one_spelled}
 
 -- ---- lines that were read
 
@@ -73,6 +74,7 @@ one_trace s t text hs ht =
       region = ap (λ (x : Head). x.region) heads;
       partitions = ap (λ (x : Head). x.partitions) heads;
       threads = ap (λ (x : Head). x.threads) heads;
+      plain = ap (λ (x : Head). x.plain) heads;
       lines = one_lines s.lines t.lines ht.1 (subst (λ (x : List ℕ). AreLinesText s.lines x) cut.1 hs.3) ht.3;
     }
 
@@ -98,33 +100,55 @@ one_text_lines : (ls : List Line) (a b : List ℕ) → AreLinesText ls a → Are
 one_text_lines [] a b ha hb = ha ∙ sym hb
 one_text_lines (l ∷ ls) a b ha hb = ha.4 ∙ cc (one_text_line l ha.0 hb.0 ha.2 hb.2, one_text_lines ls ha.1 hb.1 ha.3 hb.3) ∙ sym hb.4
 
+one_text_plain : (b : Bool) (plain : ℕ) (x y : List ℕ) → IsPlainText b plain x → IsPlainText b plain y → x ≡ y
+one_text_plain true plain x y hx hy = hx.2 ∙ cc (one_numeral plain hx.0 hy.0 hx.1 hy.1) ∙ sym hy.2
+one_text_plain false plain x y hx hy = hx.1 ∙ sym hy.1
+
 one_text_head : (h : Head) (a b : List ℕ) → IsHeadText h a → IsHeadText h b → a ≡ b
-one_text_head h a b ha hb =
-    ha.8
+one_text_head h a b (v, n, p, t, q, hv, hn, hp, ht, hq, is) (w, m, o, u, r, hw, hm, ho, hu, hr, so) =
+    is
     ∙ cc (
-      one_numeral h.version ha.0 hb.0 ha.4 hb.4,
-      one_numeral h.region ha.1 hb.1 ha.5 hb.5,
-      one_numeral h.partitions ha.2 hb.2 ha.6 hb.6,
-      one_numeral h.threads ha.3 hb.3 ha.7 hb.7,
+      one_numeral h.version v w hv hw,
+      one_numeral h.region n m hn hm,
+      one_numeral h.partitions p o hp ho,
+      one_numeral h.threads t u ht hu,
+      one_text_plain (tells_plain h.version) h.plain q r hq hr,
     )
-    ∙ sym hb.8
+    ∙ sym so
 
 -- ---- version 1
 
-first_from : (h : Head) (text v n p t : List ℕ) → v ≡ codes "1" → text ≡ codes "trace " ++ v ++ codes " region " ++ n ++
-    codes " partitions " ++ p ++ codes " threads " ++ t
+first_from : (text v n p t q : List ℕ) → v ≡ codes "1" → q ≡ [] → text ≡ codes "trace " ++ v ++ codes " region " ++ n ++
+    codes " partitions " ++ p ++ codes " threads " ++ t ++ q
     → text ≡ codes "trace 1 region " ++ n ++ codes " partitions " ++ p ++ codes " threads " ++ t
-first_from h text v n p t is e =
-    e ∙ ap (λ (x : List ℕ). codes "trace " ++ x ++ codes " region " ++ n ++ codes " partitions " ++ p ++ codes " threads " ++ t) is
+first_from text v n p t q is none e =
+    e ∙ ap (λ (x : List ℕ). codes "trace " ++ v ++ codes " region " ++ n ++ codes " partitions " ++ p ++ codes " threads " ++ t ++ x) none
+    ∙ append-nil (codes "trace " ++ v ++ codes " region " ++ n ++ codes " partitions " ++ p ++ codes " threads " ++ t)
+    ∙ ap (λ (x : List ℕ). codes "trace " ++ x ++ codes " region " ++ n ++ codes " partitions " ++ p ++ codes " threads " ++ t) is
 
--- the text of a head of version 1 begins with `trace 1 region `
+-- the text of a head of version 1 begins with `trace 1 region `, and none of its partitions is plain
 pub first_version : (h : Head) (text : List ℕ) → h.version ≡ 1 → IsHeadText h text ↔
-    ((n p t : List ℕ) × IsNumeral h.region n × IsNumeral h.partitions p × IsNumeral h.threads t
+    ((n p t : List ℕ) × IsNumeral h.region n × IsNumeral h.partitions p × IsNumeral h.threads t × (h.plain ≡ 0)
     × (text ≡ codes "trace 1 region " ++ n ++ codes " partitions " ++ p ++ codes " threads " ++ t))
-first_version h text is = (
-  λ x. (x.1, x.2, x.3, x.5, x.6, x.7, first_from h text x.0 x.1 x.2 x.3 (one_only x.0 (subst (λ k. IsNumeral k x.0) is x.4)) x.8),
-  λ x. (codes "1", x.0, x.1, x.2, subst (λ k. IsNumeral k (codes "1")) (sym is) one_spelled, x.3, x.4, x.5, x.6),
-)
+first_version h text is =
+    let no : tells_plain h.version ≡ false = tells_none h.version (omega (arith, is)) in (
+      λ (v, n, p, t, q, hv, hn, hp, ht, hq, e).
+          let none : IsPlainText false h.plain q = subst (λ b. IsPlainText b h.plain q) no hq in
+          (n, p, t, hn, hp, ht, none.0, first_from text v n p t q (one_only v (subst (λ k. IsNumeral k v) is hv)) none.1 e),
+      λ (n, p, t, hn, hp, ht, none, e). (
+        codes "1",
+        n,
+        p,
+        t,
+        [],
+        subst (λ k. IsNumeral k (codes "1")) (sym is) one_spelled,
+        hn,
+        hp,
+        ht,
+        subst (λ b. IsPlainText b h.plain []) (sym no) (none, refl),
+        e ∙ sym (append-nil (codes "trace 1 region " ++ n ++ codes " partitions " ++ p ++ codes " threads " ++ t)),
+      ),
+    )
 
 pub one_text_trace : (t : Trace) (a b : List ℕ) → IsTraceText t a → IsTraceText t b → a ≡ b
 one_text_trace t a b ha hb = ha.4 ∙ cc (one_text_head (head_of_trace t) ha.0 hb.0 ha.2 hb.2, one_text_lines t.lines ha.1 hb.1 ha.3 hb.3) ∙

@@ -12,7 +12,8 @@ use Rattle.pa_trace.specs.Faults.{IsFault}
 use Rattle.pa_trace.specs.Cut.{IsOneLine, told}
 use Rattle.pa_trace.specs.Reading.{head_in, line_in}
 use Rattle.pa_trace.specs.Unread.{Unread, trace_with, IsReadUpTo, IsLineRead, IsEndRead, IsFaultRead}
-use Rattle.pa_trace.proofs.Limits.{head_read, head_not_read, line_read, line_not_read}
+use Rattle.pa_trace.proofs.Limits.{line_read, line_not_read}
+use Rattle.pa_trace.proofs.Heads.{head_read, head_not_read}
 use Rattle.pa_trace.proofs.Behind.{first_past, first_unread, first_later, first_end, first_is_fault, head_unread, head_later, over_room, in_room, under_room}
 use Rattle.pa_trace.proofs.Texts.{lines_more, lines_join, all_push}
 
@@ -22,7 +23,7 @@ IsOver n len left = (65536 < n) ⊎ (left < len)
 
 -- ---- the head
 
-module _ (known : ℕ) (recent : known ≤ 2) (bytes first rest : List ℕ) (one : IsOneLine first) (parts : bytes ≡ first ++ 10 ∷ rest)
+module _ (known : ℕ) (recent : known ≤ 3) (bytes first rest : List ℕ) (one : IsOneLine first) (parts : bytes ≡ first ++ 10 ∷ rest)
     (fits : IsOver 1 (length first + 1) 4194304 → ⊥) where
   pub head_begins : (head : Head) → head_in known first ≡ Ok head
       → IsReadUpTo known bytes [] (record { head = head; rest = rest; left = 4194304 - (length first + 1); number = 2 })

@@ -77,6 +77,7 @@ pub record IsGeneratedOf (words : List ℕ) (rounds : ℕ) (trace : Trace) : Typ
   pub region : trace.region ≡ 8
   pub partitions : trace.partitions ≡ 4
   pub threads : trace.threads ≡ 4
+  pub plain : trace.plain ≡ 0
   pub lines : trace.lines ≡ generated_lines words rounds
 
 -- the generated trace of that many rounds and this key

@@ -1,5 +1,5 @@
 -- The text of a trace, as a relation by cases on its lines. Numbers are of any length here; the limits are stated apart.
-use Rattle.std.specs.Prelude.{◌≡◌, ℕ, ◌<◌, ◌≤◌, List, [], ◌∷◌, ◌++◌, codes}
+use Rattle.std.specs.Prelude.{◌≡◌, ℕ, Bool, true, false, nat_le, ◌<◌, ◌≤◌, List, [], ◌∷◌, ◌++◌, codes}
 use Rattle.pa_text.specs.Numeral.{IsNumeral}
 use Rattle.pa_text.specs.Hex.{hex}
 use Rattle.pa_trace.specs.declared.line.Head.{Head}
@@ -35,21 +35,35 @@ AreLinesText (l ∷ ls) text = (first rest : List ℕ) × IsLineText l first × 
 
 -- the last version of traces
 abbrev pub last_version : ℕ
-last_version = 2
+last_version = 3
 
 -- a version of traces, up to this one
 abbrev pub IsVersionTo : ℕ → ℕ → Type 0
 IsVersionTo last version = (1 ≤ version) × (version ≤ last)
 
+-- the head of this version tells how many partitions are plain: that is, without reference counts
+abbrev pub tells_plain : ℕ → Bool
+tells_plain version = nat_le 3 version
+
 -- the head of a trace
 abbrev pub head_of_trace : Trace → Head
-head_of_trace t = record { version = t.version; region = t.region; partitions = t.partitions; threads = t.threads }
+head_of_trace t = record { version = t.version; region = t.region; partitions = t.partitions; threads = t.threads; plain = t.plain }
 
--- `trace V region N partitions P threads T`
+-- ` plain Q` where the head tells how many partitions are plain, else nothing, and none is
+abbrev pub IsPlainText : Bool → ℕ → List ℕ → Type 0
+IsPlainText true plain text = (q : List ℕ) × IsNumeral plain q × (text ≡ codes " plain " ++ q)
+IsPlainText false plain text = (plain ≡ 0) × (text ≡ [])
+
+-- of a head that doesn't tell how many partitions are plain, none is
+abbrev pub IsToldPlain : Head → Type 0
+IsToldPlain h = tells_plain h.version ≡ false → h.plain ≡ 0
+
+-- `trace V region N partitions P threads T`, and from version 3 on ` plain Q`
 abbrev pub IsHeadText : Head → List ℕ → Type 0
 IsHeadText h text =
-    (v n p t : List ℕ) × IsNumeral h.version v × IsNumeral h.region n × IsNumeral h.partitions p × IsNumeral h.threads t
-    × (text ≡ codes "trace " ++ v ++ codes " region " ++ n ++ codes " partitions " ++ p ++ codes " threads " ++ t)
+    (v n p t q : List ℕ) × IsNumeral h.version v × IsNumeral h.region n × IsNumeral h.partitions p × IsNumeral h.threads t
+    × IsPlainText (tells_plain h.version) h.plain q
+    × (text ≡ codes "trace " ++ v ++ codes " region " ++ n ++ codes " partitions " ++ p ++ codes " threads " ++ t ++ q)
 
 -- the head, ended by an LF, and the lines, of a trace of one of the versions
 abbrev pub IsTraceText : Trace → List ℕ → Type 0
@@ -63,4 +77,5 @@ pub record IsSameTrace (s t : Trace) : Type 0 where
   pub region : s.region ≡ t.region
   pub partitions : s.partitions ≡ t.partitions
   pub threads : s.threads ≡ t.threads
+  pub plain : s.plain ≡ t.plain
   pub lines : s.lines ≡ t.lines

@@ -8,7 +8,7 @@ use Rattle.pa_trace.specs.declared.script.Line.{Line}
 use Rattle.pa_trace.specs.declared.script.Line.TheVariants.{Phase, Do}
 use Rattle.pa_trace.specs.declared.script.Op.{Op}
 use Rattle.pa_trace.specs.declared.script.Op.TheVariants.{Alloc, Copy, Reset, Free, Write, Read, Swap, Purge}
-use Rattle.pa_trace.specs.Grammar.{IsVersionTo, IsTraceText, head_of_trace, last_version}
+use Rattle.pa_trace.specs.Grammar.{IsVersionTo, IsTraceText, head_of_trace, last_version, tells_plain}
 
 -- how many registers each thread has
 abbrev pub register_count : ℕ
@@ -47,11 +47,16 @@ IsLineWithin partitions threads (Do thread op) = (thread < threads) × IsOpWithi
 abbrev pub most_region : ℕ → ℕ
 most_region version = if nat_le version 1 then most_supers else region_supers
 
--- a head: 1 to 16 super pages in version 1 and 1 to 64 in version 2, 1 to 4 partitions, 1 to 16 threads
+-- the most plain partitions among this many in a version: all of them since version 3, and none before
+abbrev pub most_plain : ℕ → ℕ → ℕ
+most_plain version partitions = if tells_plain version then partitions else 0
+
+-- a head: 1 to 16 super pages in version 1 and 1 to 64 in versions 2 and 3, 1 to 4 partitions, 1 to 16 threads, and 0 to all of
+-- the partitions are plain
 abbrev pub IsHeadWithin : Head → Type 0
 IsHeadWithin h =
     ((1 ≤ h.region) × (h.region ≤ most_region h.version)) × ((1 ≤ h.partitions) × (h.partitions ≤ most_partitions))
-    × ((1 ≤ h.threads) × (h.threads ≤ most_threads))
+    × ((1 ≤ h.threads) × (h.threads ≤ most_threads)) × (h.plain ≤ most_plain h.version h.partitions)
 
 -- the most lines of a trace, the head included
 abbrev pub most_lines : ℕ

@@ -1,5 +1,5 @@
 -- How a head and a line are printed: the grammar's texts, each number in its one spelling.
-use Rattle.std.specs.Prelude.{ℕ, ◌<◌, ◌^◌, List, [], ◌∷◌, ◌++◌, codes}
+use Rattle.std.specs.Prelude.{ℕ, Bool, true, false, ◌<◌, ◌^◌, List, [], ◌∷◌, ◌++◌, codes}
 use Rattle.std.specs.Fmt.{decimal}
 use Rattle.pa_text.specs.Hex.{hex}
 use Rattle.pa_trace.specs.declared.line.Head.{Head}
@@ -7,6 +7,7 @@ use Rattle.pa_trace.specs.declared.script.Line.{Line}
 use Rattle.pa_trace.specs.declared.script.Line.TheVariants.{Phase, Do}
 use Rattle.pa_trace.specs.declared.script.Op.{Op}
 use Rattle.pa_trace.specs.declared.script.Op.TheVariants.{Alloc, Copy, Reset, Free, Write, Read, Swap, Purge}
+use Rattle.pa_trace.specs.Grammar.{tells_plain}
 
 -- a word and the number after it
 abbrev pub word_then_number : List ℕ → ℕ → List ℕ
@@ -29,11 +30,17 @@ abbrev pub line_text : Line → List ℕ
 line_text Phase = codes "phase\n"
 line_text (Do thread op) = decimal thread ++ op_text op ++ 10 ∷ []
 
+-- how many partitions are plain, where the head tells it
+abbrev pub plain_text : Bool → ℕ → List ℕ
+plain_text true plain = word_then_number (codes " plain ") plain
+plain_text false plain = []
+
 -- the head and an LF
 abbrev pub head_text : Head → List ℕ
 head_text head =
     word_then_number (codes "trace ") head.version ++ (word_then_number (codes " region ") head.region
-    ++ (word_then_number (codes " partitions ") head.partitions ++ (word_then_number (codes " threads ") head.threads ++ 10 ∷ [])))
+    ++ (word_then_number (codes " partitions ") head.partitions ++ (word_then_number (codes " threads ") head.threads
+    ++ (plain_text (tells_plain head.version) head.plain ++ 10 ∷ []))))
 
 -- ---- what the types say of the numbers of a line
 

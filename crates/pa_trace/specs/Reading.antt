@@ -1,5 +1,5 @@
 -- Reading a line from left to right. A number is handed on with its value if it has 32 bits.
-use Rattle.std.specs.Prelude.{◌≡◌, ℕ, ◌==◌, ◌&&◌, nat_eq, nat_lt, nat_le, if◌then◌else◌, List, [], ◌∷◌, length, take, drop, codes, Option, Some, None, Result, Ok, Err}
+use Rattle.std.specs.Prelude.{◌≡◌, ℕ, Bool, true, false, ◌==◌, ◌&&◌, nat_eq, nat_lt, nat_le, if◌then◌else◌, List, [], ◌∷◌, length, take, drop, codes, Option, Some, None, Result, Ok, Err}
 use Rattle.std.specs.Cmp.Lexicographic.{pointwise}
 use Rattle.pa_text.specs.Reading.{fitted, number_at, hexes_at}
 use Rattle.pa_trace.specs.declared.field.LineFault.{LineFault}
@@ -9,7 +9,8 @@ use Rattle.pa_trace.specs.declared.script.Line.{Line}
 use Rattle.pa_trace.specs.declared.script.Line.TheVariants.{Phase, Do}
 use Rattle.pa_trace.specs.declared.script.Op.{Op}
 use Rattle.pa_trace.specs.declared.script.Op.TheVariants.{Alloc, Copy, Reset, Free, Write, Read, Swap, Purge}
-use Rattle.pa_trace.specs.Limits.{register_count, cell_count, most_region, most_partitions, most_threads}
+use Rattle.pa_trace.specs.Grammar.{tells_plain}
+use Rattle.pa_trace.specs.Limits.{register_count, cell_count, most_region, most_partitions, most_threads, most_plain}
 
 -- one step that may fail, and then the next
 infixl 10 ◌>>=◌
@@ -69,14 +70,20 @@ two_in bytes first second = do
   end ← ended b.1
   Ok (a.0, b.0)
 
--- all of the bytes are three words, each with a number
-unfoldable pub three_in : List ℕ → List ℕ → List ℕ → List ℕ → Result (Option ℕ × Option ℕ × Option ℕ) LineFault
-three_in bytes first second third = do
+-- three words, each with a number, and the bytes after them
+unfoldable pub fields_in : List ℕ → List ℕ → List ℕ → List ℕ → Result (Option ℕ × Option ℕ × Option ℕ × List ℕ) LineFault
+fields_in bytes first second third = do
   a ← field_in first bytes
   b ← field_in second a.1
   c ← field_in third b.1
-  end ← ended c.1
-  Ok (a.0, b.0, c.0)
+  Ok (a.0, b.0, c.0, c.1)
+
+-- all of the bytes are three words, each with a number
+unfoldable pub three_in : List ℕ → List ℕ → List ℕ → List ℕ → Result (Option ℕ × Option ℕ × Option ℕ) LineFault
+three_in bytes first second third = do
+  x ← fields_in bytes first second third
+  end ← ended x.3
+  Ok (x.0, x.1, x.2)
 
 -- all of the bytes are a word and a number, a space, and sixteen digits
 unfoldable pub field_and_word_in : List ℕ → List ℕ → Result (Option ℕ × ℕ) LineFault
@@ -102,26 +109,41 @@ abbrev pub count_in : Option ℕ → ℕ → Result ℕ LineFault
 count_in None most = Err Past
 count_in (Some n) most = if nat_le 1 n && nat_le n most then Ok n else Err Past
 
+-- the number, if it is at most this one
+abbrev pub up_to : Option ℕ → ℕ → Result ℕ LineFault
+up_to None most = Err Past
+up_to (Some n) most = if nat_le n most then Ok n else Err Past
+
 -- the version, if it is one up to the last that is known: any other is outside the grammar
 abbrev pub known_in : ℕ → Option ℕ → Result ℕ LineFault
 known_in known None = Err Outside
 known_in known (Some n) = if nat_le 1 n && nat_le n known then Ok n else Err Outside
 
--- the head of this version with these numbers of super pages, partitions and threads, if each is within its limit
-abbrev pub head_of : ℕ → Option ℕ → Option ℕ → Option ℕ → Result Head LineFault
-head_of version one two three = do
+-- the head of this version with these numbers of super pages, partitions, threads and plain partitions, if each is within its limit
+abbrev pub head_of : ℕ → Option ℕ → Option ℕ → Option ℕ → Option ℕ → Result Head LineFault
+head_of version one two three four = do
   region ← count_in one (most_region version)
   partitions ← count_in two most_partitions
   threads ← count_in three most_threads
-  Ok (record { version = version; region = region; partitions = partitions; threads = threads })
+  plain ← up_to four (most_plain version partitions)
+  Ok (record { version = version; region = region; partitions = partitions; threads = threads; plain = plain })
+
+-- what is left of a head behind its threads: ` plain ` and a number where it tells how many partitions are plain, else nothing, and
+-- none is
+unfoldable pub plain_number_in : Bool → List ℕ → Result (Option ℕ) LineFault
+plain_number_in true bytes = one_in bytes (codes " plain ")
+plain_number_in false bytes = do
+  end ← ended bytes
+  Ok (Some 0)
 
 -- the head, without its LF
 unfoldable pub head_in : ℕ → List ℕ → Result Head LineFault
 head_in known bytes = do
   first ← field_in (codes "trace ") bytes
-  numbers ← three_in first.1 (codes " region ") (codes " partitions ") (codes " threads ")
   version ← known_in known first.0
-  head_of version numbers.0 numbers.1 numbers.2
+  numbers ← fields_in first.1 (codes " region ") (codes " partitions ") (codes " threads ")
+  plain ← plain_number_in (tells_plain version) numbers.3
+  head_of version numbers.0 numbers.1 numbers.2 plain
 
 -- after the letter A: a register, one of the trace's partitions, and a size of 32 bits
 unfoldable pub alloc_in : ℕ → List ℕ → Result Op LineFault

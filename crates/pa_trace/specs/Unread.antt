@@ -19,7 +19,14 @@ pub record Unread : Type 0 where
 -- the trace of this head and these lines
 abbrev pub trace_with : Head → List Line → Trace
 trace_with head ls =
-    record { version = head.version; region = head.region; partitions = head.partitions; threads = head.threads; lines = ls }
+    record {
+      version = head.version;
+      region = head.region;
+      partitions = head.partitions;
+      threads = head.threads;
+      plain = head.plain;
+      lines = ls;
+    }
 
 -- Of these bytes the head and these lines are read, all within the limits, and this is unread. The head is of a version up to the last one
 -- that is known. Whichever lines the rest is the text of, the bytes are the text of the trace with those lines appended. The first faulty

@@ -1,5 +1,5 @@
 ghost use Rattle.std.specs.Prelude.{◌≡◌, ℕ, List, Option};
-ghost use Rattle.pa_trace.specs.Reading.{Gives, behind, number_in, field_in, word_in, ended, one_in, two_in, three_in, field_and_word_in, below, within};
+ghost use Rattle.pa_trace.specs.Reading.{Gives, behind, number_in, field_in, word_in, ended, one_in, two_in, fields_in, three_in, field_and_word_in, below, within};
 
 use pa_text::{number_at, word_at};
 
@@ -90,6 +90,24 @@ pub fn two_numbers(
     Ok((one, two))
 }
 
+// Three words, each with a number, and the bytes after them.
+#[tactic(auto, unfolding(crate::specs::Reading::fields_in))]
+#[inline(always)]
+pub fn three_fields<'a>(
+    bytes: &'a [u8],
+    first: &[u8],
+    second: &[u8],
+    third: &[u8],
+) -> Result<(Option<u32>, Option<u32>, Option<u32>, &'a [u8]), LineFault>
+    ensures { Gives {Y = Option ℕ × Option ℕ × Option ℕ × List ℕ} (λ x. (x.0, x.1, x.2, x.3.now)) result
+        (fields_in bytes.now first.now second.now third.now) }
+{
+    let (one, rest) = field_in(first, bytes)?;
+    let (two, rest) = field_in(second, rest)?;
+    let (three, rest) = field_in(third, rest)?;
+    Ok((one, two, three, rest))
+}
+
 /// What is left of the line is three words, each with a number.
 #[tactic(auto, unfolding(crate::specs::Reading::three_in))]
 pub fn three_numbers(
@@ -100,9 +118,7 @@ pub fn three_numbers(
 ) -> Result<(Option<u32>, Option<u32>, Option<u32>), LineFault>
     ensures { Gives (λ x. x) result (three_in bytes.now first.now second.now third.now) }
 {
-    let (one, rest) = field_in(first, bytes)?;
-    let (two, rest) = field_in(second, rest)?;
-    let (three, rest) = field_in(third, rest)?;
+    let (one, two, three, rest) = three_fields(bytes, first, second, third)?;
     ended(rest)?;
     Ok((one, two, three))
 }

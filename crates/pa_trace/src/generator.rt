@@ -41,6 +41,7 @@ pub fn generate(alloc: Global, rounds: u32, key: u64) -> Result<Trace, OutOfMemo
         region: 8,
         partitions: THREADS,
         threads: THREADS,
+        plain: 0,
         lines: Lines::of(lines),
     })
 }

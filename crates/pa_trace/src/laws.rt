@@ -14,10 +14,10 @@ pub fn one_text()
     ensures trace { (s t : Trace) (text : List ℕ) → IsTraceText s text → IsTraceText t text → IsSameTrace s t }
 {}
 
-/// The head of version 1 is the one that it was when there was no other version.
+/// The head of version 1 is the one that it was when there was no other version, and none of its partitions is plain.
 pub fn first_version_text()
     ensures { (h : Head) (text : List ℕ) → h.version ≡ 1 → IsHeadText h text ↔ ((n p t : List ℕ) × IsNumeral h.region n
-        × IsNumeral h.partitions p × IsNumeral h.threads t
+        × IsNumeral h.partitions p × IsNumeral h.threads t × (h.plain ≡ 0)
         × (text ≡ codes "trace 1 region " ++ n ++ codes " partitions " ++ p ++ codes " threads " ++ t)) }
 {}
 

@@ -1,13 +1,16 @@
 ghost use Rattle.std.specs.Prelude.{◌≡◌};
-ghost use Rattle.pa_trace.specs.Limits.{most_region};
-ghost use Rattle.pa_trace.specs.Reading.{known_in, count_in, head_of, head_in, do_in, line_in};
+ghost use Rattle.pa_trace.specs.Grammar.{tells_plain};
+ghost use Rattle.pa_trace.specs.Limits.{most_region, most_plain};
+ghost use Rattle.pa_trace.specs.Reading.{Gives, known_in, count_in, up_to, plain_number_in, head_of, head_in, do_in, line_in};
 
-use crate::field::{LineFault, behind, below, field_in, number_in, three_numbers};
+use crate::field::{
+    LineFault, behind, below, ended, field_in, number_in, one_number, three_fields,
+};
 use crate::op::op_in;
 use crate::script::Line;
 
 /// The last version of traces.
-pub const LAST_VERSION: u32 = 2;
+pub const LAST_VERSION: u32 = 3;
 
 /// The most super pages of a region in version 1.
 pub const MOST_SUPER_PAGES: u32 = 16;
@@ -21,13 +24,15 @@ pub const MOST_PARTITIONS: u32 = 4;
 /// The most threads of a trace.
 pub const MOST_THREADS: u32 = 16;
 
-/// The numbers of a head: the version, the region in super pages, the partitions and the threads.
+/// The numbers of a head: the version, the region in super pages, the partitions, the threads, and how many of the partitions are
+/// plain, which is 0 below version 3.
 #[derive(Clone, Copy, Debug, PartialEq, Eq)]
 pub struct Head {
     pub version: u32,
     pub region: u32,
     pub partitions: u32,
     pub threads: u32,
+    pub plain: u32,
 }
 
 // The number, if it is from 1 to the given most.
@@ -36,6 +41,16 @@ fn count_in(number: Option<u32>, most: u32) -> Result<u32, LineFault>
 {
     match number {
         Some(value) if 1 <= value && value <= most => Ok(value),
+        _ => Err(LineFault::Past),
+    }
+}
+
+// The number, if it is at most this one.
+fn up_to(number: Option<u32>, most: u32) -> Result<u32, LineFault>
+    ensures { result ≡ up_to number most }
+{
+    match number {
+        Some(value) if value <= most => Ok(value),
         _ => Err(LineFault::Past),
     }
 }
@@ -61,36 +76,69 @@ fn most_region(version: u32) -> u32
     }
 }
 
+// Whether the head of a version tells how many partitions are plain.
+pub fn tells_plain(version: u32) -> bool
+    ensures { result ≡ tells_plain version }
+{
+    version >= 3
+}
+
+// The most plain partitions among this many in a version.
+fn most_plain(version: u32, partitions: u32) -> u32
+    ensures { result ≡ most_plain version partitions }
+{
+    if tells_plain(version) { partitions } else { 0 }
+}
+
+// What is left of the head of a version behind its threads: how many partitions are plain, if it tells it, and else nothing.
+#[tactic(auto, unfolding(crate::specs::Reading::plain_number_in))]
+fn plain_number_in(version: u32, bytes: &[u8]) -> Result<Option<u32>, LineFault>
+    ensures { Gives (λ x. x) result (plain_number_in (tells_plain version) bytes.now) }
+{
+    if tells_plain(version) {
+        one_number(bytes, b" plain ")
+    } else {
+        ended(bytes)?;
+        Ok(Some(0))
+    }
+}
+
 // The head, which is the whole line. `known` is the last version that is known.
 #[tactic(auto, unfolding(crate::specs::Reading::head_in))]
 pub fn head_in(known: u32, bytes: &[u8]) -> Result<Head, LineFault>
     ensures { result ≡ head_in known bytes.now }
 {
     let (first, rest) = field_in(b"trace ", bytes)?;
-    let (region, partitions, threads) = three_numbers(
+    let version = known_in(known, first)?;
+    let (region, partitions, threads, rest) = three_fields(
         rest,
         b" region ",
         b" partitions ",
         b" threads ",
     )?;
-    let version = known_in(known, first)?;
-    head_of(version, region, partitions, threads)
+    let plain = plain_number_in(version, rest)?;
+    head_of(version, region, partitions, threads, plain)
 }
 
-/// The head of a version with three numbers, each of which may be too large.
+/// The head of a version with four numbers, each of which may be too large.
 pub fn head_of(
     version: u32,
     region: Option<u32>,
     partitions: Option<u32>,
     threads: Option<u32>,
+    plain: Option<u32>,
 ) -> Result<Head, LineFault>
-    ensures { result ≡ head_of version region partitions threads }
+    ensures { result ≡ head_of version region partitions threads plain }
 {
+    let region = count_in(region, most_region(version))?;
+    let partitions = count_in(partitions, MOST_PARTITIONS)?;
+    let threads = count_in(threads, MOST_THREADS)?;
     Ok(Head {
         version,
-        region: count_in(region, most_region(version))?,
-        partitions: count_in(partitions, MOST_PARTITIONS)?,
-        threads: count_in(threads, MOST_THREADS)?,
+        region,
+        partitions,
+        threads,
+        plain: up_to(plain, most_plain(version, partitions))?,
     })
 }
 

@@ -2,11 +2,11 @@
 ghost use Rattle.std.specs.Prelude.{◌≡◌, ◌<◌, ◌++◌, OnOk, OnErr};
 ghost use Rattle.std.specs.Fmt.{decimal};
 ghost use Rattle.std.specs.Io.{StartsWith};
-ghost use Rattle.pa_trace.specs.Grammar.{IsVersionTo, last_version};
+ghost use Rattle.pa_trace.specs.Grammar.{IsVersionTo, IsToldPlain, last_version, tells_plain};
 ghost use Rattle.pa_trace.specs.Faults.{IsBodyLine, IsHeadLine};
-ghost use Rattle.pa_trace.specs.Printed.{LineInBits, word_then_number, head_text, line_text, op_text};
+ghost use Rattle.pa_trace.specs.Printed.{LineInBits, word_then_number, plain_text, head_text, line_text, op_text};
 
-use crate::line::Head;
+use crate::line::{Head, tells_plain};
 use crate::script::{Line, Op};
 use pa_slot::OutOfMemory;
 use pa_text::{Text, push_byte, push_bytes, push_number, push_word};
@@ -20,7 +20,19 @@ pub(crate) fn print_head(out: &mut Text, head: Head) -> Result<(), OutOfMemory>
     push_field(out, b" region ", head.region)?;
     push_field(out, b" partitions ", head.partitions)?;
     push_field(out, b" threads ", head.threads)?;
+    push_plain(out, head)?;
     push_byte(out, b'\n')
+}
+
+// Appends how many partitions are plain, where the head tells it.
+fn push_plain(out: &mut Text, head: Head) -> Result<(), OutOfMemory>
+    ensures pushed { OnOk result (out.new ≡ out.old ++ plain_text (tells_plain head.version) head.plain) }
+    ensures kept { OnErr result (StartsWith out.new out.old) }
+{
+    if tells_plain(head.version) {
+        push_field(out, b" plain ", head.plain)?;
+    }
+    Ok(())
 }
 
 // Appends the line and an LF. If memory runs out, a first part of it may have been appended.
@@ -102,7 +114,8 @@ fn push_few(out: &mut Text, n: u32) -> Result<(), OutOfMemory>
 
 // What is printed of a head of one of the versions is its text.
 pub(crate) fn head_is(head: Head)
-    requires { IsVersionTo last_version head.version }
+    requires version { IsVersionTo last_version head.version }
+    requires plain { IsToldPlain head }
     ensures { IsHeadLine last_version head (head_text head) }
 {}
 

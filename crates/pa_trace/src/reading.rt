@@ -39,12 +39,14 @@ pub fn read_trace_to(alloc: Global, known: u32, bytes: &[u8]) -> Result<Trace, T
         region,
         partitions,
         threads,
+        plain,
     } = reader.head();
     Ok(Trace {
         version,
         region,
         partitions,
         threads,
+        plain,
         lines: Lines::of(lines),
     })
 }

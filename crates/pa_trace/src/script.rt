@@ -6,14 +6,15 @@ use crate::line::Head;
 use std::marker::Model;
 
 /// By which rules a line is played: the version of its trace, and the first plain partition, which in a trace without plain
-/// partitions is the number after its last one's.
+/// partitions is the number after its last one's. No `raw_ptr` to a slot of a plain partition can be made.
 #[derive(Clone, Copy, Debug, PartialEq, Eq)]
 pub struct Rules {
     pub version: u32,
     pub plain_from: u32,
 }
 
-/// A trace: its version, the region in super pages, the number of partitions, the number of threads, and the lines after the head.
+/// A trace: its version, the region in super pages, the number of partitions, the number of threads, how many of the partitions are
+/// plain (the last ones, and 0 below version 3), and the lines after the head.
 /// `lines[i]` is line `i + 2` of the text; the head is line 1. A trace has one phase more than it has lines `Phase`.
 #[derive(Debug, Drop)]
 pub struct Trace {
@@ -21,6 +22,7 @@ pub struct Trace {
     pub region: u32,
     pub partitions: u32,
     pub threads: u32,
+    pub plain: u32,
     pub lines: Lines,
 }
 
@@ -34,6 +36,7 @@ impl Trace {
             region: self.region,
             partitions: self.partitions,
             threads: self.threads,
+            plain: self.plain,
         }
     }
 
@@ -43,7 +46,7 @@ impl Trace {
     {
         Rules {
             version: self.version,
-            plain_from: self.partitions,
+            plain_from: self.partitions.saturating_sub(self.plain),
         }
     }
 }

@@ -1,6 +1,6 @@
 ghost use Rattle.std.specs.Prelude.{◌≡◌, ◌++◌, ◌≤◌, length, OnOk, OnErr, IfOk};
 ghost use Rattle.std.specs.Io.{StartsWith};
-ghost use Rattle.pa_trace.specs.Grammar.{IsVersionTo, AreLinesText, IsTraceText, last_version};
+ghost use Rattle.pa_trace.specs.Grammar.{IsVersionTo, IsToldPlain, AreLinesText, IsTraceText, last_version};
 ghost use Rattle.pa_trace.specs.Limits.{IsWithinLimits, most_bytes};
 ghost use Rattle.pa_trace.specs.Faults.{IsHeadLine, IsBodyLine};
 ghost use Rattle.pa_trace.specs.Cut.{Appends};
@@ -29,9 +29,11 @@ pub fn write_trace(alloc: Global, trace: &Trace) -> Result<Vec<u8>, OutOfMemory>
     Ok(out.into_vec())
 }
 
-/// Appends the head, of one of the versions, and an LF. If memory runs out, a first part of it may have been appended.
+/// Appends the head, of one of the versions, and an LF. Below version 3 no partition is plain. If memory runs out, a first part of it may
+/// have been appended.
 pub fn push_head(out: &mut Text, head: Head) -> Result<(), OutOfMemory>
-    requires { IsVersionTo last_version head.version }
+    requires version { IsVersionTo last_version head.version }
+    requires plain { IsToldPlain head }
     ensures pushed { OnOk result (Appends (IsHeadLine last_version head) out.old out.new) }
     ensures kept { OnErr result (StartsWith out.new out.old) }
 {

@@ -1,5 +1,5 @@
 ghost use Rattle.std.specs.Prelude.{◌≡◌, [], IfOk, OnOk, OnErr};
-ghost use Rattle.pa_trace.specs.Grammar.{IsVersionTo, IsTraceText, last_version};
+ghost use Rattle.pa_trace.specs.Grammar.{IsVersionTo, IsToldPlain, IsTraceText, last_version};
 ghost use Rattle.pa_trace.specs.Unread.{trace_with};
 ghost use Rattle.pa_trace_writer.specs.Lines.{LinesSoFar, no_lines, with_line};
 
@@ -89,6 +89,7 @@ impl LineList {
             region: self.head.region,
             partitions: self.head.partitions,
             threads: self.head.threads,
+            plain: self.head.plain,
             lines: Lines::of(self.items),
         }
     }
@@ -125,10 +126,12 @@ impl Model for LineText {
 }
 
 impl LineText {
-    /// A head of one of the versions, and no lines. Memory is reserved for the texts of this many lines.
+    /// A head of one of the versions, without plain partitions below version 3, and no lines. Memory is reserved for the texts of this
+    /// many lines.
     #[tactic(auto, using(crate::proofs::Growing::head_alone))]
     pub fn new(alloc: Global, head: Head, lines: usize) -> Result<LineText, OutOfMemory>
-        requires { IsVersionTo last_version head.version }
+        requires version { IsVersionTo last_version head.version }
+        requires plain { IsToldPlain head }
         ensures { IfOk result (λ text. text ≡ no_lines head) }
     {
         let mut text = Text::with_capacity(alloc, lines.saturating_mul(LINE_BYTES))?;

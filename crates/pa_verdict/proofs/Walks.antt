@@ -6,7 +6,7 @@ use Rattle.pa_rules.specs.declared.played.Played.{Played}
 use Rattle.pa_rules.specs.declared.verdict.Clause.TheVariants as clauses
 use Rattle.pa_rules.specs.declared.verdict.Place.TheVariants as places
 use Rattle.pa_rules.specs.Told.{Told, records_of}
-use Rattle.pa_rules.specs.Registers.{Facts, Regs, AllRegs, Row, RowsTo, AreRegisters, no_regs, with_thread, usable_in}
+use Rattle.pa_rules.specs.Registers.{Facts, Regs, AllRegs, Row, RowsTo, AreRegisters, no_regs, with_thread, facts_with}
 use Rattle.pa_rules.specs.Roots.{Journals}
 use Rattle.pa_rules.specs.Caches.{Cache, Caches, CacheRow, CachesTo, AreCaches, no_caches, with_cache}
 use Rattle.pa_rules.specs.Sizes.{usable_of}
@@ -44,7 +44,7 @@ rows_whole facts (y ∷ ps) h =
 registers_meet : (t : Trace) (r : Told) → AreRegisters (usable_of t.version) r.cells (records_of t r) → IsMet clauses.Registers t r
 registers_meet t r h (places.Record i) = λ x at.
     let ps = records_of t r in
-    let facts : Facts = record { usable_of = usable_of t.version; usable_at = usable_in ps; cells = r.cells } in
+    let facts : Facts = facts_with (usable_of t.version) ps r.cells in
     let (all, to, rest_rows) =
     rows_cut facts no_regs (take i ps) (x ∷ drop (suc i) ps) h.0
     (subst (λ zs. RowsTo facts no_regs zs h.0) (cut_at ps i x at) h.1) in
@@ -59,7 +59,7 @@ pub registers_are_places : RegistersArePlaces
 registers_are_places t r = (
   registers_meet t r,
   λ met. let ps = records_of t r in
-      let facts : Facts = record { usable_of = usable_of t.version; usable_at = usable_in ps; cells = r.cells } in
+      let facts : Facts = facts_with (usable_of t.version) ps r.cells in
       rows_whole facts ps (λ i. met (places.Record i)),
 )
 

@@ -1,6 +1,6 @@
 -- The worked run of two threads, with each of the three answers of its read, meets the obligations of all layers at once.
-use Rattle.std.proofs.Common.{◌≡◌, ℕ, ◌<◌, ◌≤◌, false, List, [], rules, refl, sym, ap, subst, arith, inl, inr}
-use Rattle.std.specs.Prelude.{Some, None, ◌++◌, take, drop, Contains}
+use Rattle.std.proofs.Common.{Bool, ◌≡◌, ℕ, ◌<◌, ◌≤◌, false, List, [], rules, refl, sym, ap, subst, arith, inl, inr}
+use Rattle.std.specs.Prelude.{nat_le, Some, None, ◌++◌, take, drop, Contains}
 use Rattle.std.specs.List.{AllByRecursion as Each}
 use Rattle.std.proofs.lemmas.Bool.{cases_eq}
 use Rattle.pa_slot.specs.declared.title.Title.{Title}
@@ -32,7 +32,7 @@ use Rattle.pa_logs.specs.Touches.{IsTold, AreTold}
 use Rattle.pa_logs.specs.Reported.{IsLeftBy}
 use Rattle.pa_logs.specs.Seats.{AreOfLines}
 use Rattle.pa_logs.specs.Viewed.{AreViewed}
-use Rattle.pa_logs.specs.Said.{sizes_in, homes_in, EndsPhase, RunnerSays, HeapTells, IsLineSaid}
+use Rattle.pa_logs.specs.Said.{sizes_in, homes_in, plains_in, EndsPhase, RunnerSays, HeapTells, IsLineSaid}
 use Rattle.pa_logs.proofs.Through.{by_length}
 use Rattle.pa_logs.proofs.Said.{layers_tell_all}
 use Rattle.pa_examples.specs.told.Worked.{Worked, told_record, told_records}
@@ -58,6 +58,11 @@ pub record IsCounted (ps : List Played) (n : ℕ) (live quarantined : Tally) : T
   pub waits : (homes sizes : SlotName → ℕ) → homes the_slot ≡ 0 → sizes the_slot ≡ 16 →
       IsLeftBy enters leaves homes sizes 0 2 (until n ps) quarantined
 
+-- whichever slots are plain, the read has this answer by its register
+abbrev IsItsRow : Answer → Type 0
+IsItsRow answer = (plain : SlotName → Bool) (sizes : SlotName → ℕ) → sizes the_slot ≡ 16 →
+    Row (by_length 1 plain sizes threads_cells) (ops.Read 0 0) after_take answer after_take
+
 -- What is required of the answer of the read: its log segment, what seats had seen, what is known at each phase's end, its rows, and the
 -- counts of steps.
 pub record ReadFits (answer : Answer) (word value after : ℕ) (ts : List ToldRecord) : Type 0 where
@@ -66,7 +71,7 @@ pub record ReadFits (answer : Answer) (word value after : ℕ) (ts : List ToldRe
   pub first : KnowsUntil ts 1
   pub second : KnowsUntil ts 2
   pub last : KnowsLast ts
-  pub row : (sizes : SlotName → ℕ) → sizes the_slot ≡ 16 → Row (by_length 1 sizes threads_cells) (ops.Read 0 0) after_take answer after_take
+  pub row : IsItsRow answer
   pub cached : ReadsOnly answer
   pub until_1 : IsCounted (played_in ts) 1 (tally 1 16) (tally 0 0)
   pub until_2 : IsCounted (played_in ts) 2 (tally 0 0) (tally 1 16)
@@ -86,6 +91,9 @@ module _ (answer : Answer) (word value after : ℕ)
 
   abbrev sizes : SlotName → ℕ
   sizes = sizes_in two_threads_trace (told_with so)
+
+  abbrev plains : SlotName → Bool
+  plains = plains_in two_threads_trace (told_with so)
 
   -- the log segments of the other records are right with 16 bytes, so they are with the slot's length
   abbrev others : List ToldRecord
@@ -204,7 +212,7 @@ module _ (answer : Answer) (word value after : ℕ)
   heap = record {
     told = told;
     lines = of_lines;
-    rows = rows_of sizes (size_is so) answer word value after (fits.row sizes (size_is so));
+    rows = rows_of plains sizes (size_is so) (ap (nat_le 1) (home_is so)) answer word value after (fits.row plains sizes (size_is so));
     seen = have_seen threads_cells ts fits.viewed;
     caches = λ n k some_phase few. leads_of answer word value after fits.cached n k (omega arith);
   }
@@ -272,8 +280,7 @@ IsLook answer word = mark_of (record of_one { line = 8; thread = 1; phase = 2; o
 -- from what is known of logs and of what was seen.
 pub fits : (answer : Answer) (word value after : ℕ) → IsLook answer word →
     ((sizes : SlotName → ℕ) → sizes the_slot ≡ 16 → IsTold sizes (told_record (so_read answer word value after))) →
-    ((sizes : SlotName → ℕ) → sizes the_slot ≡ 16 → Row (by_length 1 sizes threads_cells) (ops.Read 0 0) after_take answer after_take) →
-    ReadsOnly answer →
+    IsItsRow answer → ReadsOnly answer →
     AreViewed threads_cells (reading_so (so_read answer word value after)) → KnowsUntil (reading_so (so_read answer word value after)) 1 →
     KnowsUntil (reading_so (so_read answer word value after)) 2 → KnowsLast (reading_so (so_read answer word value after)) →
     ((u : Title) → seen_among u (seen_number after) ≤ seen_among u (seen_number 4)) →
@@ -322,7 +329,7 @@ poison_fits = fits (answers.Value (seen_at 16384 0 0x2000003) poison) 0x2000003 
         },
       ),
     ))
-    (λ sizes long. held_row sizes long 0x2000003 poison refl) (none_on two_threads_journal 8 refl, λ p c. refl) seen_so
+    (λ plain sizes long. held_row plain sizes long 0x2000003 poison refl) (none_on two_threads_journal 8 refl, λ p c. refl) seen_so
     (record {
       knows = knows_one told_first steps_first of_first;
       own_logs = refl;
@@ -367,7 +374,8 @@ content_fits = fits (answers.Value (seen_at 16384 0 0x2000003) 0) 0x2000003 0 2 
         },
       ),
     ))
-    (λ sizes long. held_row sizes long 0x2000003 0 refl) (none_on two_threads_journal 8 refl, λ p c. refl) other_reads_fit.content.viewed
+    (λ plain sizes long. held_row plain sizes long 0x2000003 0 refl) (none_on two_threads_journal 8 refl, λ p c. refl)
+    other_reads_fit.content.viewed
     (record {
       knows = knows_one told_first steps_first of_first;
       own_logs = refl;
@@ -412,7 +420,7 @@ freed_fits = fits (answers.Dangling (seen_at 16384 0 0x3000002) poison) 0x300000
         },
       ),
     ))
-    (λ sizes long. freed_row sizes long 0x3000002 poison refl)
+    (λ plain sizes long. freed_row plain sizes long 0x3000002 poison refl)
     (none_on two_threads_journal 8 refl, λ p c. refl) other_reads_fit.freed.viewed
     (record {
       knows = knows_one told_first steps_first of_first;

@@ -1,6 +1,6 @@
 -- The worked run of direct maps meets the obligations of all layers at once.
 use Rattle.std.proofs.Common.{◌≡◌, ℕ, ◌<◌, ◌≤◌, List, [], ◌∷◌, filter, map, take, drop, None, lit<, lit≤, refl, rules, sym, ◌∙◌, subst, arith, inl, inr}
-use Rattle.std.specs.Prelude.{◌==◌, if◌then◌else◌, Contains}
+use Rattle.std.specs.Prelude.{◌==◌, nat_le, if◌then◌else◌, Contains}
 use Rattle.std.specs.List.{AllByRecursion as Each}
 use Rattle.std.proofs.lemmas.Bool.{ne_eqb}
 use Rattle.pa_slot.specs.declared.title.Title.{Title}
@@ -18,7 +18,7 @@ use Rattle.pa_record.specs.Worked.{full, map_made, map_gone, direct_map_again_po
 use Rattle.pa_lists.proofs.Joined.{map_in}
 use Rattle.pa_record.proofs.Worked.{direct_map_again}
 use Rattle.pa_rules.specs.declared.register.Register.TheVariants.{Own, Ref, Freed, Cleared}
-use Rattle.pa_rules.specs.Registers.{Regs, with, no_regs}
+use Rattle.pa_rules.specs.Registers.{Regs, Facts, Row, PointRow, with, no_regs}
 use Rattle.pa_rules.specs.Cells.{history_at}
 use Rattle.pa_rules.specs.Caches.{no_caches, listed_slots}
 use Rattle.pa_rules.specs.Report.{HasSize, until, listed_bytes}
@@ -52,6 +52,7 @@ use Rattle.pa_examples.proofs.told.Fitting.{maps_asked}
 use Rattle.pa_examples.proofs.told.Making.{Makes, makes_none, makes_all, none_makes}
 use Rattle.pa_examples.proofs.told.Maps.{last, seen_so}
 use Rattle.pa_examples.proofs.told.OneThread.{by_one, IsAlone, no_cells_tell, leads_of}
+use Rattle.pa_examples.proofs.told.Played.{not_uncounted}
 use Rattle.pa_examples.proofs.told.Seats.{append_none}
 use Rattle.pa_examples.proofs.told.Seen.{heard_by, have_seen}
 
@@ -306,8 +307,16 @@ after_reset = with after_second_free 1 Cleared
 abbrev after_third : Regs
 after_third = with after_reset 2 (Own (slot_by 5))
 
+abbrev facts : Facts
+facts = facts_in direct_map_trace told_maps
+
 abbrev RowsOf : ℕ → Type 0
-RowsOf k = HasToldRows sizes (facts_in direct_map_trace told_maps) (no_regs k) (filter (is_of_thread k) maps_told)
+RowsOf k = HasToldRows sizes facts (no_regs k) (filter (is_of_thread k) maps_told)
+
+-- the second map's partition isn't plain
+copied : Row facts (ops.Copy 0 1) after_second (answers.Done (seen_at 16384 2 0x1000001)) after_copy
+copied = subst (λ p. PointRow (nat_le 1 p) (slot_by 2) after_second 1 (answers.Done (seen_at 16384 2 0x1000001)) after_copy)
+    (sym second.home) (seen_at 16384 2 0x1000001, refl, refl, λ k. refl)
 
 first_rows : RowsOf 0
 unfolding slot_size_for rows
@@ -325,8 +334,8 @@ first_rows = (
       tt,
       (
         after_copy,
-        (seen_at 16384 2 0x1000001, refl, refl, λ k. refl),
-        tt,
+        copied,
+        λ s own e. absurd (not_uncounted (seen_at 16384 2 0x1000001) e),
         (
           after_second_free,
           (seen_at 16384 2 0x2000003, refl, refl, λ k. refl),

@@ -1,5 +1,5 @@
 -- The rows of registers and of lists of the worked run of two threads, with any answer that its read may give.
-use Rattle.std.proofs.Common.{◌≡◌, ℕ, ◌-◌, ◌*◌, ◌<◌, ◌≤◌, ◌&&◌, false, eqb, leb, List, [], ◌∷◌, filter, Some, lit≤, refl, sym, subst, arith, inl, inr}
+use Rattle.std.proofs.Common.{Bool, ◌≡◌, ℕ, ◌-◌, ◌*◌, ◌<◌, ◌≤◌, ◌&&◌, false, eqb, leb, List, [], ◌∷◌, filter, Some, lit≤, refl, sym, subst, arith, inl, inr}
 use Rattle.std.specs.Prelude.{if◌then◌else◌}
 use Rattle.std.proofs.lemmas.Bool.{cases_eq, ne_eqb}
 use Rattle.pa_slot.specs.declared.word.SlotName.{SlotName}
@@ -12,11 +12,12 @@ use Rattle.pa_region.specs.declared.view.Entry.{Entry}
 use Rattle.pa_region.specs.declared.view.Entry.TheVariants.{Looked, Read}
 use Rattle.pa_region.specs.Moves.{no_deeds}
 use Rattle.pa_trace.specs.declared.script.Op.TheVariants as ops
+use Rattle.pa_record.specs.declared.entry.Seen.{Seen}
 use Rattle.pa_record.specs.declared.entry.Answer.{Answer}
 use Rattle.pa_record.specs.declared.entry.Answer.TheVariants as answers
 use Rattle.pa_rules.specs.declared.register.Register.TheVariants.{Empty, Own, Ref, Freed, Cleared}
 use Rattle.pa_rules.specs.declared.played.Played.{Played}
-use Rattle.pa_rules.specs.Registers.{Regs, Facts, Row, with, no_regs}
+use Rattle.pa_rules.specs.Registers.{Regs, Facts, Row, PointRow, with, no_regs}
 use Rattle.pa_rules.specs.Caches.{Cache, Caches, with_list, no_caches, DoneRow, CacheRow}
 use Rattle.pa_rules.specs.Report.{until}
 use Rattle.pa_rules.specs.Sizes.{slot_size_for}
@@ -63,10 +64,14 @@ after_reset = with after_take 0 Cleared
 not_own : (s : SlotName) → Ref the_slot ≡ Own s → ⊥
 not_own s e = cc
 
+-- a copy that was done is counted
+pub not_uncounted : (seen : Seen) → answers.Done seen ≡ answers.Uncounted → ⊥
+not_uncounted seen e = cc
+
 -- if the slot has 16 bytes
-module _ (sizes : SlotName → ℕ) (long : sizes the_slot ≡ 16) where
+module _ (plain : SlotName → Bool) (sizes : SlotName → ℕ) (long : sizes the_slot ≡ 16) where
   abbrev pub facts : Facts
-  facts = by_length 1 sizes threads_cells
+  facts = by_length 1 plain sizes threads_cells
 
   -- a read through the raw_ptr, before which the slot was seen
   through_ref : (x : ToldRecord) → 1 ≤ x.saw its_title → IsReadThrough sizes (Ref the_slot) x
@@ -92,9 +97,15 @@ module _ (sizes : SlotName → ℕ) (long : sizes the_slot ≡ 16) where
       Row facts (ops.Read 0 0) after_take (answers.Dangling (seen_at 16384 0 word) value) after_take
   freed_row word value freed = (λ k. refl, inr (inside, seen_at 16384 0 word, value, refl, inr (freed, refl)))
 
-  module _ (answer : Answer) (word value after : ℕ) (read : Row facts (ops.Read 0 0) after_take answer after_take) where
+  -- if it isn't plain
+  module _ (counted : plain the_slot ≡ false) (answer : Answer) (word value after : ℕ)
+      (read : Row facts (ops.Read 0 0) after_take answer after_take) where
     abbrev ts : List ToldRecord
     ts = reading_so (so_read answer word value after)
+
+    copied : Row facts (ops.Copy 0 1) after_made (answers.Done (seen_at 16384 0 0x1000001)) after_copy
+    copied = subst (λ b. PointRow b the_slot after_made 1 (answers.Done (seen_at 16384 0 0x1000001)) after_copy) (sym counted)
+        (seen_at 16384 0 0x1000001, refl, refl, λ k. refl)
 
     first_rows : HasToldRows sizes facts (no_regs 0) (filter (is_of_thread 0) ts)
     first_rows = (
@@ -103,8 +114,8 @@ module _ (sizes : SlotName → ℕ) (long : sizes the_slot ≡ 16) where
       tt,
       (
         after_copy,
-        (seen_at 16384 0 0x1000001, refl, refl, λ k. refl),
-        tt,
+        copied,
+        λ s own e. absurd (not_uncounted (seen_at 16384 0 0x1000001) e),
         (
           after_give,
           (0, _, refl, refl, refl, λ k. refl),

@@ -7,7 +7,7 @@ use Rattle.pa_trace.specs.declared.script.Op.TheVariants as ops
 use Rattle.pa_record.specs.declared.entry.Answer.TheVariants as answers
 use Rattle.pa_rules.specs.declared.register.Register.TheVariants.{Empty, Own, Ref, Freed}
 use Rattle.pa_rules.specs.declared.played.Played.{Played}
-use Rattle.pa_rules.specs.Registers.{Regs, Facts, with, no_regs, usable_in, Row, AreRegisters}
+use Rattle.pa_rules.specs.Registers.{Regs, Facts, with, no_regs, Row, AreRegisters, facts_with}
 use Rattle.pa_rules.specs.Contents.{HasRegs, IsNextFree, IsBeingFreed, IsReadAllowed, AreContents}
 use Rattle.pa_rules.specs.Sizes.{slot_size_for, usable_of}
 use Rattle.pa_examples.specs.Worked.{seen_at, of_one}
@@ -17,7 +17,7 @@ use Rattle.pa_examples.proofs.worked.OneFill.{the_slot}
 use Rattle.pa_examples.proofs.worked.Early.{cells}
 
 abbrev facts : Facts
-facts = record { usable_of = usable_of 1; usable_at = usable_in early_read_records; cells = cells }
+facts = facts_with (usable_of 1) early_read_records cells
 
 -- the registers of the first thread after its lines
 abbrev after_made : Regs

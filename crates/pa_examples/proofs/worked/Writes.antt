@@ -9,7 +9,7 @@ use Rattle.pa_record.specs.declared.entry.Answer.TheVariants as answers
 use Rattle.pa_rules.specs.declared.register.Register.TheVariants.{Own, Ref, Cleared}
 use Rattle.pa_rules.specs.Played.{marks_of, AreLines}
 use Rattle.pa_rules.specs.Cells.{AreCells}
-use Rattle.pa_rules.specs.Registers.{Regs, Facts, with, no_regs, usable_in, Row, AreRegisters}
+use Rattle.pa_rules.specs.Registers.{Regs, Facts, with, no_regs, Row, AreRegisters, facts_with}
 use Rattle.pa_rules.specs.Contents.{IsWrittenAt, IsContent, IsReadAllowed, AreContents}
 use Rattle.pa_rules.specs.Seen.{IsSeenInOrder}
 use Rattle.pa_rules.specs.Sizes.{slot_size_for, usable_of}
@@ -28,7 +28,7 @@ pub cells : AreCells no_cells writes_records
 cells = no_cell_used writes_records refl
 
 abbrev facts : Facts
-facts = record { usable_of = usable_of 1; usable_at = usable_in writes_records; cells = no_cells }
+facts = facts_with (usable_of 1) writes_records no_cells
 
 -- the registers after the lines that change them
 abbrev after_made : Regs

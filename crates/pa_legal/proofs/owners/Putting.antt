@@ -13,7 +13,7 @@ use Rattle.pa_rules.specs.declared.register.Register.TheVariants.{Empty}
 use Rattle.pa_rules.specs.declared.played.Played.{Played}
 use Rattle.pa_rules.specs.Changes.{change_of, changed}
 use Rattle.pa_rules.specs.Contents.{HasRegs}
-use Rattle.pa_rules.specs.Registers.{Reg, Regs, AllRegs, Facts, Row, RowsTo, AreRegisters, with, with_thread, no_regs, usable_in}
+use Rattle.pa_rules.specs.Registers.{Reg, Regs, AllRegs, Facts, Row, RowsTo, AreRegisters, with, with_thread, no_regs, facts_with}
 use Rattle.pa_rules.specs.Rising.{RiseByLine}
 use Rattle.pa_rules.specs.Sizes.{usable_of}
 use Rattle.pa_rules.specs.Told.{records_of}
@@ -26,7 +26,7 @@ abbrev pub Cells : Type 0
 Cells = ℕ → List CellEntry
 
 abbrev pub facts_of : ℕ → Cells → List Played → Facts
-facts_of version cells ps = record { usable_of = usable_of version; usable_at = usable_in ps; cells = cells }
+facts_of version cells ps = facts_with (usable_of version) ps cells
 
 abbrev Rises : Played → Played → Type 0
 Rises x y = x.line < y.line

@@ -1,5 +1,5 @@
 -- A record that looks at a slot or steps on it names it by the handle of its register, unless it makes the slot; and only an owner frees.
-use Rattle.std.proofs.Common.{◌≡◌, ℕ, ◌⊎◌, Option, Some, None, refl, sym, ◌∙◌, ap, inl, inr}
+use Rattle.std.proofs.Common.{Bool, true, false, ◌≡◌, ℕ, ◌⊎◌, Option, Some, None, refl, sym, ◌∙◌, ap, inl, inr}
 use Rattle.pa_slot.specs.declared.word.SlotName.{SlotName}
 use Rattle.pa_slot.specs.declared.word.Step.{Step}
 use Rattle.pa_slot.specs.declared.word.Step.TheVariants as steps
@@ -12,7 +12,7 @@ use Rattle.pa_record.specs.declared.entry.Answer.{Answer}
 use Rattle.pa_record.specs.declared.entry.Answer.TheVariants as answers
 use Rattle.pa_rules.specs.declared.register.Register.TheVariants.{Empty, Own, Ref, Freed, Cleared}
 use Rattle.pa_rules.specs.Played.{mark_of_answer, mark_at, step_of}
-use Rattle.pa_rules.specs.Registers.{Reg, Regs, Facts, Row, RequestRow, AllocRow, CopyRow, CopyToRow, ResetRow, FreeRow, WriteRow, ReadRow, ReadFromRow}
+use Rattle.pa_rules.specs.Registers.{Reg, Regs, Facts, Row, RequestRow, AllocRow, CopyRow, CopyToRow, PointRow, ResetRow, FreeRow, WriteRow, ReadRow, ReadFromRow}
 use Rattle.pa_rules.proofs.Leading.{slot_in, used_by}
 use Rattle.pa_rules.proofs.Marking.{not_look}
 
@@ -118,24 +118,33 @@ alloc_named facts line op Freed regs next reg size answer m row mark =
 alloc_named facts line op Cleared regs next reg size answer m row mark =
     request_named facts line op Cleared regs next reg size answer m row mark
 
-copy_to_named : (line : ℕ) (op : Op) (r into : Reg) (s : SlotName) (regs next : Regs) (to : ℕ) (answer : Answer) (m : Mark)
-    → slot_in r ≡ Some s → CopyToRow into s regs to answer next → mark_of_answer line op answer ≡ Some m → IsNamed r m
-copy_to_named line op r Empty s regs next to answer m names (seen, slot, is, becomes) mark =
-    tells line op answer (answers.Done seen) r m s seen (step_of op) is refl slot names mark
-copy_to_named line op r (Own t) s regs next to answer m names row mark = silent line op answer answers.Filled r m row.0 refl mark
-copy_to_named line op r (Ref t) s regs next to answer m names row mark = silent line op answer answers.Filled r m row.0 refl mark
-copy_to_named line op r Freed s regs next to answer m names (seen, slot, is, becomes) mark =
-    tells line op answer (answers.Done seen) r m s seen (step_of op) is refl slot names mark
-copy_to_named line op r Cleared s regs next to answer m names (seen, slot, is, becomes) mark =
+-- what would point to a plain slot isn't counted, and makes no step
+point_named : (line : ℕ) (op : Op) (r : Reg) (plain : Bool) (s : SlotName) (regs next : Regs) (to : ℕ) (answer : Answer) (m : Mark)
+    → slot_in r ≡ Some s → PointRow plain s regs to answer next → mark_of_answer line op answer ≡ Some m → IsNamed r m
+point_named line op r true s regs next to answer m names row mark = silent line op answer answers.Uncounted r m row.0 refl mark
+point_named line op r false s regs next to answer m names (seen, slot, is, becomes) mark =
     tells line op answer (answers.Done seen) r m s seen (step_of op) is refl slot names mark
 
-copy_named : (line : ℕ) (op : Op) (r : Reg) (regs next : Regs) (to : ℕ) (answer : Answer) (m : Mark) → CopyRow r regs to answer next
-    → mark_of_answer line op answer ≡ Some m → IsNamed r m
-copy_named line op Empty regs next to answer m row mark = silent line op answer answers.Nothing Empty m row.0 refl mark
-copy_named line op (Own s) regs next to answer m row mark = copy_to_named line op (Own s) (regs to) s regs next to answer m refl row mark
-copy_named line op (Ref s) regs next to answer m row mark = copy_to_named line op (Ref s) (regs to) s regs next to answer m refl row mark
-copy_named line op Freed regs next to answer m row mark = silent line op answer (answers.StaleUse None) Freed m row.0 refl mark
-copy_named line op Cleared regs next to answer m row mark = silent line op answer (answers.StaleUse None) Cleared m row.0 refl mark
+copy_to_named : (line : ℕ) (op : Op) (r into : Reg) (plain : Bool) (s : SlotName) (regs next : Regs) (to : ℕ) (answer : Answer) (m : Mark)
+    → slot_in r ≡ Some s → CopyToRow into plain s regs to answer next → mark_of_answer line op answer ≡ Some m → IsNamed r m
+copy_to_named line op r Empty plain s regs next to answer m names row mark =
+    point_named line op r plain s regs next to answer m names row mark
+copy_to_named line op r (Own t) plain s regs next to answer m names row mark = silent line op answer answers.Filled r m row.0 refl mark
+copy_to_named line op r (Ref t) plain s regs next to answer m names row mark = silent line op answer answers.Filled r m row.0 refl mark
+copy_to_named line op r Freed plain s regs next to answer m names row mark =
+    point_named line op r plain s regs next to answer m names row mark
+copy_to_named line op r Cleared plain s regs next to answer m names row mark =
+    point_named line op r plain s regs next to answer m names row mark
+
+copy_named : (facts : Facts) (line : ℕ) (op : Op) (r : Reg) (regs next : Regs) (to : ℕ) (answer : Answer) (m : Mark)
+    → CopyRow r facts regs to answer next → mark_of_answer line op answer ≡ Some m → IsNamed r m
+copy_named facts line op Empty regs next to answer m row mark = silent line op answer answers.Nothing Empty m row.0 refl mark
+copy_named facts line op (Own s) regs next to answer m row mark =
+    copy_to_named line op (Own s) (regs to) (facts.plain_at s) s regs next to answer m refl row mark
+copy_named facts line op (Ref s) regs next to answer m row mark =
+    copy_to_named line op (Ref s) (regs to) false s regs next to answer m refl row mark
+copy_named facts line op Freed regs next to answer m row mark = silent line op answer (answers.StaleUse None) Freed m row.0 refl mark
+copy_named facts line op Cleared regs next to answer m row mark = silent line op answer (answers.StaleUse None) Cleared m row.0 refl mark
 
 reset_named : (line : ℕ) (op : Op) (r : Reg) (regs next : Regs) (reg : ℕ) (answer : Answer) (m : Mark) → ResetRow r regs reg answer next
     → mark_of_answer line op answer ≡ Some m → IsNamed r m
@@ -197,7 +206,7 @@ pub mark_named : (facts : Facts) (line : ℕ) (op : Op) (regs next : Regs) (answ
 mark_named facts line (ops.Alloc reg partition size) regs next answer m row mark =
     alloc_named facts line (ops.Alloc reg partition size) (regs reg) regs next reg size answer m row mark
 mark_named facts line (ops.Copy from to) regs next answer m row mark =
-    copy_named line (ops.Copy from to) (regs from) regs next to answer m row mark
+    copy_named facts line (ops.Copy from to) (regs from) regs next to answer m row mark
 mark_named facts line (ops.Reset reg) regs next answer m row mark =
     reset_named line (ops.Reset reg) (regs reg) regs next reg answer m row mark
 mark_named facts line (ops.Free reg) regs next answer m row mark = free_named line (ops.Free reg) (regs reg) regs next reg answer m row mark

@@ -1,5 +1,5 @@
 -- The answer of an op is the one that the records before it and the placement ask for.
-use Rattle.std.proofs.Common.{◌≡◌, ℕ, ◌<◌, ◌⊎◌, List, [], ◌∷◌, ◌++◌, length, slice_get, Option, Some, None, refl, sym, ◌∙◌, ap, subst, arith, inl, inr}
+use Rattle.std.proofs.Common.{Bool, true, false, ◌≡◌, ℕ, ◌<◌, ◌⊎◌, List, [], ◌∷◌, ◌++◌, length, slice_get, Option, Some, None, refl, sym, ◌∙◌, ap, subst, arith, inl, inr}
 use Rattle.std.specs.Prelude.{Contains}
 use Rattle.std.specs.Option.{option_map}
 use Rattle.std.proofs.lemmas.Bool.{cases_eq}
@@ -8,7 +8,6 @@ use Rattle.pa_slot.specs.declared.word.Step.{Step}
 use Rattle.pa_slot.specs.Count.{held_of, refs_of}
 use Rattle.pa_slot.specs.Run.{Mark}
 use Rattle.pa_slot.specs.Titles.{poison}
-use Rattle.pa_slot.proofs.Runs.{same_slot_yes}
 use Rattle.pa_slot.specs.declared.word.Step.TheVariants as steps
 use Rattle.pa_trace.specs.declared.script.Op.{Op}
 use Rattle.pa_trace.specs.declared.script.Op.TheVariants as ops
@@ -18,21 +17,22 @@ use Rattle.pa_record.specs.declared.entry.Seen.{Seen}
 use Rattle.pa_record.specs.declared.entry.Answer.{Answer}
 use Rattle.pa_record.specs.declared.entry.Answer.TheVariants.{Made, Done, Value, Dangling, SecondFree, NotOwner, StaleUse, Shared, Full, Swapped, Purged}
 use Rattle.pa_record.specs.declared.history.CellEntry.{CellEntry}
-use Rattle.pa_lists.proofs.Members.{not_in_none, first_in, later_in, in_cases, of_some, not_some}
+use Rattle.pa_lists.proofs.Members.{first_in, later_in, of_some, not_some}
 use Rattle.pa_record.proofs.Same.{same_seen, same_cell}
 use Rattle.pa_record.specs.declared.history.Held.TheVariants as held
 use Rattle.pa_rules.specs.declared.register.Register.TheVariants.{Empty, Own, Ref, Freed, Cleared}
 use Rattle.pa_rules.specs.declared.played.Played.{Played}
 use Rattle.pa_rules.specs.Played.{OpLine, op_line_of, mark_at, look_at, mark_of_answer, step_of}
-use Rattle.pa_rules.specs.Registers.{Reg, Regs, AllRegs, Facts, Row, RowsTo, with_thread, AllocRow, RequestRow, CopyRow, CopyToRow, ResetRow, FreeRow, WriteRow, ReadRow, ReadFromRow, handle_of, reg_of, no_regs, made_of, usable_or, usable_in}
+use Rattle.pa_rules.specs.Registers.{Reg, Regs, AllRegs, Facts, Row, RowsTo, with_thread, AllocRow, RequestRow, CopyRow, CopyToRow, PointRow, ResetRow, FreeRow, WriteRow, ReadRow, ReadFromRow, handle_of, reg_of, no_regs, usable_in, plain_in}
 use Rattle.pa_rules.specs.Contents.{IsReadExact}
 use Rattle.pa_rules.specs.Changes.{swapped_of, found_in, change_of, changed}
 use Rattle.pa_rules.proofs.Leading.{slot_in, row_leads}
 use Rattle.pa_one_run.specs.Parts.{Parts, cell_line}
 use Rattle.pa_one_run.specs.Before.{word_after, below, on, facts_of, HasRegisters, gave_last}
-use Rattle.pa_one_run.proofs.Filed.{IsFiled, Agrees, IsPlacedAlike, IsMadeIn}
+use Rattle.pa_one_run.proofs.Filed.{IsFiled, Agrees, IsPlacedAlike}
 use Rattle.pa_one_run.proofs.rows.Exchanges.{exchange_here, exchange_none, exchange_kept}
 use Rattle.pa_one_run.proofs.rows.Handles.{row_at, holds_made, swap_gave}
+use Rattle.pa_one_run.proofs.rows.Makers.{usable_front, plain_front}
 use Rattle.pa_one_run.proofs.words.Found.{found_is}
 use Rattle.pa_lists.proofs.Elements.{in_middle, in_front}
 use Rattle.pa_one_run.proofs.lines.Cuts.{cut_here}
@@ -94,23 +94,6 @@ registers_agree a b before rest rest' n all all' h k parts parts' early agrees r
     at' ∙ sym (exchange_kept a b n cell j e h k agrees at' (omega arith)))
     refl rows rows'
 
--- ---- the usable numbers
-
--- how many bytes of a slot that was made are usable, the record says that made it first
-pub usable_front : (before more other : List Played) (s : SlotName) → IsMadeIn before s →
-    usable_in (before ++ more) s ≡ usable_in (before ++ other) s
-usable_front [] more other s (q, seen, usable, among, is, slot) = absurd (not_in_none q among)
-usable_front (p ∷ before) more other s (q, seen, usable, among, is, slot) = elim (in_cases p q before among) [
-  | inl same ↦
-      let answer : p.answer ≡ Made seen usable = ap (λ (z : Played). z.answer) same ∙ is in
-      let told : (n : ℕ) → usable_or (made_of p.answer) s n ≡ usable = λ n. ap (λ z. usable_or (made_of z) s n) answer ∙ here n in
-      told (usable_in (before ++ more) s) ∙ sym (told (usable_in (before ++ other) s))
-  | inr later ↦ ap (usable_or (made_of p.answer) s) (usable_front before more other s (q, seen, usable, later, is, slot))
-]
-  where
-    here : (n : ℕ) → usable_or (Some (seen.slot, usable)) s n ≡ usable
-    here n = rw (same_slot_yes seen.slot s slot) refl
-
 -- ---- what an answer saw
 
 -- the slot and the word, if the answer has them
@@ -164,6 +147,7 @@ record AreAlike (f g : Facts) (regs : Regs) (x y : Answer) : Type 0 where
   placed : IsPlacedAlike x y
   sizes : (size : ℕ) → f.usable_of size ≡ g.usable_of size
   usable : (reg : ℕ) (s : SlotName) → slot_in (regs reg) ≡ Some s → f.usable_at s ≡ g.usable_at s
+  plain : (reg : ℕ) (s : SlotName) → slot_in (regs reg) ≡ Some s → f.plain_at s ≡ g.plain_at s
   seen : (c d : Seen) → seen_of x ≡ Some c → seen_of y ≡ Some d → c.slot ≡ d.slot → c ≡ d
   values : (c : Seen) (v w : ℕ) → x ≡ Value c v → y ≡ Value c w → v ≡ w
   poisons : (c d : Seen) (v w : ℕ) → x ≡ Dangling c v → y ≡ Dangling d w → v ≡ w
@@ -205,21 +189,29 @@ done_alike : (f g : Facts) (regs : Regs) (x y : Answer) (c d : Seen) (s : SlotNa
 done_alike f g regs x y c d s alike slot slot' is is' = is ∙
     ap {B = Answer} (λ z. Done z) (seen_alike f g regs x y (Done c) (Done d) c d s alike is is' refl refl slot slot') ∙ sym is'
 
-copy_to_alike : (f g : Facts) (r : Reg) (s : SlotName) (regs : Regs) (x y : Answer) (to : ℕ) (next next' : Regs) → AreAlike f g regs x y
-    → CopyToRow r s regs to x next → CopyToRow r s regs to y next' → x ≡ y
-copy_to_alike f g Empty s regs x y to next next' alike h k = done_alike f g regs x y h.0 k.0 s alike h.1 k.1 h.2 k.2
-copy_to_alike f g (Own t) s regs x y to next next' alike h k = h.0 ∙ sym k.0
-copy_to_alike f g (Ref t) s regs x y to next next' alike h k = h.0 ∙ sym k.0
-copy_to_alike f g Freed s regs x y to next next' alike h k = done_alike f g regs x y h.0 k.0 s alike h.1 k.1 h.2 k.2
-copy_to_alike f g Cleared s regs x y to next next' alike h k = done_alike f g regs x y h.0 k.0 s alike h.1 k.1 h.2 k.2
+point_alike : (f g : Facts) (plain : Bool) (s : SlotName) (regs : Regs) (x y : Answer) (to : ℕ) (next next' : Regs) →
+    AreAlike f g regs x y → PointRow plain s regs to x next → PointRow plain s regs to y next' → x ≡ y
+point_alike f g true s regs x y to next next' alike h k = h.0 ∙ sym k.0
+point_alike f g false s regs x y to next next' alike h k = done_alike f g regs x y h.0 k.0 s alike h.1 k.1 h.2 k.2
+
+copy_to_alike : (f g : Facts) (r : Reg) (plain : Bool) (s : SlotName) (regs : Regs) (x y : Answer) (to : ℕ) (next next' : Regs) →
+    AreAlike f g regs x y → CopyToRow r plain s regs to x next → CopyToRow r plain s regs to y next' → x ≡ y
+copy_to_alike f g Empty plain s regs x y to next next' alike h k = point_alike f g plain s regs x y to next next' alike h k
+copy_to_alike f g (Own t) plain s regs x y to next next' alike h k = h.0 ∙ sym k.0
+copy_to_alike f g (Ref t) plain s regs x y to next next' alike h k = h.0 ∙ sym k.0
+copy_to_alike f g Freed plain s regs x y to next next' alike h k = point_alike f g plain s regs x y to next next' alike h k
+copy_to_alike f g Cleared plain s regs x y to next next' alike h k = point_alike f g plain s regs x y to next next' alike h k
 
 copy_alike : (f g : Facts) (r : Reg) (regs : Regs) (x y : Answer) (to : ℕ) (next next' : Regs) → AreAlike f g regs x y →
-    CopyRow r regs to x next → CopyRow r regs to y next' → x ≡ y
-copy_alike f g Empty regs x y to next next' alike h k = h.0 ∙ sym k.0
-copy_alike f g (Own s) regs x y to next next' alike h k = copy_to_alike f g (regs to) s regs x y to next next' alike h k
-copy_alike f g (Ref s) regs x y to next next' alike h k = copy_to_alike f g (regs to) s regs x y to next next' alike h k
-copy_alike f g Freed regs x y to next next' alike h k = h.0 ∙ sym k.0
-copy_alike f g Cleared regs x y to next next' alike h k = h.0 ∙ sym k.0
+    ((s : SlotName) → slot_in r ≡ Some s → f.plain_at s ≡ g.plain_at s) →
+    CopyRow r f regs to x next → CopyRow r g regs to y next' → x ≡ y
+copy_alike f g Empty regs x y to next next' alike plain h k = h.0 ∙ sym k.0
+copy_alike f g (Own s) regs x y to next next' alike plain h k =
+    copy_to_alike f g (regs to) (f.plain_at s) s regs x y to next next' alike h
+    (subst (λ z. CopyToRow (regs to) z s regs to y next') (sym (plain s refl)) k)
+copy_alike f g (Ref s) regs x y to next next' alike plain h k = copy_to_alike f g (regs to) false s regs x y to next next' alike h k
+copy_alike f g Freed regs x y to next next' alike plain h k = h.0 ∙ sym k.0
+copy_alike f g Cleared regs x y to next next' alike plain h k = h.0 ∙ sym k.0
 
 reset_alike : (f g : Facts) (r : Reg) (regs : Regs) (x y : Answer) (reg : ℕ) (next next' : Regs) → AreAlike f g regs x y →
     ResetRow r regs reg x next → ResetRow r regs reg y next' → x ≡ y
@@ -331,7 +323,8 @@ row_alike : (f g : Facts) (op : Op) (regs : Regs) (x y : Answer) (next next' : R
     x ≡ y
 row_alike f g (ops.Alloc reg partition size) regs x y next next' alike swapped h k =
     alloc_alike f g (regs reg) regs x y reg size next next' alike h k
-row_alike f g (ops.Copy from to) regs x y next next' alike swapped h k = copy_alike f g (regs from) regs x y to next next' alike h k
+row_alike f g (ops.Copy from to) regs x y next next' alike swapped h k =
+    copy_alike f g (regs from) regs x y to next next' alike (alike.plain from) h k
 row_alike f g (ops.Reset reg) regs x y next next' alike swapped h k = reset_alike f g (regs reg) regs x y reg next next' alike h k
 row_alike f g (ops.Free reg) regs x y next next' alike swapped h k = free_alike f g (regs reg) regs x y reg next next' alike h k
 row_alike f g (ops.Write reg value) regs x y next next' alike swapped h k = write_alike f g (regs reg) regs x y next next' alike h k
@@ -390,6 +383,9 @@ answers_agree a b before rest rest' x y h k parts parts' same agrees placed valu
       usable = λ reg s names.
           ap (λ ps. usable_in ps s) parts ∙ usable_front before (x ∷ rest) (y ∷ rest') s (holds.registers x.thread reg s names) ∙
           sym (ap (λ ps. usable_in ps s) parts');
+      plain = λ reg s names.
+          ap (λ ps. plain_in ps s) parts ∙ plain_front before (x ∷ rest) (y ∷ rest') s (holds.registers x.thread reg s names) ∙
+          sym (ap (λ ps. plain_in ps s) parts');
       seen = λ c d is is' slot. same_seen c d slot (seen_word a before rest x c h parts is ∙ ap (word_after before) slot ∙
           sym (seen_word b before rest' y d k parts' is'));
       values = values;

@@ -25,7 +25,7 @@ returns-then-not-may_answer c =
     c.loop-record.invariant.walk
     (λ may. false≢true
     ((c.if-not-may_answer.ensures ps
-    (c.in_ok-usables.ensures _ (record_among ps c.loop-record.record-index _ c.loop-record-test.true))).1 may)))
+    (c.in_ok-known.ensures.0 _ (record_among ps c.loop-record.record-index _ c.loop-record-test.true)) c.in_ok-known.ensures.1).1 may)))
 
 pub loop-record-preserved : goal.loop-record-preserved
 loop-record-preserved c =
@@ -36,7 +36,9 @@ loop-record-preserved c =
           regs_more c.args.version cells ps c.loop-record.registers c.change.new.self c.loop-record.record-index _ c.loop-record-test.true
           c.loop-record.invariant.walk
           ((c.if-not-may_answer.ensures ps
-          (c.in_ok-usables.ensures _ (record_among ps c.loop-record.record-index _ c.loop-record-test.true))).0 refl) c.change.ensures;
+          (c.in_ok-known.ensures.0 _ (record_among ps c.loop-record.record-index _ c.loop-record-test.true))
+          c.in_ok-known.ensures.1).0 refl)
+          c.change.ensures;
       at = ap (λ n. n + 1) c.loop-record.invariant.at;
     }
 

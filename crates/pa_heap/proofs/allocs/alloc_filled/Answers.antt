@@ -75,7 +75,8 @@ issue-requires-clause-budget g c =
 
 pub returns-in-Ok-clause-does : goal.returns-in-Ok-clause-does
 returns-in-Ok-clause-does g c =
-    fill_does c.counted_steps_leave.ensures c.args.line c.args.size c.args.partition c.args.class c.args.reg _ c.in-Ok.title
+    fill_does c.counted_steps_leave.ensures c.sealed_steps_leave.ensures
+    c.args.line c.args.size c.args.partition c.args.class c.args.reg _ c.in-Ok.title
     c.args.stock.now c.fill_list.new.self c.issue.new.self c.issue.result
     c.in-Ok.ensures.filled c.requires.partition (record {
       stock = c.kept.ensures.stock;

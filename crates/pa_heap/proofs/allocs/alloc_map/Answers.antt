@@ -70,7 +70,8 @@ issue-requires-clause-budget g c =
 
 pub returns-in-Ok-clause-does : goal.returns-in-Ok-clause-does
 returns-in-Ok-clause-does g c =
-    map_does c.counted_steps_leave.ensures c.args.line c.args.size c.args.partition c.in-Some.shape.slot c.args.reg c.in-Ok.title
+    map_does c.counted_steps_leave.ensures c.sealed_steps_leave.ensures
+    c.args.line c.args.size c.args.partition c.in-Some.shape.slot c.args.reg c.in-Ok.title
     c.args.stock.now c.map_title.new.self c.issue.new.self c.issue.result
     c.in-Ok.ensures.mapped c.requires.partition (record {
       stock = c.kept.ensures.stock;

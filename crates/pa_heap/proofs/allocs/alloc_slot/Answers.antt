@@ -75,7 +75,8 @@ issue-requires-clause-budget g c =
 
 pub returns-in-Some-clause-does : goal.returns-in-Some-clause-does
 returns-in-Some-clause-does g c =
-    front_does c.counted_steps_leave.ensures c.args.line c.args.size c.args.partition c.args.class c.args.reg c.in-Some.title
+    front_does c.counted_steps_leave.ensures c.sealed_steps_leave.ensures
+    c.args.line c.args.size c.args.partition c.args.class c.args.reg c.in-Some.title
     c.args.stock.now c.pop.new.self c.issue.new.self c.issue.result
     c.in-Some.ensures c.requires.partition (record {
       stock = c.kept.ensures.stock;

@@ -17,7 +17,7 @@ pub loop-line-init : goal.loop-line-init
 loop-line-init c =
     let t = c.args.trace.now in
     let begun = subst (λ (h : Head). IsBegun h c.in_ok-player.player) c.head.ensures c.in_ok-player.ensures in
-    (begins_playing (head_of_trace t) c.in_ok-player.player c.requires.within.head begun, begun.version)
+    (begins_playing (head_of_trace t) c.in_ok-player.player c.requires.within.head begun, begun.rules)
 
 pub line-requires : goal.line-requires
 line-requires c =

@@ -11,5 +11,5 @@ open-requires-clause-note g c =
 
 pub returns-clause-new : goal.returns-clause-new
 returns-clause-new g c =
-    new_for c.args.thread c.args.lines c.args.seat.now.view c.args.partitions c.args.version c.open.result
+    new_for c.args.thread c.args.lines c.args.seat.now.view c.args.partitions c.args.rules c.open.result
     c.hand-note.result.view c.hand-note.ensures.given c.requires.stake c.requires.log c.open.ensures

@@ -3,6 +3,8 @@ use Rattle.pa_slot.proofs.Outcomes.{any_err}
 use Rattle.std.specs.List.{AllByRecursion}
 use Rattle.pa_trace.specs.declared.script.Line.{Line}
 use Rattle.pa_trace.specs.Limits.{IsLineWithin}
+use Rattle.pa_trace.specs.declared.script.Rules.{Rules}
+use Rattle.pa_trace.specs.Rules.{rules_of}
 use Rattle.pa_region.specs.declared.marks.Mark.TheVariants.{Stake}
 use Rattle.pa_region.specs.Hands.{left_after}
 use Rattle.pa_region.specs.Marks.{parcel_of}
@@ -63,7 +65,9 @@ loop-k-preserved g c =
           (sym c.in_ok-push.ensures.items)
           (open_next t k c.loop-k.workers.items c.args.seat.now.view c.loop-k.seat.view c.loop-k.invariant.opening below
           c.open_worker.new.seat.view w left
-          (subst (λ n. IsNewFor k t.partitions t.version n w) e c.in_ok-open_worker.ensures.new));
+          (subst (λ n. IsNewFor k t.partitions (rules_of t) n w) e
+          (subst (λ (by : Rules). IsNewFor k t.partitions by (slice_index_or c.count_lines-counts.result k 0) w) c.rules-rules.ensures
+          c.in_ok-open_worker.ensures.new)));
     }
 
 pub returns-in_err-open_worker-clause-stops : goal.returns-in_err-open_worker-clause-stops

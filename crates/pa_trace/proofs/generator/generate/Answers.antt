@@ -26,5 +26,6 @@ returns-clause-limits c =
       region = refl;
       partitions = refl;
       threads = refl;
+      plain = refl;
       lines = c.of.ensures ∙ c.loop-round.invariant ∙ ap (generated_lines words) all;
     })

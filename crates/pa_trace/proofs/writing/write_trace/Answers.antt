@@ -1,14 +1,18 @@
 use Rattle.std.proofs.Common.{subst}
 use Rattle.pa_trace.specs.declared.line.Head.{Head}
-use Rattle.pa_trace.specs.Grammar.{last_version}
+use Rattle.pa_trace.specs.Grammar.{head_of_trace, last_version}
 use Rattle.pa_trace.specs.Faults.{IsHeadLine}
 use Rattle.pa_trace.specs.Cut.{Appends}
 use Rattle.pa_trace.proofs.Lengths.{trace_length}
+use Rattle.pa_trace.proofs.Versions.{told_plain}
 use Rattle.pa_trace.proofs.Written.{trace_written}
 use Rattle.pa_trace.proofs.writing.write_trace.Goals as goal
 
-pub push_head-requires : goal.push_head-requires
-push_head-requires c = rw c.head.ensures c.requires.version
+pub push_head-requires-clause-version : goal.push_head-requires-clause-version
+push_head-requires-clause-version c = rw c.head.ensures c.requires.version
+
+pub push_head-requires-clause-plain : goal.push_head-requires-clause-plain
+push_head-requires-clause-plain c = rw c.head.ensures (told_plain (head_of_trace c.args.trace.now) c.requires.head)
 
 pub returns-clause-text : goal.returns-clause-text
 returns-clause-text c =

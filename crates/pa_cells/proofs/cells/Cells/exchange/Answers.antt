@@ -2,7 +2,7 @@ use Rattle.std.proofs.Common.{◌≡◌, ℕ, List, Option, None, IfSome, length
 use Rattle.std.proofs.lemmas.List.{get_or_default}
 use Rattle.pa_region.specs.Lists.{list_of}
 use Rattle.pa_cells.specs.Handles.{ParkedHandle, held_as}
-use Rattle.pa_cells.specs.Cells.{CellsHeld, made_with_cell, cell_holds}
+use Rattle.pa_cells.specs.Cells.{CellsHeld, AreOf, IsOf, made_with_cell, cell_holds}
 use Rattle.pa_cells.proofs.Histories.{each_set, cells_more, same_count}
 use Rattle.pa_cells.proofs.cells.Cells.exchange.Goals as goal
 
@@ -14,9 +14,8 @@ invariant_of-self-2 g c =
     let index = c.in-Some.ensures.index in
     let room = c.in-Some.ensures.room in (
       c.enter_with.ensures.regions.1 ∙ c.self.invariant.0,
-      subst (λ (ps : List (Option ParkedHandle)). (k : ℕ) → IfSome (cell_holds ps k) (λ p. p.note.region ≡ g.N.Name.region))
-          (sym c.replace-found.ensures.after)
-          (λ k. each_set (λ (o : Option ParkedHandle). IfSome o (λ p. p.note.region ≡ g.N.Name.region)) c.self.inside.parked.items
+      subst (AreOf g.N.Name.region g.N.Name.plain_from) (sym c.replace-found.ensures.after)
+          (λ k. each_set (λ (o : Option ParkedHandle). IfSome o (IsOf g.N.Name.region g.N.Name.plain_from)) c.self.inside.parked.items
           c.args.cell k c.args.given None (let n = kept.held in omega arith)
           c.requires.given (c.self.invariant.1 k)),
       cells_more _ c.enter_with.new.host.view c.append.new.histories.items c.replace-found.new.parked.items c.args.line c.args.cell

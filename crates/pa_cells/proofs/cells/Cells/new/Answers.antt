@@ -5,7 +5,7 @@ use Rattle.pa_region.specs.Lists.{keeper_of, list_of}
 use Rattle.pa_region.specs.Shares.{Share}
 use Rattle.pa_region.specs.Lending.{HostsKeeper}
 use Rattle.pa_cells.specs.Handles.{ParkedHandle}
-use Rattle.pa_cells.specs.Cells.{cell_holds, IsCells}
+use Rattle.pa_cells.specs.Cells.{AreOf, IsOf, IsCells}
 use Rattle.pa_cells.proofs.Starting.{always, starts}
 use Rattle.pa_cells.proofs.cells.Cells.new.Goals as goal
 
@@ -22,9 +22,8 @@ invariant_of-result g c =
     ) in
     let empty : list_of 5 v ≡ [] = ap (λ (s : Share). list_of 5 s.view) same ∙ c.requires.empty in (
       ap (λ (s : Share). s.region) same ∙ c.requires.region,
-      subst (λ (ps : List (Option ParkedHandle)). (k : ℕ) → IfSome (cell_holds ps k) (λ p. p.note.region ≡ g.N.Name.region))
-          (sym c.in_ok-parked.ensures)
-          (λ k. subst (λ (o : Option ParkedHandle). IfSome o (λ p. p.note.region ≡ g.N.Name.region)) (sym (always 64 k None)) tt),
+      subst (AreOf g.N.Name.region g.N.Name.plain_from) (sym c.in_ok-parked.ensures)
+          (λ k. subst (λ (o : Option ParkedHandle). IfSome o (IsOf g.N.Name.region g.N.Name.plain_from)) (sym (always 64 k None)) tt),
       subst (λ (hs : List (List CellEntry)). IsCells (record { view = v; histories = hs; parked = c.in_ok-parked.parked.items }))
           (sym c.in_ok-histories.ensures)
           (subst (λ (ps : List (Option ParkedHandle)). IsCells (record { view = v; histories = replicate 64 []; parked = ps }))

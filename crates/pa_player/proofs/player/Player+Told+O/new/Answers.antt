@@ -1,4 +1,5 @@
 use Rattle.std.proofs.Common.{◌*◌, refl, ap, ◌∙◌}
+use Rattle.pa_trace.specs.declared.script.Rules.{Rules}
 use Rattle.pa_player.proofs.Empty.{clear_at}
 use Rattle.pa_player.proofs.player.Player+Told+O.new.Goals as goal
 
@@ -20,7 +21,7 @@ returns g c =
       quarantined = c.new-6.ensures;
       cached = c.new-7.ensures;
       told = c.requires.told;
-      version = refl;
+      rules = ap {B = Rules} (λ n. record { version = h.version; plain_from = n }) c.saturating_sub.ensures;
       many = refl;
       phase = refl;
     }

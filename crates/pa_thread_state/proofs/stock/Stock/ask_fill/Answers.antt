@@ -15,13 +15,15 @@ use Rattle.pa_lists.proofs.Tests.{either}
 
 pub fill_from-requires-clause-lender : goal.fill_from-requires-clause-lender
 fill_from-requires-clause-lender g c =
-    let i = stock_of c.self.inside.thread c.self.inside.partitions c.self.inside.seat.view c.self.inside.registers c.self.inside.caches in
+    let i = stock_of c.self.inside.thread c.self.inside.partitions c.self.inside.plain_from c.self.inside.seat.view c.self.inside.registers
+    c.self.inside.caches in
     let stake = subst (λ (z : StockValue). HasItsStake z) (sym c.self.view_is) c.requires.stake in
     ((least_is i.thread i.view c.self.invariant.1.stake stake).1, c.self.invariant.1.handles.clean)
 
 pub invariant_of-self : goal.invariant_of-self
 invariant_of-self g c =
-    let i = stock_of c.self.inside.thread c.self.inside.partitions c.self.inside.seat.view c.self.inside.registers c.self.inside.caches in
+    let i = stock_of c.self.inside.thread c.self.inside.partitions c.self.inside.plain_from c.self.inside.seat.view c.self.inside.registers
+    c.self.inside.caches in
     let w = c.fill_from.new.seat.view in
     let cs = c.self.inside.caches in
     let r = least_stake i.view.stakes in
@@ -33,11 +35,12 @@ invariant_of-self g c =
     (for_keeps gives.index r c.args.partition c.args.line gives.asked (Some gives.first) _ i.view w gives.enters))
     (λ f none. none_has c.slots_stay_seen.ensures i cs c.self.inside.seat c.fill_from.new.seat r c.args.line c.args.partition 1
     (Some c.args.class) f refl c.self.invariant.1 c.self.invariant.2 refl none) in
-    (c.fill_from.ensures.region, them.stock, them.holds)
+    (c.fill_from.ensures.region, them.stock, them.holds, c.self.invariant.3)
 
 pub returns-clause-same : goal.returns-clause-same
 returns-clause-same g c =
-    let i = stock_of c.self.inside.thread c.self.inside.partitions c.self.inside.seat.view c.self.inside.registers c.self.inside.caches in
+    let i = stock_of c.self.inside.thread c.self.inside.partitions c.self.inside.plain_from c.self.inside.seat.view c.self.inside.registers
+    c.self.inside.caches in
     let w = c.fill_from.new.seat.view in
     let cs = c.self.inside.caches in
     let r = least_stake i.view.stakes in
@@ -53,7 +56,8 @@ returns-clause-same g c =
 
 pub returns-clause-gave : goal.returns-clause-gave
 returns-clause-gave g c =
-    let i = stock_of c.self.inside.thread c.self.inside.partitions c.self.inside.seat.view c.self.inside.registers c.self.inside.caches in
+    let i = stock_of c.self.inside.thread c.self.inside.partitions c.self.inside.plain_from c.self.inside.seat.view c.self.inside.registers
+    c.self.inside.caches in
     let stake = subst (λ (z : StockValue). HasItsStake z) (sym c.self.view_is) c.requires.stake in
     let least = (least_is i.thread i.view c.self.invariant.1.stake stake).0 in
     subst (λ (z : StockValue). IfOk c.fill_from.result (λ a. FillGives z.thread c.args.partition c.args.line c.args.class
@@ -63,7 +67,8 @@ returns-clause-gave g c =
 
 pub returns-clause-none : goal.returns-clause-none
 returns-clause-none g c =
-    let i = stock_of c.self.inside.thread c.self.inside.partitions c.self.inside.seat.view c.self.inside.registers c.self.inside.caches in
+    let i = stock_of c.self.inside.thread c.self.inside.partitions c.self.inside.plain_from c.self.inside.seat.view c.self.inside.registers
+    c.self.inside.caches in
     let w = c.fill_from.new.seat.view in
     let cs = c.self.inside.caches in
     let r = least_stake i.view.stakes in
@@ -78,7 +83,8 @@ returns-clause-none g c =
     let stake = subst (λ (z : StockValue). HasItsStake z) (sym c.self.view_is) c.requires.stake in
     let least = (least_is i.thread i.view c.self.invariant.1.stake stake).0 in
     subst (λ (z : StockValue). IfErr c.fill_from.result
-    (FindsNone c.args.line c.args.partition 1 (Some c.args.class) z (stock_of i.thread i.partitions w i.registers cs))) c.self.view_is
+    (FindsNone c.args.line c.args.partition 1 (Some c.args.class) z (stock_of i.thread i.partitions i.plain_from w i.registers cs)))
+    c.self.view_is
     (subst (λ (z : StockValue). IfErr c.fill_from.result (FindsNone c.args.line c.args.partition 1 (Some c.args.class) i z))
     (sym (after_as i w w i.registers cs refl them))
     (err_weaker c.fill_from.result (GivesNone r c.args.line c.args.partition 1 (Some c.args.class) c.self.inside.seat c.fill_from.new.seat)

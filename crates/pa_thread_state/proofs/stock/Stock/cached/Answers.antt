@@ -26,5 +26,6 @@ returns-clause-few g c =
     most_slots (numbered_in v cs p) 64 c.sum.result
     (λ class.
     let long = length-map (titles_in (lists_in v cs) p class) (at_number_seen v) in
-    let few = list_few (stock_of c.self.inside.thread c.self.inside.partitions v c.self.inside.registers cs) p class c.self.invariant.1 in
+    let few = list_few (stock_of c.self.inside.thread c.self.inside.partitions c.self.inside.plain_from v c.self.inside.registers cs)
+    p class c.self.invariant.1 in
     omega (arith, long, few)) (c.sum.ensures v)

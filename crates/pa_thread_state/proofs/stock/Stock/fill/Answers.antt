@@ -13,7 +13,8 @@ write-found-requires-clause-own g c = subst (λ (z : StockValue). CanFill c.args
 
 pub write-found-requires-clause-able : goal.write-found-requires-clause-able
 write-found-requires-clause-able g c =
-    let i = stock_of c.self.inside.thread c.self.inside.partitions c.self.inside.seat.view c.self.inside.registers c.self.inside.caches in
+    let i = stock_of c.self.inside.thread c.self.inside.partitions c.self.inside.plain_from c.self.inside.seat.view c.self.inside.registers
+    c.self.inside.caches in
     let h = inside i c.args.self.now c.args.handle.now c.args.reg c.self.view_is
     (record {
       stock = subst (λ (z : StockValue). IsStock z) c.self.view_is c.self.invariant.1;
@@ -25,7 +26,8 @@ write-found-requires-clause-able g c =
 
 pub invariant_of-self : goal.invariant_of-self
 invariant_of-self g c =
-    let i = stock_of c.self.inside.thread c.self.inside.partitions c.self.inside.seat.view c.self.inside.registers c.self.inside.caches in
+    let i = stock_of c.self.inside.thread c.self.inside.partitions c.self.inside.plain_from c.self.inside.seat.view c.self.inside.registers
+    c.self.inside.caches in
     let h = inside i c.args.self.now c.args.handle.now c.args.reg c.self.view_is
     (record {
       stock = subst (λ (z : StockValue). IsStock z) c.self.view_is c.self.invariant.1;
@@ -45,11 +47,12 @@ invariant_of-self g c =
     h.stock h.stake (inside_budget i c.args.self.now c.self.view_is c.requires.budget) h.below own c.placed.ensures.well long can)
     (firsts_used _ i x u c.self.invariant.1 (inside_aware i c.args.self.now c.self.view_is c.kept.ensures.aware) c.placed.ensures.well
     (register_has i c.args.reg c.args.handle.now h.stock h.below h.has).0 (filled_others c.args.value u i.view.words)) in
-    (c.write-found.ensures.region ∙ c.self.invariant.0, them.stock, them.holds)
+    (c.write-found.ensures.region ∙ c.self.invariant.0, them.stock, them.holds, c.self.invariant.3)
 
 pub returns : goal.returns
 returns g c =
-    let i = stock_of c.self.inside.thread c.self.inside.partitions c.self.inside.seat.view c.self.inside.registers c.self.inside.caches in
+    let i = stock_of c.self.inside.thread c.self.inside.partitions c.self.inside.plain_from c.self.inside.seat.view c.self.inside.registers
+    c.self.inside.caches in
     let h = inside i c.args.self.now c.args.handle.now c.args.reg c.self.view_is
     (record {
       stock = subst (λ (z : StockValue). IsStock z) c.self.view_is c.self.invariant.1;
@@ -71,7 +74,7 @@ returns g c =
     (register_has i c.args.reg c.args.handle.now h.stock h.below h.has).0 (filled_others c.args.value u i.view.words)) in
     subst (λ (z : StockValue). WritesTo c.args.handle.now c.args.value
     (record { slot = c.slot_name.result; found = c.write-found.result }) z
-    (stock_of i.thread i.partitions c.write-found.new.seat.view i.registers c.self.inside.caches)) c.self.view_is (record {
+    (stock_of i.thread i.partitions i.plain_from c.write-found.new.seat.view i.registers c.self.inside.caches)) c.self.view_is (record {
       slot = c.slot_name.ensures;
       after_is = after_as i c.write-found.new.seat.view x i.registers c.self.inside.caches c.write-found.ensures.view them;
       enabled = c.write-found.ensures.enabled;

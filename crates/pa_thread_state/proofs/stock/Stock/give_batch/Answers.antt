@@ -19,7 +19,8 @@ use Rattle.pa_thread_state.proofs.stock.Stock.give_batch.Goals as goal
 
 pub give_titles-requires-clause-lender : goal.give_titles-requires-clause-lender
 give_titles-requires-clause-lender g c =
-    let i = stock_of c.self.inside.thread c.self.inside.partitions c.self.inside.seat.view c.self.inside.registers c.self.inside.caches in
+    let i = stock_of c.self.inside.thread c.self.inside.partitions c.self.inside.plain_from c.self.inside.seat.view c.self.inside.registers
+    c.self.inside.caches in
     let s = c.args.self.now in let b = c.take_batch-titles.new.self in let p = c.args.partition in let class = c.args.class in
     let keep = c.args.keep in
     let is = c.kept.ensures.stock in let takes = c.take_batch-titles.ensures.rest in
@@ -55,7 +56,8 @@ give_titles-requires-clause-named g c t among =
 
 pub invariant_of-self-2 : goal.invariant_of-self-2
 invariant_of-self-2 g c =
-    let i = stock_of c.self.inside.thread c.self.inside.partitions c.self.inside.seat.view c.self.inside.registers c.self.inside.caches in
+    let i = stock_of c.self.inside.thread c.self.inside.partitions c.self.inside.plain_from c.self.inside.seat.view c.self.inside.registers
+    c.self.inside.caches in
     let s = c.args.self.now in let b = c.take_batch-titles.new.self in let p = c.args.partition in let class = c.args.class in
     let keep = c.args.keep in
     let is = c.kept.ensures.stock in let takes = c.take_batch-titles.ensures.rest in
@@ -71,11 +73,12 @@ invariant_of-self-2 g c =
     let now = subst (λ (z : StockValue). IsStock (record z { view = w })) (sym c.self.view_is) done.0 in
     let them = has_still i w i.registers cs refl c.self.invariant.1 c.self.invariant.2 now
     (firsts_left i w hands.left now (ap (λ (v : View). v.words) hands.left_is) hands.enters.lends.keeps) in
-    (c.give_titles.ensures.region, them.stock, them.holds)
+    (c.give_titles.ensures.region, them.stock, them.holds, c.self.invariant.3)
 
 pub returns-clause-gives : goal.returns-clause-gives
 returns-clause-gives g c =
-    let i = stock_of c.self.inside.thread c.self.inside.partitions c.self.inside.seat.view c.self.inside.registers c.self.inside.caches in
+    let i = stock_of c.self.inside.thread c.self.inside.partitions c.self.inside.plain_from c.self.inside.seat.view c.self.inside.registers
+    c.self.inside.caches in
     let s = c.args.self.now in let b = c.take_batch-titles.new.self in let p = c.args.partition in let class = c.args.class in
     let keep = c.args.keep in
     let is = c.kept.ensures.stock in let takes = c.take_batch-titles.ensures.rest in
@@ -96,11 +99,12 @@ returns-clause-gives g c =
 
 pub invariant_of-self : goal.invariant_of-self
 invariant_of-self g c =
-    let i = stock_of c.self.inside.thread c.self.inside.partitions c.self.inside.seat.view c.self.inside.registers c.self.inside.caches in
+    let i = stock_of c.self.inside.thread c.self.inside.partitions c.self.inside.plain_from c.self.inside.seat.view c.self.inside.registers
+    c.self.inside.caches in
     let w = c.give_titles.new.seat.view in let back = c.in_err-give_titles.ensures.back in
     let them = has_still i w i.registers c.self.inside.caches refl c.self.invariant.1 c.self.invariant.2
     (back_stock c.slots_stay_seen.ensures i w c.self.invariant.1 back) (λ p class t among. back.words (t.start / 8)) in
-    (c.give_titles.ensures.region, them.stock, them.holds)
+    (c.give_titles.ensures.region, them.stock, them.holds, c.self.invariant.3)
 
 pub returns-in_err-give_titles-clause-budget : goal.returns-in_err-give_titles-clause-budget
 returns-in_err-give_titles-clause-budget g c =
@@ -123,7 +127,8 @@ returns-in_err-give_titles-clause-stake g c =
 
 pub returns-in_err-give_titles-clause-refused : goal.returns-in_err-give_titles-clause-refused
 returns-in_err-give_titles-clause-refused g c =
-    let i = stock_of c.self.inside.thread c.self.inside.partitions c.self.inside.seat.view c.self.inside.registers c.self.inside.caches in
+    let i = stock_of c.self.inside.thread c.self.inside.partitions c.self.inside.plain_from c.self.inside.seat.view c.self.inside.registers
+    c.self.inside.caches in
     let w = c.give_titles.new.seat.view in let back = c.in_err-give_titles.ensures.back in
     let them = has_still i w i.registers c.self.inside.caches refl c.self.invariant.1 c.self.invariant.2
     (back_stock c.slots_stay_seen.ensures i w c.self.invariant.1 back) (λ p class t among. back.words (t.start / 8)) in

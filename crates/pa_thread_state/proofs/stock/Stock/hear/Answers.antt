@@ -16,7 +16,8 @@ take-requires-clause-able g c k t has = none_poisoned c.self.inside.seat.view t 
 
 pub invariant_of-self : goal.invariant_of-self
 invariant_of-self g c =
-    let i = stock_of c.self.inside.thread c.self.inside.partitions c.self.inside.seat.view c.self.inside.registers c.self.inside.caches in
+    let i = stock_of c.self.inside.thread c.self.inside.partitions c.self.inside.plain_from c.self.inside.seat.view c.self.inside.registers
+    c.self.inside.caches in
     let for = subst (λ (z : StockValue). IsForThread z.thread c.args.note.view) (sym c.self.view_is) c.requires.note in
     let n = c.args.note.view in
     let long = ap (λ (z : StockValue). length z.view.words) c.self.view_is ∙
@@ -26,11 +27,12 @@ invariant_of-self g c =
     (united i.view n) i.registers c.self.inside.caches c.take.ensures.view refl c.self.invariant.1 c.self.invariant.2
     (heard_stock c.beginnings_join.ensures c.slots_stay_seen.ensures i n c.self.invariant.1 for both)
     (firsts_join i n c.self.invariant.1 long) in
-    (c.take.ensures.region ∙ c.self.invariant.0, them.stock, them.holds)
+    (c.take.ensures.region ∙ c.self.invariant.0, them.stock, them.holds, c.self.invariant.3)
 
 pub returns-clause-heard : goal.returns-clause-heard
 returns-clause-heard g c =
-    let i = stock_of c.self.inside.thread c.self.inside.partitions c.self.inside.seat.view c.self.inside.registers c.self.inside.caches in
+    let i = stock_of c.self.inside.thread c.self.inside.partitions c.self.inside.plain_from c.self.inside.seat.view c.self.inside.registers
+    c.self.inside.caches in
     let for = subst (λ (z : StockValue). IsForThread z.thread c.args.note.view) (sym c.self.view_is) c.requires.note in
     let n = c.args.note.view in
     let long = ap (λ (z : StockValue). length z.view.words) c.self.view_is ∙
@@ -45,7 +47,8 @@ returns-clause-heard g c =
 
 pub returns-clause-lists : goal.returns-clause-lists
 returns-clause-lists g c =
-    let i = stock_of c.self.inside.thread c.self.inside.partitions c.self.inside.seat.view c.self.inside.registers c.self.inside.caches in
+    let i = stock_of c.self.inside.thread c.self.inside.partitions c.self.inside.plain_from c.self.inside.seat.view c.self.inside.registers
+    c.self.inside.caches in
     let for = subst (λ (z : StockValue). IsForThread z.thread c.args.note.view) (sym c.self.view_is) c.requires.note in
     let n = c.args.note.view in
     let long = ap (λ (z : StockValue). length z.view.words) c.self.view_is ∙
@@ -55,7 +58,8 @@ returns-clause-lists g c =
     (united i.view n) i.registers c.self.inside.caches c.take.ensures.view refl c.self.invariant.1 c.self.invariant.2
     (heard_stock c.beginnings_join.ensures c.slots_stay_seen.ensures i n c.self.invariant.1 for both)
     (firsts_join i n c.self.invariant.1 long) in
-    subst (λ (z : StockValue). SameLists (listed_in (stock_of i.thread i.partitions c.take.new.seat.view i.registers c.self.inside.caches))
+    subst (λ (z : StockValue). SameLists
+    (listed_in (stock_of i.thread i.partitions i.plain_from c.take.new.seat.view i.registers c.self.inside.caches))
     (listed_in z)) c.self.view_is
     (subst (λ (z : StockValue). SameLists (listed_in z) (listed_in i))
     (sym (after_as i c.take.new.seat.view (united i.view n) i.registers c.self.inside.caches c.take.ensures.view them))

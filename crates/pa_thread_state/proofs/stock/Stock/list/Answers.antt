@@ -26,7 +26,7 @@ push-requires-clause-class g c = subst (λ (z : StockValue). HasClass z.caches.v
 pub push-requires-clause-list : goal.push-requires-clause-list
 push-requires-clause-list g c =
     let v = c.self.inside.seat.view in let cs = c.self.inside.caches in
-    let i = stock_of c.self.inside.thread c.self.inside.partitions v c.self.inside.registers cs in
+    let i = stock_of c.self.inside.thread c.self.inside.partitions c.self.inside.plain_from v c.self.inside.registers cs in
     let long = as_many v cs c.self.invariant.1.lists.count in
     let real = subst (λ (z : StockValue). HasClass z.caches.version c.args.class) (sym c.self.view_is) c.requires.class in
     holds_at v cs c.args.handle.now.partition c.args.class c.requires.can.made.partition real long c.self.invariant.2
@@ -34,7 +34,7 @@ push-requires-clause-list g c =
 pub push-requires-clause-few : goal.push-requires-clause-few
 push-requires-clause-few g c =
     let v = c.self.inside.seat.view in let cs = c.self.inside.caches in
-    let i = stock_of c.self.inside.thread c.self.inside.partitions v c.self.inside.registers cs in
+    let i = stock_of c.self.inside.thread c.self.inside.partitions c.self.inside.plain_from v c.self.inside.registers cs in
     let long = as_many v cs c.self.invariant.1.lists.count in
     let p = c.args.handle.now.partition in let class = c.args.class in
     let can = subst (λ (z : StockValue). CanList c.args.handle.now class z) (sym c.self.view_is) c.requires.can in
@@ -52,7 +52,7 @@ push-requires-clause-able g c =
 pub push-requires-clause-size : goal.push-requires-clause-size
 push-requires-clause-size g c =
     let v = c.self.inside.seat.view in let cs = c.self.inside.caches in
-    let i = stock_of c.self.inside.thread c.self.inside.partitions v c.self.inside.registers cs in
+    let i = stock_of c.self.inside.thread c.self.inside.partitions c.self.inside.plain_from v c.self.inside.registers cs in
     let long = as_many v cs c.self.invariant.1.lists.count in
     let h = c.args.handle.now in let class = c.args.class in
     let real = subst (λ (z : StockValue). HasClass z.caches.version class) (sym c.self.view_is) c.requires.class in
@@ -62,7 +62,7 @@ push-requires-clause-size g c =
 pub push-requires-clause-new : goal.push-requires-clause-new
 push-requires-clause-new g c among =
     let v = c.self.inside.seat.view in let cs = c.self.inside.caches in
-    let i = stock_of c.self.inside.thread c.self.inside.partitions v c.self.inside.registers cs in
+    let i = stock_of c.self.inside.thread c.self.inside.partitions c.self.inside.plain_from v c.self.inside.registers cs in
     let long = as_many v cs c.self.invariant.1.lists.count in
     let h = c.args.handle.now in let class = c.args.class in
     let can = subst (λ (z : StockValue). CanList h class z) (sym c.self.view_is) c.requires.can in
@@ -73,7 +73,7 @@ push-requires-clause-new g c among =
 pub invariant_of-self : goal.invariant_of-self
 invariant_of-self g c =
     let v = c.self.inside.seat.view in let cs = c.self.inside.caches in
-    let i = stock_of c.self.inside.thread c.self.inside.partitions v c.self.inside.registers cs in
+    let i = stock_of c.self.inside.thread c.self.inside.partitions c.self.inside.plain_from v c.self.inside.registers cs in
     let long = as_many v cs c.self.invariant.1.lists.count in
     let h = c.args.handle.now in let class = c.args.class in let w = c.push.new.seat.view in let after = c.push.new.self in
     let can = subst (λ (z : StockValue). CanList h class z) (sym c.self.view_is) c.requires.can in
@@ -94,12 +94,13 @@ invariant_of-self g c =
           (stock_relinked (record i { caches = put_in_front h.partition class h.title i.caches }) w re.relinked
           (fronted_stock i h class c.self.invariant.1 can real sound)),
       both.0,
+      c.self.invariant.3,
     )
 
 pub returns : goal.returns
 returns g c =
     let v = c.self.inside.seat.view in let cs = c.self.inside.caches in
-    let i = stock_of c.self.inside.thread c.self.inside.partitions v c.self.inside.registers cs in
+    let i = stock_of c.self.inside.thread c.self.inside.partitions c.self.inside.plain_from v c.self.inside.registers cs in
     let long = as_many v cs c.self.invariant.1.lists.count in
     let h = c.args.handle.now in let class = c.args.class in let w = c.push.new.seat.view in let after = c.push.new.self in
     let can = subst (λ (z : StockValue). CanList h class z) (sym c.self.view_is) c.requires.can in

@@ -18,7 +18,7 @@ use Rattle.pa_thread_state.proofs.stock.Stock.load.Goals as goal
 pub all_placed-requires : goal.all_placed-requires
 all_placed-requires g c =
     let v = c.self.inside.seat.view in let cs = c.self.inside.caches in
-    let i = stock_of c.self.inside.thread c.self.inside.partitions v c.self.inside.registers cs in
+    let i = stock_of c.self.inside.thread c.self.inside.partitions c.self.inside.plain_from v c.self.inside.registers cs in
     let long = as_many v cs c.self.invariant.1.lists.count in
     loads_free i c.args.partition c.args.class c.args.titles.now
     (subst (λ (z : StockValue). CanLoad c.args.partition c.args.class c.args.titles.now z) (sym c.self.view_is) c.requires.can)
@@ -32,7 +32,7 @@ load-requires-clause-class g c = subst (λ (z : StockValue). HasClass z.caches.v
 pub load-requires-clause-empty : goal.load-requires-clause-empty
 load-requires-clause-empty g c =
     let v = c.self.inside.seat.view in let cs = c.self.inside.caches in
-    let i = stock_of c.self.inside.thread c.self.inside.partitions v c.self.inside.registers cs in
+    let i = stock_of c.self.inside.thread c.self.inside.partitions c.self.inside.plain_from v c.self.inside.registers cs in
     let long = as_many v cs c.self.invariant.1.lists.count in
     let p = c.args.partition in let class = c.args.class in
     let can = subst (λ (z : StockValue). CanLoad p class c.args.titles.now z) (sym c.self.view_is) c.requires.can in
@@ -45,7 +45,7 @@ load-requires-clause-few g c = c.requires.can.batch
 pub load-requires-clause-free : goal.load-requires-clause-free
 load-requires-clause-free g c =
     let v = c.self.inside.seat.view in let cs = c.self.inside.caches in
-    let i = stock_of c.self.inside.thread c.self.inside.partitions v c.self.inside.registers cs in
+    let i = stock_of c.self.inside.thread c.self.inside.partitions c.self.inside.plain_from v c.self.inside.registers cs in
     let long = as_many v cs c.self.invariant.1.lists.count in
     loads_free i c.args.partition c.args.class c.args.titles.now
     (subst (λ (z : StockValue). CanLoad c.args.partition c.args.class c.args.titles.now z) (sym c.self.view_is) c.requires.can)
@@ -53,7 +53,7 @@ load-requires-clause-free g c =
 pub load-requires-clause-size : goal.load-requires-clause-size
 load-requires-clause-size g c =
     let v = c.self.inside.seat.view in let cs = c.self.inside.caches in
-    let i = stock_of c.self.inside.thread c.self.inside.partitions v c.self.inside.registers cs in
+    let i = stock_of c.self.inside.thread c.self.inside.partitions c.self.inside.plain_from v c.self.inside.registers cs in
     let long = as_many v cs c.self.invariant.1.lists.count in
     let p = c.args.partition in let class = c.args.class in
     let can = subst (λ (z : StockValue). CanLoad p class c.args.titles.now z) (sym c.self.view_is) c.requires.can in
@@ -67,7 +67,7 @@ load-requires-clause-different g c = c.requires.can.differ
 pub invariant_of-self : goal.invariant_of-self
 invariant_of-self g c =
     let v = c.self.inside.seat.view in let cs = c.self.inside.caches in
-    let i = stock_of c.self.inside.thread c.self.inside.partitions v c.self.inside.registers cs in
+    let i = stock_of c.self.inside.thread c.self.inside.partitions c.self.inside.plain_from v c.self.inside.registers cs in
     let long = as_many v cs c.self.invariant.1.lists.count in
     let p = c.args.partition in let class = c.args.class in let ts = c.args.titles.now in
     let w = c.load.new.seat.view in let after = c.load.new.self in
@@ -88,12 +88,13 @@ invariant_of-self g c =
           (stock_relinked (record i { caches = with_listed p class ts i.caches }) w re.relinked
           (loaded_stock i p class ts _ c.self.invariant.1 can real sound c.all_placed.ensures)),
       both.0,
+      c.self.invariant.3,
     )
 
 pub returns : goal.returns
 returns g c =
     let v = c.self.inside.seat.view in let cs = c.self.inside.caches in
-    let i = stock_of c.self.inside.thread c.self.inside.partitions v c.self.inside.registers cs in
+    let i = stock_of c.self.inside.thread c.self.inside.partitions c.self.inside.plain_from v c.self.inside.registers cs in
     let long = as_many v cs c.self.invariant.1.lists.count in
     let p = c.args.partition in let class = c.args.class in let ts = c.args.titles.now in
     let w = c.load.new.seat.view in let after = c.load.new.self in

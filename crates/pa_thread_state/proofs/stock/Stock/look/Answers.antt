@@ -11,7 +11,8 @@ use Rattle.pa_thread_state.proofs.stock.Stock.look.Goals as goal
 
 pub look-found-requires-clause-able : goal.look-found-requires-clause-able
 look-found-requires-clause-able g c =
-    let i = stock_of c.self.inside.thread c.self.inside.partitions c.self.inside.seat.view c.self.inside.registers c.self.inside.caches in
+    let i = stock_of c.self.inside.thread c.self.inside.partitions c.self.inside.plain_from c.self.inside.seat.view c.self.inside.registers
+    c.self.inside.caches in
     let is = subst (λ (z : StockValue). IsStock z) c.self.view_is c.self.invariant.1 in
     let h = inside i c.args.self.now c.args.handle.now c.args.reg c.self.view_is
     (record { stock = is; stake = c.requires.stake; below = c.requires.reg; has = c.requires.handle }) in
@@ -19,7 +20,8 @@ look-found-requires-clause-able g c =
 
 pub invariant_of-self : goal.invariant_of-self
 invariant_of-self g c =
-    let i = stock_of c.self.inside.thread c.self.inside.partitions c.self.inside.seat.view c.self.inside.registers c.self.inside.caches in
+    let i = stock_of c.self.inside.thread c.self.inside.partitions c.self.inside.plain_from c.self.inside.seat.view c.self.inside.registers
+    c.self.inside.caches in
     let is = subst (λ (z : StockValue). IsStock z) c.self.view_is c.self.invariant.1 in
     let h = inside i c.args.self.now c.args.handle.now c.args.reg c.self.view_is
     (record { stock = is; stake = c.requires.stake; below = c.requires.reg; has = c.requires.handle }) in
@@ -28,11 +30,12 @@ invariant_of-self g c =
     c.look-found.ensures.view refl c.self.invariant.1 c.self.invariant.2
     (looked_stock c.looks_leave.ensures c.owns_change.ensures i c.look-found.result.0 c.args.handle.now h.stock h.stake)
     (λ p class t among. refl) in
-    (c.look-found.ensures.region ∙ c.self.invariant.0, them.stock, them.holds)
+    (c.look-found.ensures.region ∙ c.self.invariant.0, them.stock, them.holds, c.self.invariant.3)
 
 pub returns : goal.returns
 returns g c =
-    let i = stock_of c.self.inside.thread c.self.inside.partitions c.self.inside.seat.view c.self.inside.registers c.self.inside.caches in
+    let i = stock_of c.self.inside.thread c.self.inside.partitions c.self.inside.plain_from c.self.inside.seat.view c.self.inside.registers
+    c.self.inside.caches in
     let is = subst (λ (z : StockValue). IsStock z) c.self.view_is c.self.invariant.1 in
     let u = c.args.handle.now.title in let found = c.look-found.result.0 in
     let h = inside i c.args.self.now c.args.handle.now c.args.reg c.self.view_is
@@ -41,7 +44,7 @@ returns g c =
     c.look-found.ensures.view refl c.self.invariant.1 c.self.invariant.2
     (looked_stock c.looks_leave.ensures c.owns_change.ensures i found c.args.handle.now h.stock h.stake) (λ p class t among. refl) in
     subst (λ (z : StockValue). LooksAtSlot c.args.handle.now (record { slot = c.slot_name.result; found = c.look-found.result }) z
-    (stock_of i.thread i.partitions c.look-found.new.seat.view i.registers c.self.inside.caches)) c.self.view_is (record {
+    (stock_of i.thread i.partitions i.plain_from c.look-found.new.seat.view i.registers c.self.inside.caches)) c.self.view_is (record {
       slot = c.slot_name.ensures;
       after_is = after_as i c.look-found.new.seat.view
           (after_look u found i.view) i.registers c.self.inside.caches c.look-found.ensures.view them;

@@ -13,17 +13,19 @@ use Rattle.pa_thread_state.proofs.stock.Stock.part_with.Goals as goal
 
 pub invariant_of-self : goal.invariant_of-self
 invariant_of-self g c =
-    let i = stock_of c.self.inside.thread c.self.inside.partitions c.self.inside.seat.view c.self.inside.registers c.self.inside.caches in
+    let i = stock_of c.self.inside.thread c.self.inside.partitions c.self.inside.plain_from c.self.inside.seat.view c.self.inside.registers
+    c.self.inside.caches in
     let aware = subst (λ (z : StockValue). IsAware z.view) (sym c.self.view_is) c.kept.ensures.aware in
     let back = subst (λ (z : StockValue). IsBack c.args.handle.now z) (sym c.self.view_is) c.requires.back in
     let them = has_as i c.hand.new.seat.view
     (without_title c.args.handle.now.title i.view) i.registers c.self.inside.caches c.hand.ensures.left refl
     c.self.invariant.1 c.self.invariant.2 (left_stock i c.args.handle.now c.self.invariant.1 aware back) (λ p class t among. refl) in
-    (c.hand.ensures.regions.0 ∙ c.self.invariant.0, them.stock, them.holds)
+    (c.hand.ensures.regions.0 ∙ c.self.invariant.0, them.stock, them.holds, c.self.invariant.3)
 
 pub returns-clause-left : goal.returns-clause-left
 returns-clause-left g c =
-    let i = stock_of c.self.inside.thread c.self.inside.partitions c.self.inside.seat.view c.self.inside.registers c.self.inside.caches in
+    let i = stock_of c.self.inside.thread c.self.inside.partitions c.self.inside.plain_from c.self.inside.seat.view c.self.inside.registers
+    c.self.inside.caches in
     let aware = subst (λ (z : StockValue). IsAware z.view) (sym c.self.view_is) c.kept.ensures.aware in
     let back = subst (λ (z : StockValue). IsBack c.args.handle.now z) (sym c.self.view_is) c.requires.back in
     let them = has_as i c.hand.new.seat.view
@@ -34,7 +36,8 @@ returns-clause-left g c =
 
 pub returns-clause-stake : goal.returns-clause-stake
 returns-clause-stake g c =
-    let i = stock_of c.self.inside.thread c.self.inside.partitions c.self.inside.seat.view c.self.inside.registers c.self.inside.caches in
+    let i = stock_of c.self.inside.thread c.self.inside.partitions c.self.inside.plain_from c.self.inside.seat.view c.self.inside.registers
+    c.self.inside.caches in
     let stake = subst (λ (z : StockValue). HasItsStake z) (sym c.self.view_is) c.requires.stake in
     subst (λ (v : View). 0 < stake_of v i.thread) (sym c.hand.ensures.left)
     (subst (λ (n : ℕ). 0 < n) (sym (left_stake c.args.handle.now.title i.view i.thread)) stake)

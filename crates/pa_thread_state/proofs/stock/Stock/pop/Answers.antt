@@ -22,7 +22,7 @@ pop-requires-clause-class g c = subst (λ (z : StockValue). HasClass z.caches.ve
 pub pop-requires-clause-list : goal.pop-requires-clause-list
 pop-requires-clause-list g c =
     let v = c.self.inside.seat.view in let cs = c.self.inside.caches in
-    let i = stock_of c.self.inside.thread c.self.inside.partitions v c.self.inside.registers cs in
+    let i = stock_of c.self.inside.thread c.self.inside.partitions c.self.inside.plain_from v c.self.inside.registers cs in
     let long = as_many v cs c.self.invariant.1.lists.count in
     let real = subst (λ (z : StockValue). HasClass z.caches.version c.args.class) (sym c.self.view_is) c.requires.class in
     holds_at v cs c.args.partition c.args.class c.requires.partition real long c.self.invariant.2
@@ -30,7 +30,7 @@ pop-requires-clause-list g c =
 pub invariant_of-self : goal.invariant_of-self
 invariant_of-self g c =
     let v = c.self.inside.seat.view in let cs = c.self.inside.caches in
-    let i = stock_of c.self.inside.thread c.self.inside.partitions v c.self.inside.registers cs in
+    let i = stock_of c.self.inside.thread c.self.inside.partitions c.self.inside.plain_from v c.self.inside.registers cs in
     let long = as_many v cs c.self.invariant.1.lists.count in
     let p = c.args.partition in let class = c.args.class in let place = cache_place cs.version p class in
     let real = subst (λ (z : StockValue). HasClass z.caches.version class) (sym c.self.view_is) c.requires.class in
@@ -39,7 +39,7 @@ invariant_of-self g c =
     let front : (list_in v (parts_of p class cs)).titles ≡ option_to_list c.pop.result ++ (list_in v y).titles =
     out.was ∙ ap (λ ts. option_to_list c.pop.result ++ ts) (sym now.titles_are) in
     subst (λ (s : Share). (s.region ≡ g.N.Name.region) × IsStock (record i { view = s.view; caches = lists_in s.view c.pop.new.self })
-    × All (HoldsList s.view) c.pop.new.self.parts) (sym c.pop.ensures.seat) (
+    × All (HoldsList s.view) c.pop.new.self.parts × (i.plain_from ≡ g.N.Name.plain_from)) (sym c.pop.ensures.seat) (
       c.self.invariant.0,
       subst (λ (z : WorkerCaches). IsStock (record i { caches = lists_in v z })) (sym now.after_is)
           (subst (λ ls. IsStock (record i { caches = record i.caches { lists = ls } })) (sym (map-set (list_in v) cs.parts place y))
@@ -48,12 +48,13 @@ invariant_of-self g c =
           now.class_is front now.list.is)),
       subst (λ (z : WorkerCaches). All (HoldsList v) z.parts) (sym now.after_is)
           (All-set (HoldsList v) cs.parts place y now.list c.self.invariant.2),
+      c.self.invariant.3,
     )
 
 pub returns : goal.returns
 returns g c =
     let v = c.self.inside.seat.view in let cs = c.self.inside.caches in
-    let i = stock_of c.self.inside.thread c.self.inside.partitions v c.self.inside.registers cs in
+    let i = stock_of c.self.inside.thread c.self.inside.partitions c.self.inside.plain_from v c.self.inside.registers cs in
     let long = as_many v cs c.self.invariant.1.lists.count in
     let p = c.args.partition in let class = c.args.class in let place = cache_place cs.version p class in
     let real = subst (λ (z : StockValue). HasClass z.caches.version class) (sym c.self.view_is) c.requires.class in

@@ -92,7 +92,8 @@ overflow_add-number g c =
 
 pub purge_root-requires-clause-lender : goal.purge_root-requires-clause-lender
 purge_root-requires-clause-lender g c =
-    let i = stock_of c.self.inside.thread c.self.inside.partitions c.self.inside.seat.view c.self.inside.registers c.self.inside.caches in
+    let i = stock_of c.self.inside.thread c.self.inside.partitions c.self.inside.plain_from c.self.inside.seat.view c.self.inside.registers
+    c.self.inside.caches in
     let has = lists_stake c.args.line c.args.partition c.lists.number c.args.self.now c.lists.self c.lists.invariant.some
     c.requires.stake in
     let stake = subst (λ (z : StockValue). HasItsStake z) (sym c.self.view_is) has in
@@ -100,22 +101,25 @@ purge_root-requires-clause-lender g c =
 
 pub invariant_of-self : goal.invariant_of-self
 invariant_of-self g c =
-    let i = stock_of c.self.inside.thread c.self.inside.partitions c.self.inside.seat.view c.self.inside.registers c.self.inside.caches in
+    let i = stock_of c.self.inside.thread c.self.inside.partitions c.self.inside.plain_from c.self.inside.seat.view c.self.inside.registers
+    c.self.inside.caches in
     let them = same_has i c.purge_root.new.seat.view c.self.inside.caches refl c.self.invariant.1 c.self.invariant.2
     (ap (λ (n : Share). n.view) c.in_err-purge_root.ensures.err) in
-    (c.purge_root.ensures.region, them.stock, them.holds)
+    (c.purge_root.ensures.region, them.stock, them.holds, c.self.invariant.3)
 
 pub invariant_of-self-2 : goal.invariant_of-self-2
 invariant_of-self-2 g c =
-    let i = stock_of c.self.inside.thread c.self.inside.partitions c.self.inside.seat.view c.self.inside.registers c.self.inside.caches in
+    let i = stock_of c.self.inside.thread c.self.inside.partitions c.self.inside.plain_from c.self.inside.seat.view c.self.inside.registers
+    c.self.inside.caches in
     let w = c.purge_root.new.seat.view in
     let them = kept_has c.slots_stay_seen.ensures i w c.self.inside.caches refl c.self.invariant.1 c.self.invariant.2
     c.in_ok-purge_root.ensures.entered.1.lends.keeps in
-    (c.purge_root.ensures.region, them.stock, them.holds)
+    (c.purge_root.ensures.region, them.stock, them.holds, c.self.invariant.3)
 
 pub returns-clause-purges : goal.returns-clause-purges
 returns-clause-purges g c =
-    let i = stock_of c.self.inside.thread c.self.inside.partitions c.self.inside.seat.view c.self.inside.registers c.self.inside.caches in
+    let i = stock_of c.self.inside.thread c.self.inside.partitions c.self.inside.plain_from c.self.inside.seat.view c.self.inside.registers
+    c.self.inside.caches in
     let p = c.args.partition in let line = c.args.line in let s = c.args.self.now in let now = c.lists.self in
     let w = c.purge_root.new.seat.view in
     let them = kept_has c.slots_stay_seen.ensures i w c.self.inside.caches refl c.self.invariant.1 c.self.invariant.2
@@ -166,7 +170,8 @@ returns-in_err-give_tail-clause-stops g c =
 
 pub returns-in_err-purge_root-clause-stops : goal.returns-in_err-purge_root-clause-stops
 returns-in_err-purge_root-clause-stops g c =
-    let i = stock_of c.self.inside.thread c.self.inside.partitions c.self.inside.seat.view c.self.inside.registers c.self.inside.caches in
+    let i = stock_of c.self.inside.thread c.self.inside.partitions c.self.inside.plain_from c.self.inside.seat.view c.self.inside.registers
+    c.self.inside.caches in
     let now = c.lists.self in let w = c.purge_root.new.seat.view in
     let same = ap (λ (n : Share). n.view) c.in_err-purge_root.ensures.err in
     let them = same_has i w c.self.inside.caches refl c.self.invariant.1 c.self.invariant.2 same in

@@ -10,7 +10,8 @@ use Rattle.pa_thread_state.proofs.stock.Stock.read_word.Goals as goal
 
 pub read-value-requires-clause-able : goal.read-value-requires-clause-able
 read-value-requires-clause-able g c =
-    let i = stock_of c.self.inside.thread c.self.inside.partitions c.self.inside.seat.view c.self.inside.registers c.self.inside.caches in
+    let i = stock_of c.self.inside.thread c.self.inside.partitions c.self.inside.plain_from c.self.inside.seat.view c.self.inside.registers
+    c.self.inside.caches in
     let h = inside i c.args.self.now c.args.handle.now c.args.reg c.self.view_is
     (record {
       stock = subst (λ (z : StockValue). IsStock z) c.self.view_is c.self.invariant.1;
@@ -22,7 +23,8 @@ read-value-requires-clause-able g c =
 
 pub invariant_of-self : goal.invariant_of-self
 invariant_of-self g c =
-    let i = stock_of c.self.inside.thread c.self.inside.partitions c.self.inside.seat.view c.self.inside.registers c.self.inside.caches in
+    let i = stock_of c.self.inside.thread c.self.inside.partitions c.self.inside.plain_from c.self.inside.seat.view c.self.inside.registers
+    c.self.inside.caches in
     let h = inside i c.args.self.now c.args.handle.now c.args.reg c.self.view_is
     (record {
       stock = subst (λ (z : StockValue). IsStock z) c.self.view_is c.self.invariant.1;
@@ -36,11 +38,12 @@ invariant_of-self g c =
     (read_sound c.looks_leave.ensures c.entries_stand_in_logs.ensures c.owns_change.ensures i c.read-value.result.0.0 c.args.place
     c.read-value.result.1 c.args.handle.now h.stock h.stake)
     (λ p class t among. refl) in
-    (c.read-value.ensures.region ∙ c.self.invariant.0, them.stock, them.holds)
+    (c.read-value.ensures.region ∙ c.self.invariant.0, them.stock, them.holds, c.self.invariant.3)
 
 pub returns : goal.returns
 returns g c =
-    let i = stock_of c.self.inside.thread c.self.inside.partitions c.self.inside.seat.view c.self.inside.registers c.self.inside.caches in
+    let i = stock_of c.self.inside.thread c.self.inside.partitions c.self.inside.plain_from c.self.inside.seat.view c.self.inside.registers
+    c.self.inside.caches in
     let h = inside i c.args.self.now c.args.handle.now c.args.reg c.self.view_is
     (record {
       stock = subst (λ (z : StockValue). IsStock z) c.self.view_is c.self.invariant.1;
@@ -56,7 +59,7 @@ returns g c =
     (λ p class t among. refl) in
     subst (λ (z : StockValue). ReadsAt c.args.handle.now c.args.place
     (record { slot = c.slot_name.result; found = c.read-value.result.0 }) c.read-value.result.1 z
-    (stock_of i.thread i.partitions c.read-value.new.seat.view i.registers c.self.inside.caches)) c.self.view_is (record {
+    (stock_of i.thread i.partitions i.plain_from c.read-value.new.seat.view i.registers c.self.inside.caches)) c.self.view_is (record {
       slot = c.slot_name.ensures;
       after_is = after_as i c.read-value.new.seat.view x i.registers c.self.inside.caches c.read-value.ensures.view them;
       found = c.read-value.ensures.found;

@@ -11,7 +11,8 @@ use Rattle.pa_thread_state.proofs.stock.Stock.receive.Goals as goal
 
 pub invariant_of-self : goal.invariant_of-self
 invariant_of-self g c =
-    let i = stock_of c.self.inside.thread c.self.inside.partitions c.self.inside.seat.view c.self.inside.registers c.self.inside.caches in
+    let i = stock_of c.self.inside.thread c.self.inside.partitions c.self.inside.plain_from c.self.inside.seat.view c.self.inside.registers
+    c.self.inside.caches in
     let n = c.args.note.view in
     let long = ap (λ (z : StockValue). length z.view.words) c.self.view_is ∙
     (c.kept.ensures.long ∙ (ap byte_word_count (sym c.requires.region) ∙ sym c.aware.ensures.long)) in
@@ -20,11 +21,12 @@ invariant_of-self g c =
     (received_stock c.slots_stay_seen.ensures i n c.requires.only.0 c.self.invariant.1 c.requires.only.1
     (subst (λ (v : View). IsAware v) c.take.ensures.view c.aware-2.ensures.aware))
     (firsts_join i n c.self.invariant.1 long) in
-    (c.take.ensures.region ∙ c.self.invariant.0, them.stock, them.holds)
+    (c.take.ensures.region ∙ c.self.invariant.0, them.stock, them.holds, c.self.invariant.3)
 
 pub returns : goal.returns
 returns g c =
-    let i = stock_of c.self.inside.thread c.self.inside.partitions c.self.inside.seat.view c.self.inside.registers c.self.inside.caches in
+    let i = stock_of c.self.inside.thread c.self.inside.partitions c.self.inside.plain_from c.self.inside.seat.view c.self.inside.registers
+    c.self.inside.caches in
     let n = c.args.note.view in
     let long = ap (λ (z : StockValue). length z.view.words) c.self.view_is ∙
     (c.kept.ensures.long ∙ (ap byte_word_count (sym c.requires.region) ∙ sym c.aware.ensures.long)) in
@@ -33,7 +35,8 @@ returns g c =
     (received_stock c.slots_stay_seen.ensures i n c.requires.only.0 c.self.invariant.1 c.requires.only.1
     (subst (λ (v : View). IsAware v) c.take.ensures.view c.aware-2.ensures.aware))
     (firsts_join i n c.self.invariant.1 long) in
-    subst (λ (z : StockValue). Receives n z (stock_of i.thread i.partitions c.take.new.seat.view i.registers c.self.inside.caches))
+    subst (λ (z : StockValue). Receives n z
+    (stock_of i.thread i.partitions i.plain_from c.take.new.seat.view i.registers c.self.inside.caches))
     c.self.view_is (record {
       only = c.requires.only;
       aware = c.aware.ensures.aware;

@@ -12,7 +12,8 @@ use Rattle.pa_thread_state.proofs.stock.Stock.take_back.Goals as goal
 
 pub invariant_of-self : goal.invariant_of-self
 invariant_of-self g c =
-    let i = stock_of c.self.inside.thread c.self.inside.partitions c.self.inside.seat.view c.self.inside.registers c.self.inside.caches in
+    let i = stock_of c.self.inside.thread c.self.inside.partitions c.self.inside.plain_from c.self.inside.seat.view c.self.inside.registers
+    c.self.inside.caches in
     let n = c.args.note.view in
     let long = ap (λ (z : StockValue). length z.view.words) c.self.view_is ∙
     (c.kept.ensures.long ∙ (ap byte_word_count (sym c.requires.note) ∙ sym c.aware.ensures.long)) in
@@ -21,7 +22,7 @@ invariant_of-self g c =
     (back_stock c.beginnings_join.ensures c.slots_stay_seen.ensures i n c.requires.has.0 c.self.invariant.1 c.requires.has.1
     (subst (λ (v : View). IsAware v) c.take.ensures.view c.aware-2.ensures.aware))
     (firsts_join i n c.self.invariant.1 long) in
-    (c.take.ensures.region ∙ c.self.invariant.0, them.stock, them.holds)
+    (c.take.ensures.region ∙ c.self.invariant.0, them.stock, them.holds, c.self.invariant.3)
 
 pub returns-clause-stake : goal.returns-clause-stake
 returns-clause-stake g c =
@@ -34,7 +35,8 @@ returns-clause-stake g c =
 
 pub returns-clause-joined : goal.returns-clause-joined
 returns-clause-joined g c =
-    let i = stock_of c.self.inside.thread c.self.inside.partitions c.self.inside.seat.view c.self.inside.registers c.self.inside.caches in
+    let i = stock_of c.self.inside.thread c.self.inside.partitions c.self.inside.plain_from c.self.inside.seat.view c.self.inside.registers
+    c.self.inside.caches in
     let n = c.args.note.view in
     let long = ap (λ (z : StockValue). length z.view.words) c.self.view_is ∙
     (c.kept.ensures.long ∙ (ap byte_word_count (sym c.requires.note) ∙ sym c.aware.ensures.long)) in

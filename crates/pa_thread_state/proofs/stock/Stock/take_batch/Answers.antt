@@ -20,7 +20,7 @@ spill-requires-clause-class g c = subst (λ (z : StockValue). HasClass z.caches.
 pub spill-requires-clause-list : goal.spill-requires-clause-list
 spill-requires-clause-list g c =
     let v = c.self.inside.seat.view in let cs = c.self.inside.caches in
-    let i = stock_of c.self.inside.thread c.self.inside.partitions v c.self.inside.registers cs in
+    let i = stock_of c.self.inside.thread c.self.inside.partitions c.self.inside.plain_from v c.self.inside.registers cs in
     let long = as_many v cs c.self.invariant.1.lists.count in
     let real = subst (λ (z : StockValue). HasClass z.caches.version c.args.class) (sym c.self.view_is) c.requires.class in
     holds_at v cs c.args.partition c.args.class c.requires.partition real long c.self.invariant.2
@@ -28,7 +28,7 @@ spill-requires-clause-list g c =
 pub invariant_of-self : goal.invariant_of-self
 invariant_of-self g c =
     let v = c.self.inside.seat.view in let cs = c.self.inside.caches in
-    let i = stock_of c.self.inside.thread c.self.inside.partitions v c.self.inside.registers cs in
+    let i = stock_of c.self.inside.thread c.self.inside.partitions c.self.inside.plain_from v c.self.inside.registers cs in
     let long = as_many v cs c.self.invariant.1.lists.count in
     let p = c.args.partition in let class = c.args.class in let keep = c.args.keep in
     let w = c.spill.new.seat.view in let after = c.spill.new.self in let is = c.self.invariant.1 in
@@ -58,12 +58,13 @@ invariant_of-self g c =
             well = is.lists.well p class t there;
           }))),
       both.0,
+      c.self.invariant.3,
     )
 
 pub returns-clause-titles : goal.returns-clause-titles
 returns-clause-titles g c =
     let v = c.self.inside.seat.view in let cs = c.self.inside.caches in
-    let i = stock_of c.self.inside.thread c.self.inside.partitions v c.self.inside.registers cs in
+    let i = stock_of c.self.inside.thread c.self.inside.partitions c.self.inside.plain_from v c.self.inside.registers cs in
     let long = as_many v cs c.self.invariant.1.lists.count in
     let p = c.args.partition in let class = c.args.class in let keep = c.args.keep in
     let w = c.spill.new.seat.view in let after = c.spill.new.self in let is = c.self.invariant.1 in
@@ -75,7 +76,7 @@ returns-clause-titles g c =
 pub returns-clause-rest : goal.returns-clause-rest
 returns-clause-rest g c =
     let v = c.self.inside.seat.view in let cs = c.self.inside.caches in
-    let i = stock_of c.self.inside.thread c.self.inside.partitions v c.self.inside.registers cs in
+    let i = stock_of c.self.inside.thread c.self.inside.partitions c.self.inside.plain_from v c.self.inside.registers cs in
     let long = as_many v cs c.self.invariant.1.lists.count in
     let p = c.args.partition in let class = c.args.class in let keep = c.args.keep in
     let w = c.spill.new.seat.view in let after = c.spill.new.self in let is = c.self.invariant.1 in

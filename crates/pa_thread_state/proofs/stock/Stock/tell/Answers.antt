@@ -11,16 +11,18 @@ use Rattle.pa_thread_state.proofs.stock.Stock.tell.Goals as goal
 
 pub invariant_of-self : goal.invariant_of-self
 invariant_of-self g c =
-    let i = stock_of c.self.inside.thread c.self.inside.partitions c.self.inside.seat.view c.self.inside.registers c.self.inside.caches in
+    let i = stock_of c.self.inside.thread c.self.inside.partitions c.self.inside.plain_from c.self.inside.seat.view c.self.inside.registers
+    c.self.inside.caches in
     let x = left_after (stake_parcel i.thread) i.view in
     let them = has_as i c.hand.new.seat.view x i.registers c.self.inside.caches c.hand.ensures.left refl c.self.invariant.1
     c.self.invariant.2
     (told_stock i c.self.invariant.1) (λ p class t among. refl) in
-    (c.hand.ensures.regions.0 ∙ c.self.invariant.0, them.stock, them.holds)
+    (c.hand.ensures.regions.0 ∙ c.self.invariant.0, them.stock, them.holds, c.self.invariant.3)
 
 pub returns-clause-left : goal.returns-clause-left
 returns-clause-left g c =
-    let i = stock_of c.self.inside.thread c.self.inside.partitions c.self.inside.seat.view c.self.inside.registers c.self.inside.caches in
+    let i = stock_of c.self.inside.thread c.self.inside.partitions c.self.inside.plain_from c.self.inside.seat.view c.self.inside.registers
+    c.self.inside.caches in
     let x = left_after (stake_parcel i.thread) i.view in
     let them = has_as i c.hand.new.seat.view x i.registers c.self.inside.caches c.hand.ensures.left refl c.self.invariant.1
     c.self.invariant.2
@@ -30,14 +32,16 @@ returns-clause-left g c =
 
 pub returns-clause-again : goal.returns-clause-again
 returns-clause-again g c =
-    let i = stock_of c.self.inside.thread c.self.inside.partitions c.self.inside.seat.view c.self.inside.registers c.self.inside.caches in
+    let i = stock_of c.self.inside.thread c.self.inside.partitions c.self.inside.plain_from c.self.inside.seat.view c.self.inside.registers
+    c.self.inside.caches in
     subst (λ (z : StockValue). IsForThread z.thread c.hand.result.view) c.self.view_is
     (subst (λ (v : View). IsForThread i.thread v) (sym c.hand.ensures.given)
     (told_again i.thread i.view c.self.invariant.1.stake (subst HasItsStake (sym c.self.view_is) c.requires.stake)))
 
 pub returns-clause-none : goal.returns-clause-none
 returns-clause-none g c k =
-    let i = stock_of c.self.inside.thread c.self.inside.partitions c.self.inside.seat.view c.self.inside.registers c.self.inside.caches in
+    let i = stock_of c.self.inside.thread c.self.inside.partitions c.self.inside.plain_from c.self.inside.seat.view c.self.inside.registers
+    c.self.inside.caches in
     subst (λ (v : View). stake_of v k ≡ 0) (sym c.hand.ensures.left)
     (told_none i.thread i.view c.self.invariant.1.stake
     (subst (λ (v : View). IsParted i.view (left_after (stake_parcel i.thread) i.view) v) c.hand.ensures.given

@@ -1,7 +1,0 @@
-use Rattle.std.proofs.Common.{take}
-use Rattle.std.specs.List.{All}
-use Rattle.pa_audit_holders.specs.Rows.{IsOfThreads}
-use Rattle.pa_test_audit.proofs.caches.are_within.Given as goal
-
-abbrev pub invariant-loop-found : goal.invariant-loop-found
-invariant-loop-found l = All (IsOfThreads l.version) (take l.found-index l.records)
