@@ -1,5 +1,5 @@
 -- After each record each queue has at most as many bytes as the limit says.
-use Rattle.std.proofs.Common.{◌≡◌, ℕ, List, [], ◌∷◌, ◌++◌, Option, Some, None, refl, sym, subst, arith, inl, inr}
+use Rattle.std.proofs.Common.{◌≡◌, ℕ, List, [], ◌∷◌, Option, Some, None, refl, sym, subst, arith, inl, inr}
 use Rattle.std.proofs.lemmas.Bool.{cases_eq, eq-eqb, ne_eqb}
 use Rattle.pa_slot.specs.declared.word.Step.{Step}
 use Rattle.pa_record.specs.declared.entry.Seen.{Seen}
@@ -12,6 +12,7 @@ use Rattle.pa_rules.specs.Roots.{Journals}
 use Rattle.pa_rules.specs.Caches.{Caches, with_cache, no_caches}
 use Rattle.pa_delay.specs.Delayed.{Waiting, Queues, with_queue, no_queues, DelayedReturn, DelayedDone, DelayedRow, DelayedTo}
 use Rattle.pa_delay.specs.Laws.{HasAtMost, HaveAtMost, QueuesFit}
+use Rattle.pa_delay.proofs.Listed.{delayed_cut, none_known}
 
 module _ (bytes : ℕ) (roots : Journals) where
   same_fits : (before after : Waiting) → HasAtMost bytes roots before.queue → after.queue ≡ before.queue → HasAtMost bytes roots after.queue
@@ -57,18 +58,20 @@ module _ (bytes : ℕ) (roots : Journals) where
     | inr other ↦ rw (ne_eqb t thread other) (fits t)
   ]
 
-  -- up to each record
-  walk_fits : (partitions : ℕ) (all : Caches) (waiting : Queues) (xs ys : List Played) (after : Caches) (left : Queues)
-      → HaveAtMost bytes roots waiting → DelayedTo bytes partitions roots all waiting (xs ++ ys) after left
-      → (mid : Caches) × (there : Queues) × DelayedTo bytes partitions roots all waiting xs mid there × HaveAtMost bytes roots there
-  walk_fits partitions all waiting [] ys after left fits to = (all, waiting, (refl, refl), fits)
-  walk_fits partitions all waiting (x ∷ xs) ys after left fits (next, row, rest) =
+  -- along some records
+  pub all_fit : (partitions : ℕ) (all : Caches) (waiting : Queues) (xs : List Played) (after : Caches) (left : Queues)
+      → HaveAtMost bytes roots waiting → DelayedTo bytes partitions roots all waiting xs after left → HaveAtMost bytes roots left
+  all_fit partitions all waiting [] after left fits (lists, queues) = subst (HaveAtMost bytes roots) (sym queues) fits
+  all_fit partitions all waiting (x ∷ xs) after left fits (next, row, rest) =
       let one = row_fits partitions x x.answer (record { lists = all x.thread; queue = waiting x.thread }) next (fits x.thread) row in
-      let (mid, there, to, fit) =
-      walk_fits partitions (with_cache all x.thread next.lists) (with_queue waiting x.thread next.queue) xs ys after left
-      (with_fits waiting x.thread next.queue fits one) rest in
-      (mid, there, (next, row, to), fit)
+      all_fit partitions (with_cache all x.thread next.lists) (with_queue waiting x.thread next.queue) xs after left
+      (with_fits waiting x.thread next.queue fits one) rest
+
+  pub none_fit : HaveAtMost bytes roots no_queues
+  none_fit t = (0, refl, omega arith)
 
 pub queues_fit : QueuesFit
 queues_fit bytes partitions roots xs ys (after, left, to) =
-    walk_fits bytes roots partitions no_caches no_queues xs ys after left (λ t. (0, refl, omega arith)) to
+    let (mid, there, front, back, known) =
+    delayed_cut roots bytes partitions no_caches no_queues xs ys after left (none_known roots) to in
+    (mid, there, front, all_fit bytes roots partitions no_caches no_queues xs mid there (none_fit bytes roots) front)

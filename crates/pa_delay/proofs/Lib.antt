@@ -3,3 +3,12 @@ mod Zero
 mod Fits
 mod Same
 mod Worked
+mod Weighing
+mod RowKinds
+mod Listed
+mod Rows
+pub mod Flowing
+mod Passing
+mod Holding
+mod Cut
+pub mod Waits

@@ -5,5 +5,8 @@
 mod laws;
 mod queue;
 
-pub use laws::{no_bytes_no_delay, one_waits, queues_fit};
-pub use queue::{Delay, Freed};
+pub use laws::{
+    delayed_flow, no_bytes_no_delay, none_is_issued_while_it_waits, one_waits, queues_fit,
+    waits_somewhere,
+};
+pub use queue::Delay;

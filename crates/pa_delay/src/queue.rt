@@ -1,43 +1,36 @@
 ghost use Rattle.std.specs.Prelude.{◌≡◌, ◌↔◌, ◌<◌, ◌≤◌, [], ◌∷◌, ◌++◌, length, IfNone, IfOk, IfSome, IsNone, IsTrue, option_to_list};
-ghost use Rattle.pa_delay.specs.Queue.{GoesPast, AreBytes, GoesFirst, freed_bytes, with_freed};
+ghost use Rattle.pa_delay.specs.Queue.{GoesPast, AreBytes, GoesFirst, IsClassed, size_of_class, waiting_bytes, with_waiting};
 
 use pa_buckets::{Class, rows_have_bounds, slot_size};
-use pa_record::Numbered;
+use pa_cells::Handle;
 use pa_slot::OutOfMemory;
 use std::alloc::Global;
 use std::collections::VecDeque;
 use std::marker::Model;
 
-/// A slot that a step returned, at the number that this step left, and its size class.
-#[derive(Clone, Copy, Debug, PartialEq, Eq)]
-pub struct Freed {
-    pub slot: Numbered,
-    pub class: Class,
-}
-
 /// A thread's queue of slots that were returned and that its lists haven't seen yet. Contracts see it as the most bytes that
-/// stay in it, the number of slots that it has room for, and its slots, front first. The queue is the project's own: a
-/// quarantine of PartitionAlloc's may skip what is too large for it, and may choose at random.
+/// stay in it, the number of slots that it has room for, and the handles of its slots, front first. The queue is the project's
+/// own: a quarantine of PartitionAlloc's may skip what is too large for it, and may choose at random.
 #[derive(Drop)]
 pub struct Delay {
     limit: u32,
     room: u32,
     bytes: u64,
-    slots: VecDeque<Freed>,
+    slots: VecDeque<Handle>,
 }
 
 impl Model for Delay {
     ghost use Rattle.std.specs.Prelude.{◌≡◌, ◌≤◌, length};
     ghost use Rattle.std.specs.VecDeque.{deque_capacity};
-    ghost use Rattle.pa_delay.specs.Queue.{QueueList, HaveClasses, freed_bytes};
+    ghost use Rattle.pa_delay.specs.Queue.{QueueList, AreClassed, waiting_bytes};
 
     ghost Value = { QueueList };
 
     ghost view = { λ d. record { limit = d.limit; room = d.room; slots = d.slots.items } };
 
     ghost invariant = { λ d.
-        (d.bytes ≡ freed_bytes d.slots.items) × (length d.slots.items ≤ d.room) × (d.room ≤ deque_capacity d.slots)
-        × HaveClasses d.slots.items };
+        (d.bytes ≡ waiting_bytes d.slots.items) × (length d.slots.items ≤ d.room) × (d.room ≤ deque_capacity d.slots)
+        × AreClassed d.slots.items };
 }
 
 impl Delay {
@@ -57,9 +50,19 @@ impl Delay {
 
     /// How many bytes its slots have together, count words included.
     pub fn bytes(&self) -> u64
-        ensures { result ≡ freed_bytes self.now.slots }
+        ensures { result ≡ waiting_bytes self.now.slots }
     {
         self.bytes
+    }
+
+    /// How many slots it has.
+    pub fn len(&self) -> u32
+        ensures count { result ≡ length self.now.slots }
+        ensures room { result ≤ self.now.room }
+    {
+        // Reading the room gives the proof its range.
+        let _room = self.room;
+        self.slots.len() as u32
     }
 
     /// Whether it has as many slots as it has room for.
@@ -69,22 +72,23 @@ impl Delay {
         self.slots.len() >= self.room as usize
     }
 
-    /// Puts a slot at the back. There must be room for one: `is_full` says whether there is.
-    pub fn push(&mut self, slot: Freed)
+    /// Puts a slot of a class at the back. There must be room for one: `is_full` says whether there is.
+    pub fn push(&mut self, handle: Handle)
         requires room { length self.old.slots < self.old.room }
-        ensures back { self.new ≡ with_freed self.old (self.old.slots ++ slot ∷ []) }
+        requires class { IsClassed handle }
+        ensures back { self.new ≡ with_waiting self.old (self.old.slots ++ handle ∷ []) }
     {
         rows_have_bounds();
-        self.bytes += slot_size(slot.class) as u64;
-        self.slots.push_back_reserved(slot);
+        self.bytes += size_of(handle.class);
+        self.slots.push_back_reserved(handle);
     }
 
     /// Takes out the front if the slots have more bytes than the limit; `None` if and only if they haven't, and then nothing
     /// goes. Called until it returns `None`, it takes the front of the queue, as little as leaves at most the limit.
-    pub fn evict(&mut self) -> Option<Freed>
-        ensures none { IsNone result ↔ (freed_bytes self.old.slots ≤ self.old.limit) }
+    pub fn evict(&mut self) -> Option<Handle>
+        ensures none { IsNone result ↔ (waiting_bytes self.old.slots ≤ self.old.limit) }
         ensures front { self.old.slots ≡ option_to_list result ++ self.new.slots }
-        ensures rest { self.new ≡ with_freed self.old self.new.slots }
+        ensures rest { self.new ≡ with_waiting self.old self.new.slots }
         ensures stays { IfNone result (GoesPast AreBytes self.old.limit self.old.slots [] self.new.slots) }
         ensures goes { IfSome result (GoesFirst self.old self.new.slots) }
     {
@@ -96,13 +100,23 @@ impl Delay {
     }
 
     /// Takes out the front, whatever the limit. `None` if and only if the queue is empty.
-    pub fn drain(&mut self) -> Option<Freed>
+    pub fn drain(&mut self) -> Option<Handle>
         ensures none { IsNone result ↔ (self.old.slots ≡ []) }
         ensures front { self.old.slots ≡ option_to_list result ++ self.new.slots }
-        ensures rest { self.new ≡ with_freed self.old self.new.slots }
+        ensures rest { self.new ≡ with_waiting self.old self.new.slots }
     {
         let front = self.slots.pop_front()?;
-        self.bytes -= slot_size(front.class) as u64;
+        self.bytes -= size_of(front.class);
         Some(front)
+    }
+}
+
+// How many bytes a slot of this class has; 0 without one.
+fn size_of(class: Option<Class>) -> u64
+    ensures { result ≡ size_of_class class }
+{
+    match class {
+        Some(class) => slot_size(class) as u64,
+        None => 0,
     }
 }

@@ -1,6 +1,7 @@
 pub mod AllSaid
 pub mod Alone
 pub mod Closed
+pub mod ClosedBy
 pub mod ClosingSeat
 pub mod Entering
 pub mod Fitting

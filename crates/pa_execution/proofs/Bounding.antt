@@ -11,13 +11,14 @@ use Rattle.pa_region.specs.Takes.{log_of}
 use Rattle.pa_region.proofs.TakeLaws.{stakes_made}
 use Rattle.pa_trace.specs.declared.script.Trace.{Trace}
 use Rattle.pa_trace.specs.Limits.{IsWithinLimits}
-use Rattle.pa_rules.specs.Legal.{phases_in}
 use Rattle.pa_logs.specs.Told.{ToldRecord}
 use Rattle.pa_op_specs.specs.Workers.{WorkerValue}
-use Rattle.pa_op_specs.specs.Plays.{PlaysOne, PlaysAll}
-use Rattle.pa_execution.specs.Courses.{Course, IsCourse, Closes, HasSeenAll}
+use Rattle.pa_op_specs.specs.Plays.{PlaysOne, PlaysSome}
+use Rattle.pa_execution.specs.Turns.{Manner, turns_in}
+use Rattle.pa_execution.specs.Courses.{Course, IsCourseBy, Closes, HasSeenAll}
 use Rattle.pa_execution.specs.Telling.{CoursesLeaveNonePast}
-use Rattle.pa_execution.proofs.Chaining.{heard_next, starts_of, sees_last}
+use Rattle.pa_execution.proofs.Turning.{some_turn}
+use Rattle.pa_execution.proofs.Chaining.{played_some, heard_next, starts_of, sees_last}
 use Rattle.pa_execution.proofs.Playing.{sees_then, sees_all, logged}
 use Rattle.pa_logs.proofs.Listing.{entered_append}
 
@@ -38,8 +39,9 @@ seen_first k m rest (h ∷ hs) mine n among (more, is) none =
     let same : h ≡ m = cc in
     made_first k h hs (ap (λ (z : Made). z.stake) same ∙ mine) none
 
-module _ (t : Trace) (c : Course) (v : View) (limits : IsWithinLimits t) (course : IsCourse t (phases_in t.lines) c)
-    (closes : Closes (c.seats (phases_in t.lines)) v) (p : ℕ) (past : t.partitions ≤ p) (low : p < 4) where
+module _ (way : Manner) (t : Trace) (c : Course) (v : View) (limits : IsWithinLimits t)
+    (course : IsCourseBy way t (turns_in way t) c) (closes : Closes (c.seats (turns_in way t)) v) (p : ℕ) (past : t.partitions ≤ p)
+    (low : p < 4) where
   -- ---- the thread that made the first entry
 
   module _ (m : Made) (rest : List Made) (first : list_of p v ≡ m ∷ rest) where
@@ -60,7 +62,7 @@ module _ (t : Trace) (c : Course) (v : View) (limits : IsWithinLimits t) (course
           )
     ]
 
-    plays_none : (w last : WorkerValue) (xs : List ToldRecord) → PlaysAll w xs last → w.stock.partitions ≡ t.partitions →
+    plays_none : (w last : WorkerValue) (xs : List ToldRecord) → PlaysSome w xs last → w.stock.partitions ≡ t.partitions →
         w.stock.thread ≡ m.stake →
         HasSeenAll last.stock.view v → entered_in p (log_of m.stake w.stock.view) ≡ [] → entered_in p (log_of m.stake last.stock.view) ≡ []
     plays_none w last [] same many mine sees none = ap (λ (z : WorkerValue). entered_in p (log_of m.stake z.stock.view)) same ∙ none
@@ -69,30 +71,30 @@ module _ (t : Trace) (c : Course) (v : View) (limits : IsWithinLimits t) (course
         plays_none next last xs more (one.does.same.1 ∙ many) (one.does.same.0 ∙ mine) sees (op_none w next x one many mine before none)
 
     -- nor do all of them
-    phase_none : (n : ℕ) → suc n ≤ phases_in t.lines → m.stake < t.threads →
+    phase_none : (n : ℕ) → suc n ≤ turns_in way t → m.stake < t.threads →
         entered_in p (log_of m.stake (c.starts (suc n) m.stake).stock.view) ≡ [] →
         entered_in p (log_of m.stake (c.ends (suc n) m.stake).stock.view) ≡ []
     phase_none n high few none =
         let k = m.stake in
-        let is = starts_of t c limits course k n high few in
+        let is = starts_of way t c limits course k n high few in
         let sees = sees_then (c.ends (suc n) k).stock.view (c.seats (suc n)) v ((course.tells (suc n) (omega arith) high).sees k few)
-        (sees_last t c limits course v closes (suc n) (omega arith) high) in
+        (sees_last way t c limits course v closes (suc n) (omega arith) high) in
         plays_none (c.starts (suc n) k) (c.ends (suc n) k) (c.plays (suc n) k)
-        (course.plays (suc n) k (omega arith) high few) is.many is.thread sees none
+        (played_some way t c limits course (suc n) k (omega arith) high few) is.many is.thread sees none
 
-    ends_none : (n : ℕ) → suc n ≤ phases_in t.lines → m.stake < t.threads →
+    ends_none : (n : ℕ) → suc n ≤ turns_in way t → m.stake < t.threads →
         entered_in p (log_of m.stake (c.ends (suc n) m.stake).stock.view) ≡ []
     ends_none zero high few =
         let begins = course.begins m.stake few in
         phase_none 0 high few (ap (entered_in p) (ap (log_of m.stake) begins.new.stock.view ∙ begins.log))
     ends_none (suc n) high few =
-        let heard = heard_next t c limits course (suc n) m.stake (omega arith) (omega arith) few in
+        let heard = heard_next way t c limits course (suc n) m.stake (omega arith) (omega arith) few in
         phase_none (suc n) high few
         (ap (entered_in p) (ap (λ (w : WorkerValue). log_of m.stake w.stock.view) heard.same ∙ heard.log) ∙ ends_none n (omega arith) few)
 
-    log_none : (n : ℕ) → suc n ≡ phases_in t.lines → entered_in p (log_of m.stake v) ≡ []
+    log_none : (n : ℕ) → suc n ≡ turns_in way t → entered_in p (log_of m.stake v) ≡ []
     log_none n last =
-        let told = course.tells (phases_in t.lines) (omega arith) (omega arith) in
+        let told = course.tells (turns_in way t) (omega arith) (omega arith) in
         ap (entered_in p) (closes.logs m.stake)
         ∙ elim (cases_lt m.stake t.threads) [
           | inl few ↦
@@ -105,9 +107,10 @@ module _ (t : Trace) (c : Course) (v : View) (limits : IsWithinLimits t) (course
     no_first : ⊥
     no_first =
         let small = (subst (λ l. Each (λ (n : Made). n.stake < 16) l) first (closes.aware.makers p)).0 in
+        let there = some_turn way t in
         made_first m.stake m rest refl
         (ap (made_with m.stake) (sym first) ∙
-        (stakes_made v m.stake p closes.aware (closes.every m.stake small) ∙ log_none (phases_in t.lines - 1) (omega arith)))
+        (stakes_made v m.stake p closes.aware (closes.every m.stake small) ∙ log_none (turns_in way t - 1) (omega arith)))
 
   list_none : list_of p v ≡ []
   list_none = go (list_of p v) refl

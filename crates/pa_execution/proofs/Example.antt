@@ -16,21 +16,23 @@ use Rattle.pa_region.proofs.FirstLists.{stake_count}
 use Rattle.pa_region.proofs.Opens.{opens}
 use Rattle.pa_rules.specs.Caches.{NoActs, listed_slots}
 use Rattle.pa_rules.specs.Report.{listed_bytes}
-use Rattle.pa_logs.specs.Said.{IsLineSaid, LayersSay}
+use Rattle.pa_logs.specs.Said.{IsLineSaid, LayersSay, ListsSay}
 use Rattle.pa_logs.proofs.Said.{layers_tell_all}
 use Rattle.pa_op_specs.specs.Counts.{CountsBy}
 use Rattle.pa_op_specs.specs.Booking.{BooksBy}
 use Rattle.pa_op_specs.specs.Stocks.{titles_in}
 use Rattle.pa_op_specs.specs.Outcomes.{Outcome, FitsRun}
 use Rattle.pa_rules.specs.Sizes.{is_class}
-use Rattle.pa_op_specs.specs.Plays.{Does, PlaysAll}
+use Rattle.pa_op_specs.specs.Plays.{Does, LeadsLists, PlaysAll}
+use Rattle.pa_execution.specs.Turns.{Beside}
 use Rattle.pa_execution.specs.Courses.{IsCourse, Closes, HasSeenAll, HasHeardAll, Hears, BeginsNew, lines_in}
-use Rattle.pa_execution.specs.Merged.{told_in, lists_at, IsLeftBehind}
+use Rattle.pa_execution.specs.Merged.{told_in, IsLeftBehind}
 use Rattle.pa_execution.specs.Telling.{IsWholeRun}
-use Rattle.pa_execution.specs.Lines.{IsLineBy}
+use Rattle.pa_execution.specs.Lines.{IsLineBy, IsLineCached}
 use Rattle.pa_execution.specs.Example.{small_trace, small_view, small_stock, small_worker, small_line, small_record, small_before, small_until, small_seat, small_course, small_report, small_told, SmallCourseFits}
 use Rattle.pa_execution.proofs.Keepers.{courses_tell_all}
 use Rattle.pa_execution.proofs.Lining.{courses_tell_lines}
+use Rattle.pa_execution.proofs.Listing.{courses_tell_lists}
 use Rattle.pa_execution.proofs.Playing.{sees_itself}
 use Rattle.pa_region.proofs.ReadsFirst.{first_log}
 
@@ -81,13 +83,18 @@ does n = record {
   answers = λ o fits. record {
     told = refl;
     row = (refl, λ k. refl);
-    lists = (no_act o n fits, λ p class. refl);
     reader = λ s own e. absurd cc;
     unmaps = λ seen p asked slot e is. absurd cc;
     makes = λ p m e low among. absurd (not_in_none m among);
     home = λ m is. absurd cc;
-    signs = refl;
   };
+}
+
+leads : (n : ℕ) → LeadsLists small_stock small_stock (small_record n)
+leads n = record {
+  apart = λ u is. (is, refl);
+  signs = λ o fits. refl;
+  row = λ o fits. (no_act o n fits, λ p class. refl);
 }
 
 -- it counts nothing, and books nothing
@@ -155,10 +162,12 @@ plays : (n : ℕ) → 1 ≤ n → n ≤ 2 → PlaysAll (small_worker (small_befo
 plays = two_phases (λ n. PlaysAll (small_worker (small_before n)) (small_record n ∷ []) (small_worker (small_until n))) (
   small_worker (small_until 1),
   record { records = refl; does = does 1; counts = λ o fits. no_counts o 1; bytes = λ o fits. no_bytes o 1 },
+  leads 1,
   refl,
 ) (
   small_worker (small_until 2),
   record { records = refl; does = does 2; counts = λ o fits. no_counts o 2; bytes = λ o fits. no_bytes o 2 },
+  leads 2,
   refl,
 )
 
@@ -194,7 +203,7 @@ hears : (n k : ℕ) → 1 ≤ n → n < 2 → Hears k small_seat (small_worker (
 hears n k low high =
     let first : 1 ≡ n = omega arith in
     subst (λ m. Hears k small_seat (small_worker (small_until m)) (small_worker (small_before (m + 1)))) first
-    (record { view = small_view; same = refl; log = refl; lists = λ p class. refl; seen = λ u. omega arith })
+    (record { view = small_view; same = refl; log = refl; lists = λ p class. refl; seen = λ heard u. omega arith })
 
 course : IsCourse small_trace 2 small_course
 course = record {
@@ -240,15 +249,13 @@ run = record { course = course; closes = closes; left = left }
 -- ---- the report
 
 abbrev Counted : ℕ → Type 0
-Counted n = IsLineBy small_trace small_course small_seat (small_report n)
+Counted n = IsLineBy Beside small_trace small_course small_seat (small_report n)
 
 by_worker : (n : ℕ) → 1 ≤ n → n ≤ 2 → Counted n
-unfolding listed_slots listed_bytes slot_of row_of rows
 by_worker = two_phases Counted
     (record {
       live = record { slots = refl; bytes = refl };
       quarantined = record { slots = refl; bytes = refl };
-      cached = record { slots = refl; bytes = refl };
       root = record {
         journal = [];
         journal_is = refl;
@@ -263,7 +270,6 @@ by_worker = two_phases Counted
     (record {
       live = record { slots = refl; bytes = refl };
       quarantined = record { slots = refl; bytes = refl };
-      cached = record { slots = refl; bytes = refl };
       root = record {
         journal = [];
         journal_is = refl;
@@ -276,28 +282,45 @@ by_worker = two_phases Counted
       };
     })
 
-counted : (l : ReportLine) → Contains small_told.report l → IsLineBy small_trace small_course small_seat l
-counted l among = elim (in_cases (small_report 1) l (small_report 2 ∷ []) among) [
-  | inl e ↦ subst (λ (z : ReportLine). IsLineBy small_trace small_course small_seat z) e (by_worker 1 (omega arith) (omega arith))
+none_cached : (n : ℕ) → 1 ≤ n → n ≤ 2 → IsLineCached small_trace small_course (small_report n)
+unfolding listed_slots listed_bytes slot_of row_of rows
+none_cached = two_phases (λ n. IsLineCached small_trace small_course (small_report n)) (record { slots = refl; bytes = refl })
+    (record { slots = refl; bytes = refl })
+
+-- what holds of both lines holds of each of the report
+each_line : (P : ReportLine → Type 0) → ((n : ℕ) → 1 ≤ n → n ≤ 2 → P (small_report n)) → (l : ReportLine) →
+    Contains small_told.report l → P l
+each_line P both l among = elim (in_cases (small_report 1) l (small_report 2 ∷ []) among) [
+  | inl e ↦ subst P e (both 1 (omega arith) (omega arith))
   | inr later ↦ elim (in_cases (small_report 2) l [] later) [
-    | inl e ↦ subst (λ (z : ReportLine). IsLineBy small_trace small_course small_seat z) e (by_worker 2 (omega arith) (omega arith))
+    | inl e ↦ subst P e (both 2 (omega arith) (omega arith))
     | inr none ↦ absurd (not_in_none l none)
   ]
 ]
 
+counted : (l : ReportLine) → Contains small_told.report l → IsLineBy Beside small_trace small_course small_seat l
+counted = each_line (λ l. IsLineBy Beside small_trace small_course small_seat l) by_worker
+
+cached : (l : ReportLine) → Contains small_told.report l → IsLineCached small_trace small_course l
+cached = each_line (λ l. IsLineCached small_trace small_course l) none_cached
+
 lines_said : (l : ReportLine) → Contains small_told.report l →
-    IsLineSaid small_trace small_told small_seat (told_in small_trace small_course) (lists_at small_trace small_course l.phase)
-    (small_course.seats l.phase) l
-lines_said l among = courses_tell_lines small_trace small_told small_course small_seat [] run l among (counted l among)
+    IsLineSaid small_trace small_told small_seat (told_in small_trace small_course) (small_course.seats l.phase) l
+lines_said l among = courses_tell_lines Beside small_trace small_told small_course small_seat [] run l among (counted l among)
 
 says : LayersSay small_trace small_told small_seat (told_in small_trace small_course)
-says = courses_tell_all small_trace small_told small_course small_seat [] run lines_said
+says = courses_tell_all Beside small_trace small_told small_course small_seat [] run lines_said
+
+lists : ListsSay small_trace small_told (told_in small_trace small_course)
+lists = courses_tell_lists small_trace small_told small_course small_seat [] run cached
 
 pub small_course_fits : SmallCourseFits
 small_course_fits = record {
   run = run;
   counted = counted;
+  cached = cached;
   lines = lines_said;
   says = says;
-  legal = layers_tell_all.legal small_trace small_told small_seat (told_in small_trace small_course) says;
+  lists = lists;
+  legal = layers_tell_all.legal small_trace small_told small_seat (told_in small_trace small_course) says lists;
 }

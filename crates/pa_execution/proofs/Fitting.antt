@@ -16,7 +16,6 @@ use Rattle.pa_region.specs.Lists.{list_of, IsBeginning}
 use Rattle.pa_trace.specs.declared.script.Rules.{Rules}
 use Rattle.pa_trace.specs.declared.script.Trace.{Trace}
 use Rattle.pa_trace.specs.Rules.{rules_of}
-use Rattle.pa_rules.specs.Legal.{phases_in}
 use Rattle.pa_rules.specs.Roots.{Names}
 use Rattle.pa_rules.specs.Told.{Told}
 use Rattle.pa_rules.proofs.Ruling.{record_rules}
@@ -33,12 +32,13 @@ use Rattle.pa_op_specs.specs.Outcomes.{IsOutcome, IsSeenOf, FillsFrom}
 use Rattle.pa_op_specs.specs.Plays.{AnswersIn}
 use Rattle.pa_op_specs.specs.Following.{FitsAll}
 use Rattle.pa_op_specs.proofs.Following.{seen_before}
+use Rattle.pa_execution.specs.Turns.{Manner, turns_in}
 use Rattle.pa_execution.specs.Courses.{Course, HasSeenAll}
-use Rattle.pa_execution.specs.Merged.{told_in, outcome_of}
-use Rattle.pa_execution.specs.Telling.{IsWholeRun}
+use Rattle.pa_execution.specs.Merged.{told_by_turns, outcome_of}
+use Rattle.pa_execution.specs.Telling.{IsWholeRunBy}
 use Rattle.pa_execution.proofs.Bounding.{courses_leave_none_past}
 use Rattle.pa_execution.proofs.Chaining.{was_played, starts_of, sees_last, has_last}
-use Rattle.pa_execution.proofs.Grouping.{are_lines, rising, within, in_group, from_group}
+use Rattle.pa_execution.proofs.Grouping.{told_turn, are_lines, rising, within, turn_low, turn_high, in_group, from_group}
 use Rattle.pa_execution.proofs.Leading.{answer_of}
 use Rattle.pa_execution.proofs.Lengthening.{handed_out, handed_home}
 use Rattle.pa_execution.proofs.Playing.{HasPlayed, sees_then}
@@ -82,35 +82,35 @@ stands_longer list longer m i (more, e) s = record {
   index_is = s.index_is;
 }
 
-module _ (t : Trace) (r : Told) (c : Course) (v : View) (xs : List Exchange) (run : IsWholeRun t r c v xs) where
-  abbrev pub phases : ℕ
-  phases = phases_in t.lines
+module _ (way : Manner) (t : Trace) (r : Told) (c : Course) (v : View) (xs : List Exchange) (run : IsWholeRunBy way t r c v xs) where
+  abbrev pub turns : ℕ
+  turns = turns_in way t
 
   abbrev pub ts : List ToldRecord
-  ts = told_in t c
+  ts = told_by_turns way t c
 
-  -- how a record was played in its phase, and what the closing seat has seen of it
+  -- how a record was played in its turn, and what the closing seat has seen of it
   pub played : (x : ToldRecord) → Contains ts x →
-      HasPlayed (c.starts x.played.phase x.played.thread) (c.ends x.played.phase x.played.thread) x
-  played = was_played t c run.left.limits run.course
+      HasPlayed (c.starts (told_turn way x) x.played.thread) (c.ends (told_turn way x) x.played.thread) x
+  played = was_played way t c run.left.limits run.course
 
-  pub end_sees : (n k : ℕ) → 1 ≤ n → n ≤ phases → k < t.threads → HasSeenAll (c.ends n k).stock.view v
+  pub end_sees : (n k : ℕ) → 1 ≤ n → n ≤ turns → k < t.threads → HasSeenAll (c.ends n k).stock.view v
   end_sees n k low high few =
       sees_then (c.ends n k).stock.view (c.seats n) v ((run.course.tells n low high).sees k few)
-      (sees_last t c run.left.limits run.course v run.closes n low high)
+      (sees_last way t c run.left.limits run.course v run.closes n low high)
 
   pub then_sees : (x : ToldRecord) (among : Contains ts x) → HasSeenAll (played x among).after.stock.view v
   then_sees x among =
-      let is = within t c run.left.limits run.course x among in
       let p = played x among in
-      sees_then p.after.stock.view (c.ends x.played.phase x.played.thread).stock.view v p.last
-      (end_sees x.played.phase x.played.thread is.low is.high is.thread)
+      sees_then p.after.stock.view (c.ends (told_turn way x) x.played.thread).stock.view v p.last
+      (end_sees (told_turn way x) x.played.thread (turn_low way t c run.left.limits run.course x among)
+      (turn_high way t c run.left.limits run.course x among) (within way t c run.left.limits run.course x among).thread)
 
   -- ---- the lists
 
   pub of_threads : AreOfThreads ts
   of_threads x among =
-      let few = (within t c run.left.limits run.course x among).thread in
+      let few = (within way t c run.left.limits run.course x among).thread in
       let most = run.left.limits.head.2.1 in
       omega arith
 
@@ -119,7 +119,7 @@ module _ (t : Trace) (r : Told) (c : Course) (v : View) (xs : List Exchange) (ru
 
   are_logs : AreLogs v ts
   are_logs =
-      let has = has_last t c run.left.limits run.course v run.closes in
+      let has = has_last way t c run.left.limits run.course v run.closes in
       (seats_know.logs v ts has.aware has.every of_threads has.logs).logs
 
   list_is : (q : ℕ) → IsListOf q (list_of q v) ts
@@ -130,14 +130,14 @@ module _ (t : Trace) (r : Told) (c : Course) (v : View) (xs : List Exchange) (ru
   none_past p past = elim (cases_lt p 4) [
     | inl low ↦
         none_numbered (r.roots p) (sym (run.left.lists p low)
-        ∙ ap (λ l. map (λ (m : Made). m.numbers) l) (courses_leave_none_past t c v run.left.limits run.course run.closes p past low))
+        ∙ ap (λ l. map (λ (m : Made). m.numbers) l) (courses_leave_none_past way t c v run.left.limits run.course run.closes p past low))
     | inr far ↦ run.left.past p far
   ]
 
   pub are_lists : AreLists (λ q. list_of q v) r.pools r.roots ts
   are_lists = record {
     is = λ q few. list_is q;
-    rising = rising t c run.left.limits run.course;
+    rising = rising way t c run.left.limits run.course;
     journals = run.left.lists;
     past = run.left.past;
     pool = run.left.pool;
@@ -175,7 +175,7 @@ module _ (t : Trace) (r : Told) (c : Course) (v : View) (xs : List Exchange) (ru
   -- all records are played by the trace's rules
   pub by_rules : (x : ToldRecord) → Contains ts x → x.played.rules ≡ rules_of t
   by_rules x among =
-      record_rules (rules_of t) t.lines (played_in ts) x.played (are_lines t c run.left.limits run.course)
+      record_rules (rules_of t) t.lines (played_in ts) x.played (are_lines way t c run.left.limits run.course)
       (map_in (λ (z : ToldRecord). z.played) ts x among)
 
   -- journals fill from the classes of the trace's version alone, since each fill is of a record
@@ -208,27 +208,29 @@ module _ (t : Trace) (r : Told) (c : Course) (v : View) (xs : List Exchange) (ru
         ∙ stands_at one_cell older rest m e xs (ap (λ l. map (λ (n : Made). n.numbers) l) (sym at) ∙ run.left.exchanges) says;
   }
 
-  pub fits : (n k : ℕ) → 1 ≤ n → n ≤ phases → k < t.threads →
+  pub fits : (n k : ℕ) → 1 ≤ n → n ≤ turns → k < t.threads →
       FitsAll (outcome_of t r) (c.starts n k).stock.partitions (c.ends n k).stock.view (c.plays n k)
   fits n k low high few = record {
     many = sym (starts_many n k low high few);
-    rules = λ x among. by_rules x (from_group t c run.left.limits run.course n k x low high few among);
+    rules = λ x among. by_rules x (from_group way t c run.left.limits run.course n k x low high few among);
     run = is_outcome;
     seen = seen_before (outcome_of t r) (c.ends n k).stock.view v (end_sees n k low high few).lists seen_of_it;
     acts = λ x among p entries small same.
-        acts_are_theirs p (list_of p v) r.roots ts x entries (list_is p) (run.left.lists p small) (rising t c run.left.limits run.course)
-        (from_group t c run.left.limits run.course n k x low high few among) same;
+        acts_are_theirs p (list_of p v) r.roots ts x entries (list_is p) (run.left.lists p small)
+        (rising way t c run.left.limits run.course)
+        (from_group way t c run.left.limits run.course n k x low high few among) same;
   }
     where
-      starts_many : (n k : ℕ) → 1 ≤ n → n ≤ phases → k < t.threads → (c.starts n k).stock.partitions ≡ t.partitions
+      starts_many : (n k : ℕ) → 1 ≤ n → n ≤ turns → k < t.threads → (c.starts n k).stock.partitions ≡ t.partitions
       starts_many zero k low high few = absurd (omega arith)
-      starts_many (suc n) k low high few = (starts_of t c run.left.limits run.course k n high few).many
+      starts_many (suc n) k low high few = (starts_of way t c run.left.limits run.course k n high few).many
 
   -- each record is what the run requires of it, by its thread's state before it and after it
   pub answer : (x : ToldRecord) (among : Contains ts x) →
       AnswersIn (outcome_of t r) (played x among).before.stock (played x among).after.stock x
   answer x among =
-      let is = within t c run.left.limits run.course x among in
-      answer_of (outcome_of t r) (c.starts x.played.phase x.played.thread) (c.ends x.played.phase x.played.thread)
-      (c.plays x.played.phase x.played.thread) x (played x among)
-      (fits x.played.phase x.played.thread is.low is.high is.thread) (in_group t c run.left.limits run.course x among)
+      answer_of (outcome_of t r) (c.starts (told_turn way x) x.played.thread) (c.ends (told_turn way x) x.played.thread)
+      (c.plays (told_turn way x) x.played.thread) x (played x among)
+      (fits (told_turn way x) x.played.thread (turn_low way t c run.left.limits run.course x among)
+      (turn_high way t c run.left.limits run.course x among) (within way t c run.left.limits run.course x among).thread)
+      (in_group way t c run.left.limits run.course x among)

@@ -187,7 +187,7 @@ hears threads k ends whole seat after heard answered few none is lists =
       same = is;
       log = log_here k l seat none ∙ (answered.logs k (omega arith) ∙ heard.logs k few);
       lists = lists;
-      seen = λ u.
+      seen = λ heard u.
           let r = seen_right u l.seen seat.seen in
           let same : seen_of whole u ≡ seen_of seat u = ap (λ ns. seen_of (record whole { seen = ns }) u) (sym answered.seen) in
           omega arith;

@@ -4,7 +4,6 @@ use Rattle.std.specs.Prelude.{Contains}
 use Rattle.std.proofs.lemmas.List.{append_assoc}
 use Rattle.std.proofs.lemmas.Bool.{cases_Bool}
 use Rattle.pa_record.specs.declared.entry.Answer.TheVariants.{Swapped}
-use Rattle.pa_record.specs.declared.report.ReportLine.{ReportLine}
 use Rattle.pa_lists.proofs.Members.{not_in_none, in_cases}
 use Rattle.pa_region.specs.declared.view.Made.{Made}
 use Rattle.pa_region.specs.declared.view.View.{View}
@@ -17,12 +16,13 @@ use Rattle.pa_logs.specs.Told.{ToldRecord}
 use Rattle.pa_logs.specs.Listed.{first_of, line_of}
 use Rattle.pa_logs.specs.Swaps.{SwapMade, is_of_cell, AreSwaps}
 use Rattle.pa_logs.specs.Indices.{IsSwapAt}
-use Rattle.pa_logs.specs.Said.{PoolTells, RootsTell, CellsTell, IsLineSaid}
+use Rattle.pa_logs.specs.Said.{PoolTells, RootsTell, CellsTell}
 use Rattle.pa_cells.specs.Cells.{Exchange, exchange_numbers, entries_with, names_cell, made_with_cell}
 use Rattle.pa_op_specs.specs.Entering.{EntersExchange, EntersCells}
+use Rattle.pa_execution.specs.Turns.{Manner}
 use Rattle.pa_execution.specs.Courses.{Course}
-use Rattle.pa_execution.specs.Merged.{told_in, lists_at, swaps_of}
-use Rattle.pa_execution.specs.Telling.{IsWholeRun, CoursesTellPool, CoursesTellRoots, CoursesTellCells, CoursesTellAll}
+use Rattle.pa_execution.specs.Merged.{told_by_turns, phase_seats, swaps_of}
+use Rattle.pa_execution.specs.Telling.{IsWholeRunBy, CoursesTellPool, CoursesTellRoots, CoursesTellCells, CoursesTellAll}
 use Rattle.pa_execution.proofs.Fitting.{then_sees, none_past, asked, answer, stands_longer}
 use Rattle.pa_execution.proofs.Fitting.{played as played_so}
 use Rattle.pa_execution.proofs.Heaping.{courses_tell_heap, courses_tell_runner}
@@ -140,7 +140,7 @@ is_exchanged (ops.Read reg place) list x m none among = absurd (none_of x m none
 is_exchanged (ops.Swap cell reg) list x m it among = (cell, reg, refl)
 is_exchanged ops.Purge list x m none among = absurd (none_of x m none among)
 
-module _ (t : Trace) (r : Told) (c : Course) (v : View) (xs : List Exchange) (run : IsWholeRun t r c v xs) where
+module _ (way : Manner) (t : Trace) (r : Told) (c : Course) (v : View) (xs : List Exchange) (run : IsWholeRunBy way t r c v xs) where
   abbrev swaps : List SwapMade
   swaps = swaps_of (list_of 5 v) xs
 
@@ -152,12 +152,12 @@ module _ (t : Trace) (r : Told) (c : Course) (v : View) (xs : List Exchange) (ru
   }
 
   -- where an exchange's entry is among all
-  stands : (x : ToldRecord) (k reg : ℕ) → Contains (told_in t c) x → x.played.op ≡ ops.Swap k reg → IsSwapAt swaps x k
+  stands : (x : ToldRecord) (k reg : ℕ) → Contains (told_by_turns way t c) x → x.played.op ≡ ops.Swap k reg → IsSwapAt swaps x k
   stands x k reg among op =
-      let p = played_so t r c v xs run x among in
+      let p = played_so way t r c v xs run x among in
       let it : EntersExchange (list_of 5 p.after.stock.view) x k =
       subst (λ o. EntersCells o (list_of 5 p.after.stock.view) x) op p.one.does.enters.cells in
-      let (more, longer) = (then_sees t r c v xs run x among).lists 5 in
+      let (more, longer) = (then_sees way t r c v xs run x among).lists 5 in
       let rest = it.rest ++ more in
       let whole : list_of 5 v ≡ it.older ++ it.made ∷ rest =
       longer ∙ (ap (λ l. l ++ more) it.begins ∙
@@ -173,42 +173,42 @@ module _ (t : Trace) (r : Told) (c : Course) (v : View) (xs : List Exchange) (ru
         answer = it.answer ∙ ap Swapped (sym at.count);
       }
 
-  cells_tell : CellsTell r v (told_in t c) swaps
+  cells_tell : CellsTell r v (told_by_turns way t c) swaps
   cells_tell = record {
     swaps_are = swaps_are;
     chain = run.left.chain;
-    one_each = λ x among. let p = played_so t r c v xs run x among in
+    one_each = λ x among. let p = played_so way t r c v xs run x among in
         few_entered x.played.op (list_of 5 p.after.stock.view) x p.one.does.enters.cells;
     only = λ x m among entered.
-        let p = played_so t r c v xs run x among in
+        let p = played_so way t r c v xs run x among in
         is_exchanged x.played.op (list_of 5 p.after.stock.view) x m p.one.does.enters.cells entered;
     answers = stands;
-    gives = λ x m u among entered. (played_so t r c v xs run x among).one.does.seen.carries m u entered;
+    gives = λ x m u among entered. (played_so way t r c v xs run x among).one.does.seen.carries m u entered;
   }
 
-  pool_tells : PoolTells t r v (told_in t c)
-  pool_tells = record { list = run.left.pool; fits = run.left.fits; asked = asked t r c v xs run }
+  pool_tells : PoolTells t r v (told_by_turns way t c)
+  pool_tells = record { list = run.left.pool; fits = run.left.fits; asked = asked way t r c v xs run }
 
-  roots_tell : RootsTell t r v (told_in t c)
+  roots_tell : RootsTell t r v (told_by_turns way t c)
   roots_tell = record {
     lists = run.left.lists;
     journals = run.left.journals;
-    none_past = none_past t r c v xs run;
-    makes = λ x p m e few among entered says. (answer t r c v xs run x among).makes p m e few entered says;
+    none_past = none_past way t r c v xs run;
+    makes = λ x p m e few among entered says. (answer way t r c v xs run x among).makes p m e few entered says;
     refused = λ x j reg p size among full op.
-        let q = played_so t r c v xs run x among in
+        let q = played_so way t r c v xs run x among in
         let (few, at) = q.one.does.enters.refused j reg p size full op in
         record {
           made = at.made;
           entry = at.entry;
           stands = stands_longer (list_of p q.after.stock.view) (list_of p v) at.made j
-              ((then_sees t r c v xs run x among).lists p) at.stands;
+              ((then_sees way t r c v xs run x among).lists p) at.stands;
           says = at.says;
           line = at.line;
           full = at.full;
         };
     numbers = run.left.numbers;
-    unmaps = λ x among. (answer t r c v xs run x among).unmaps;
+    unmaps = λ x among. (answer way t r c v xs run x among).unmaps;
   }
 
 pub courses_tell_pool : CoursesTellPool
@@ -221,21 +221,13 @@ pub courses_tell_cells : CoursesTellCells
 courses_tell_cells = cells_tell
 
 pub courses_tell_all : CoursesTellAll
-courses_tell_all t r c v xs run lines = record {
-  seats = c.seats;
-  lists = lists_at t c;
+courses_tell_all way t r c v xs run lines = record {
+  seats = phase_seats way t c;
   swaps = swaps_of (list_of 5 v) xs;
-  runner = courses_tell_runner t r c v xs run;
-  pool = courses_tell_pool t r c v xs run;
-  roots = courses_tell_roots t r c v xs run;
-  cells = courses_tell_cells t r c v xs run;
-  heap = courses_tell_heap t r c v xs run;
+  runner = courses_tell_runner way t r c v xs run;
+  pool = courses_tell_pool way t r c v xs run;
+  roots = courses_tell_roots way t r c v xs run;
+  cells = courses_tell_cells way t r c v xs run;
+  heap = courses_tell_heap way t r c v xs run;
   report = lines;
 }
-
--- the lists in what all layers say are those at the phases' ends
-pub lists_told : (t : Trace) (r : Told) (c : Course) (v : View) (xs : List Exchange) (run : IsWholeRun t r c v xs)
-    (lines : (l : ReportLine) → Contains r.report l → IsLineSaid t r v (told_in t c) (lists_at t c l.phase) (c.seats l.phase) l) (n : ℕ) →
-    (courses_tell_all t r c v xs run lines).lists n ≡ lists_at t c n
-unfolding courses_tell_all
-lists_told t r c v xs run lines n = refl

@@ -1,18 +1,14 @@
--- If the rows of a worker's registers and lists lead, in a run that fits.
+-- If the rows of a worker's registers lead, in a run that fits.
 use Rattle.std.proofs.Common.{◌≡◌, ℕ, List, [], ◌∷◌, ◌++◌, sym, ◌∙◌, ap, subst}
 use Rattle.std.specs.Prelude.{Contains}
 use Rattle.pa_slot.specs.declared.word.SlotName.{SlotName}
-use Rattle.pa_rules.specs.declared.played.Played.{Played}
 use Rattle.pa_rules.specs.Registers.{Regs, Facts, Row}
-use Rattle.pa_rules.specs.Roots.{Journals}
-use Rattle.pa_rules.specs.Caches.{Cache}
 use Rattle.pa_logs.specs.Told.{ToldRecord}
-use Rattle.pa_logs.specs.Reported.{CacheLeadsTo}
 use Rattle.pa_logs.specs.Said.{ReadsIts, HasToldRows}
 use Rattle.pa_op_specs.specs.Stocks.{regs_of}
 use Rattle.pa_op_specs.specs.Workers.{WorkerValue}
 use Rattle.pa_op_specs.specs.Outcomes.{Outcome, row_facts}
-use Rattle.pa_op_specs.specs.Plays.{PlaysAll, AnswersIn}
+use Rattle.pa_op_specs.specs.Plays.{PlaysSome, AnswersIn}
 use Rattle.pa_op_specs.specs.Following.{FitsAll}
 use Rattle.pa_op_specs.proofs.Following.{seen_before, first_answer}
 use Rattle.pa_execution.proofs.Playing.{HasPlayed}
@@ -35,12 +31,6 @@ pub rows_told : (sizes : SlotName → ℕ) (facts : Facts) (a b : Regs) (xs : Li
 rows_told sizes facts a b [] same = tt
 rows_told sizes facts a b (x ∷ xs) (next, row, reads, more) = (next, row, reads, rows_told sizes facts next b xs more)
 
-pub lists_append : (partitions : ℕ) (roots : Journals) (a b c : Cache) (xs ys : List Played) → CacheLeadsTo partitions roots a xs b →
-    CacheLeadsTo partitions roots b ys c →
-    CacheLeadsTo partitions roots a (xs ++ ys) c
-lists_append partitions roots a b c [] ys same rest = subst (λ z. CacheLeadsTo partitions roots z ys c) same rest
-lists_append partitions roots a b c (x ∷ xs) ys (next, row, more) rest = (next, row, lists_append partitions roots next b c xs ys more rest)
-
 -- ---- what a record is in the run
 
 pub answer_of : (o : Outcome) (w v : WorkerValue) (xs : List ToldRecord) (x : ToldRecord) (p : HasPlayed w v x) →
@@ -54,7 +44,7 @@ answer_of o w v xs x p fits among = p.one.does.answers o (record {
   acts = fits.acts x among;
 })
 
-pub rows_lead : (o : Outcome) (w v : WorkerValue) (xs : List ToldRecord) → PlaysAll w xs v → FitsAll o w.stock.partitions v.stock.view xs →
+pub rows_lead : (o : Outcome) (w v : WorkerValue) (xs : List ToldRecord) → PlaysSome w xs v → FitsAll o w.stock.partitions v.stock.view xs →
     RowsLead o.sizes (row_facts o) (regs_of w.stock.registers) xs (regs_of v.stock.registers)
 rows_lead o w v [] same fits = ap (λ (z : WorkerValue). regs_of z.stock.registers) same
 rows_lead o w v (x ∷ xs) (next, one, more) fits =

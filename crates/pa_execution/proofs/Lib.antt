@@ -1,3 +1,4 @@
+pub mod Turning
 pub mod Merging
 pub mod Lengthening
 pub mod Playing
@@ -7,6 +8,7 @@ pub mod Chaining
 pub mod Bounding
 pub mod Fitting
 pub mod Heaping
+pub mod Listing
 pub mod Keepers
 pub mod Example
 pub mod Recording

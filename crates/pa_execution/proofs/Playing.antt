@@ -13,8 +13,15 @@ use Rattle.pa_logs.specs.Told.{ToldRecord}
 use Rattle.pa_logs.specs.Listed.{AreRising}
 use Rattle.pa_op_specs.specs.Stocks.{rules_at}
 use Rattle.pa_op_specs.specs.Workers.{WorkerValue}
-use Rattle.pa_op_specs.specs.Plays.{PlaysOne, PlaysAll}
-use Rattle.pa_execution.specs.Courses.{HasSeenAll}
+use Rattle.pa_op_specs.specs.Plays.{PlaysOne, PlaysSome}
+use Rattle.pa_op_specs.proofs.Following.{some}
+use Rattle.pa_execution.specs.Turns.{Manner, Beside, InTurn}
+use Rattle.pa_execution.specs.Courses.{PlaysBy, HasSeenAll}
+
+-- what was played in some manner was played, whatever it did with the lists
+pub some_by : (way : Manner) (w v : WorkerValue) (xs : List ToldRecord) → PlaysBy way w xs v → PlaysSome w xs v
+some_by Beside w v xs plays = some w v xs plays
+some_by InTurn w v xs plays = plays
 
 -- ---- what a seat has seen
 
@@ -40,7 +47,7 @@ sees_one w next x one = record {
       omega arith;
 }
 
-pub sees_all : (w v : WorkerValue) (xs : List ToldRecord) → PlaysAll w xs v → HasSeenAll w.stock.view v.stock.view
+pub sees_all : (w v : WorkerValue) (xs : List ToldRecord) → PlaysSome w xs v → HasSeenAll w.stock.view v.stock.view
 sees_all w v [] same = subst (λ (z : WorkerValue). HasSeenAll w.stock.view z.stock.view) (sym same) (sees_itself w.stock.view)
 sees_all w v (x ∷ xs) (next, one, more) =
     sees_then w.stock.view next.stock.view v.stock.view (sees_one w next x one) (sees_all next v xs more)
@@ -57,7 +64,7 @@ pub record HasPlayed (w v : WorkerValue) (x : ToldRecord) : Type 0 where
   pub thread : before.stock.thread ≡ w.stock.thread
   pub many : before.stock.partitions ≡ w.stock.partitions
 
-pub has_played : (w v : WorkerValue) (xs : List ToldRecord) (x : ToldRecord) → PlaysAll w xs v → Contains xs x → HasPlayed w v x
+pub has_played : (w v : WorkerValue) (xs : List ToldRecord) (x : ToldRecord) → PlaysSome w xs v → Contains xs x → HasPlayed w v x
 has_played w v [] x same among = absurd (not_in_none x among)
 has_played w v (y ∷ ys) x (next, one, more) among = elim (in_cases y x ys among) [
   | inl e ↦ subst (HasPlayed w v) e (record {
@@ -83,7 +90,7 @@ has_played w v (y ∷ ys) x (next, one, more) among = elim (in_cases y x ys amon
 ]
 
 -- the worker stays that of its thread, in a run of as many partitions
-pub stays : (w v : WorkerValue) (xs : List ToldRecord) → PlaysAll w xs v → (v.stock.thread ≡ w.stock.thread) ×
+pub stays : (w v : WorkerValue) (xs : List ToldRecord) → PlaysSome w xs v → (v.stock.thread ≡ w.stock.thread) ×
     (v.stock.partitions ≡ w.stock.partitions)
 stays w v [] same = (ap (λ (z : WorkerValue). z.stock.thread) same, ap (λ (z : WorkerValue). z.stock.partitions) same)
 stays w v (x ∷ xs) (next, one, more) =
@@ -91,7 +98,7 @@ stays w v (x ∷ xs) (next, one, more) =
     (thread ∙ one.does.same.0, many ∙ one.does.same.1)
 
 -- it goes on by the same rules
-pub keeps_rules : (w v : WorkerValue) (xs : List ToldRecord) → PlaysAll w xs v → rules_at v.stock ≡ rules_at w.stock
+pub keeps_rules : (w v : WorkerValue) (xs : List ToldRecord) → PlaysSome w xs v → rules_at v.stock ≡ rules_at w.stock
 keeps_rules w v [] same = ap (λ (z : WorkerValue). rules_at z.stock) same
 keeps_rules w v (x ∷ xs) (next, one, more) =
     keeps_rules next v xs more
@@ -101,7 +108,7 @@ keeps_rules w v (x ∷ xs) (next, one, more) =
 abbrev pub stretches : List ToldRecord → List Entry
 stretches xs = flat_map (λ (x : ToldRecord). x.stretch) xs
 
-pub logged : (w v : WorkerValue) (xs : List ToldRecord) (k : ℕ) → PlaysAll w xs v → w.stock.thread ≡ k →
+pub logged : (w v : WorkerValue) (xs : List ToldRecord) (k : ℕ) → PlaysSome w xs v → w.stock.thread ≡ k →
     log_of k v.stock.view ≡ log_of k w.stock.view ++ stretches xs
 logged w v [] k same mine = ap (λ (z : WorkerValue). log_of k z.stock.view) same ∙ sym (append-nil _)
 logged w v (x ∷ xs) k (next, one, more) mine =
@@ -111,7 +118,7 @@ logged w v (x ∷ xs) k (next, one, more) mine =
     again ∙ (ap (λ es. es ++ stretches xs) own ∙ append_assoc (log_of k w.stock.view) x.stretch (stretches xs))
 
 -- what a record's seat hands on those after it had seen
-pub in_order : (w v : WorkerValue) (xs : List ToldRecord) (x y : ToldRecord) (u : Title) → PlaysAll w xs v → AreRising xs → Contains xs x →
+pub in_order : (w v : WorkerValue) (xs : List ToldRecord) (x y : ToldRecord) (u : Title) → PlaysSome w xs v → AreRising xs → Contains xs x →
     Contains xs y → x.played.line < y.played.line →
     x.gives u ≤ y.saw u
 in_order w v [] x y u same rising first second less = absurd (not_in_none x first)

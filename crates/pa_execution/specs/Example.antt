@@ -14,14 +14,15 @@ use Rattle.pa_region.specs.Start.{blank, first_view}
 use Rattle.pa_rules.specs.Legal.{IsLegalTold}
 use Rattle.pa_rules.specs.Told.{Told}
 use Rattle.pa_logs.specs.Told.{ToldRecord}
-use Rattle.pa_logs.specs.Said.{IsLineSaid, LayersSay}
+use Rattle.pa_logs.specs.Said.{IsLineSaid, LayersSay, ListsSay}
 use Rattle.pa_totals.specs.Settled.{none_owed}
 use Rattle.pa_op_specs.specs.Stocks.{StockValue}
 use Rattle.pa_op_specs.specs.Workers.{WorkerValue}
+use Rattle.pa_execution.specs.Turns.{Beside}
 use Rattle.pa_execution.specs.Courses.{Course}
-use Rattle.pa_execution.specs.Merged.{told_in, lists_at}
+use Rattle.pa_execution.specs.Merged.{told_in}
 use Rattle.pa_execution.specs.Telling.{IsWholeRun}
-use Rattle.pa_execution.specs.Lines.{IsLineBy}
+use Rattle.pa_execution.specs.Lines.{IsLineBy, IsLineCached}
 
 -- the trace of the small run: one super page, one partition and one thread, with a copy in each of two phases
 abbrev pub small_trace : Trace
@@ -136,9 +137,10 @@ small_told = record {
 -- are right, all layers meet their obligations, and the run is legal.
 pub record SmallCourseFits : Type 0 where
   pub run : IsWholeRun small_trace small_told small_course small_seat []
-  pub counted : (l : ReportLine) → Contains small_told.report l → IsLineBy small_trace small_course small_seat l
+  pub counted : (l : ReportLine) → Contains small_told.report l → IsLineBy Beside small_trace small_course small_seat l
+  pub cached : (l : ReportLine) → Contains small_told.report l → IsLineCached small_trace small_course l
   pub lines : (l : ReportLine) → Contains small_told.report l →
-      IsLineSaid small_trace small_told small_seat (told_in small_trace small_course) (lists_at small_trace small_course l.phase)
-      (small_course.seats l.phase) l
+      IsLineSaid small_trace small_told small_seat (told_in small_trace small_course) (small_course.seats l.phase) l
   pub says : LayersSay small_trace small_told small_seat (told_in small_trace small_course)
+  pub lists : ListsSay small_trace small_told (told_in small_trace small_course)
   pub legal : IsLegalTold small_trace small_told

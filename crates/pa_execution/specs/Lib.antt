@@ -1,3 +1,4 @@
+pub mod Turns
 pub mod Courses
 pub mod Merged
 pub mod Telling

@@ -10,7 +10,7 @@ use Rattle.pa_record.specs.Root.{IsJournal}
 use Rattle.pa_region.specs.declared.view.Made.{Made}
 use Rattle.pa_region.specs.declared.view.View.{View}
 use Rattle.pa_region.specs.Lists.{list_of}
-use Rattle.pa_rules.specs.Played.{OpLine, op_lines, entry_of}
+use Rattle.pa_rules.specs.Played.{OpLine, entry_of}
 use Rattle.pa_rules.specs.Cells.{IsChain}
 use Rattle.pa_rules.specs.Caches.{Caches, no_caches}
 use Rattle.pa_rules.specs.Report.{phases_of}
@@ -24,22 +24,31 @@ use Rattle.pa_logs.specs.Said.{sizes_in, homes_in}
 use Rattle.pa_cells.specs.Cells.{Exchange, exchange_numbers, entries_with}
 use Rattle.pa_op_specs.specs.Stocks.{listed_in}
 use Rattle.pa_op_specs.specs.Outcomes.{Outcome}
-use Rattle.pa_execution.specs.Courses.{Course, is_line_of}
+use Rattle.pa_execution.specs.Turns.{Manner, Beside, turn_of, last_turn, ops_of, is_line_in}
+use Rattle.pa_execution.specs.Courses.{Course}
 
--- what is left of each thread's records in each phase when that of this line is taken
-abbrev pub without_line : OpLine → (ℕ → ℕ → List ToldRecord) → ℕ → ℕ → List ToldRecord
-without_line o plays n k = if is_line_of n k o then drop 1 (plays n k) else plays n k
+-- what is left of each thread's records in each turn when that of this line is taken
+abbrev pub without_line : Manner → OpLine → (ℕ → ℕ → List ToldRecord) → ℕ → ℕ → List ToldRecord
+without_line way o plays n k = if is_line_in way n k o then drop 1 (plays n k) else plays n k
 
--- line by line, the next record of the line's thread in its phase
-abbrev pub merged_by_lines : (ℕ → ℕ → List ToldRecord) → List OpLine → List ToldRecord
-merged_by_lines plays [] = []
-merged_by_lines plays (o ∷ os) = take 1 (plays o.phase o.thread) ++ merged_by_lines (without_line o plays) os
+-- line by line, the next record of the line's thread in its turn
+abbrev pub merged_by_lines : Manner → (ℕ → ℕ → List ToldRecord) → List OpLine → List ToldRecord
+merged_by_lines way plays [] = []
+merged_by_lines way plays (o ∷ os) = take 1 (plays (turn_of way o) o.thread) ++ merged_by_lines way (without_line way o plays) os
 
--- the records of all threads and phases, in the order of the trace's lines
+-- the records of all threads and turns, in the order of the trace's lines
+abbrev pub told_by_turns : Manner → Trace → Course → List ToldRecord
+told_by_turns way t c = merged_by_lines way c.plays (ops_of t)
+
+-- the records of threads that play beside each other
 abbrev pub told_in : Trace → Course → List ToldRecord
-told_in t c = merged_by_lines c.plays (op_lines (rules_of t) 2 1 t.lines)
+told_in t c = told_by_turns Beside t c
 
--- The threads' lists at the end of a phase. A thread that the run doesn't have has none.
+-- the main seat at the end of a phase
+abbrev pub phase_seats : Manner → Trace → Course → ℕ → View
+phase_seats way t c n = c.seats (last_turn way t n)
+
+-- the threads' lists at the end of a turn; a thread that the run doesn't have has none
 abbrev pub lists_at : Trace → Course → ℕ → Caches
 lists_at t c n k = if nat_lt k t.threads then listed_in (c.ends n k).stock else no_caches k
 

@@ -1,11 +1,12 @@
 //! Laws of executions: calls that do nothing, but have proved clauses.
 ghost use Rattle.pa_execution.specs.Example.{SmallCourseFits};
-ghost use Rattle.pa_execution.specs.Lines.{CoursesTellLines};
+ghost use Rattle.pa_execution.specs.Lines.{CoursesTellLines, CoursesTellLists};
 ghost use Rattle.pa_execution.specs.Gathering.{WorkersTell, WorkersHear};
-ghost use Rattle.pa_execution.specs.Growing.{CoursesGrow};
+ghost use Rattle.pa_execution.specs.Growing.{CoursesGrow, TurnsGrow};
 ghost use Rattle.pa_execution.specs.Telling.{CoursesTellAll, CoursesTellCells, CoursesTellHeap};
 ghost use Rattle.pa_execution.specs.Telling.{CoursesTellPool, CoursesTellRoots, CoursesTellRunner, CoursesTellTimeline};
-ghost use Rattle.pa_execution.specs.Telling.{CoursesLeaveNonePast, WorkersHaveTheirs};
+ghost use Rattle.pa_execution.specs.Turns.{AllTurnsGo};
+ghost use Rattle.pa_execution.specs.Telling.{CoursesLeaveNonePast, TurnsTell, WorkersHaveTheirs};
 
 /// In an execution the ops of workers meet their obligations.
 pub fn courses_tell_heap()
@@ -37,16 +38,22 @@ pub fn courses_tell_all()
     ensures { CoursesTellAll }
 {}
 
-/// An execution with a right report has a timeline, if the closing seat has no Own that isn't clean: all its steps are in one order, in
-/// which each found what the steps before it left, and each read gave what its word contained then.
+/// An execution with a right report has a timeline, if slots flow in it and the closing seat has no Own that isn't clean: all its steps
+/// are in one order, in which each found what the steps before it left, and each read gave what its word contained then.
 pub fn courses_tell_timeline()
     ensures { CoursesTellTimeline }
 {}
 
-/// A line of the report is right if it is what the workers counted and have cached,
-/// what was added to the totals words, and a root's census.
+/// A line of the report is right but for its cached slots if it is what the workers counted, what was added to the totals words,
+/// and a root's census.
 pub fn courses_tell_lines()
     ensures { CoursesTellLines }
+{}
+
+/// If threads play beside each other, their ops meet their obligations for the threads' lists, and the cached slots of a line of the
+/// report are right if they are what the workers' lists have.
+pub fn courses_tell_lists()
+    ensures { CoursesTellLists }
 {}
 
 /// Each worker has the records of its thread, in order, and only titles which go back are uncut.
@@ -59,7 +66,22 @@ pub fn courses_leave_none_past()
     ensures { CoursesLeaveNonePast }
 {}
 
-/// The law by which an execution grows, a phase at a time.
+/// In an execution by turns the main seat has heard all after each line, and each record's seat has seen what those before hand on.
+pub fn turns_tell()
+    ensures { TurnsTell }
+{}
+
+/// The turns of a trace go through it in order, and each phase ends with a turn, whether a turn is a phase or a line.
+pub fn all_turns_go()
+    ensures { AllTurnsGo }
+{}
+
+/// The law by which an execution grows, a turn at a time.
+pub fn turns_grow()
+    ensures { TurnsGrow }
+{}
+
+/// The law by which an execution of threads that play beside each other grows, a phase at a time.
 pub fn courses_grow()
     ensures { CoursesGrow }
 {}

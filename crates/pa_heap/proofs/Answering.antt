@@ -41,12 +41,13 @@ use Rattle.pa_op_specs.proofs.Stocks.{register_has}
 use Rattle.pa_thread_state.proofs.Looking.{seen_at}
 use Rattle.pa_op_specs.specs.Owing.{bytes_in}
 use Rattle.pa_op_specs.proofs.Owing.{owes_done}
-use Rattle.pa_op_specs.proofs.Quiet.{quiet_record, touched_does}
+use Rattle.pa_op_specs.proofs.Quiet.{quiet_record, touched_apart, touched_does}
 use Rattle.pa_thread_state.proofs.Resetting.{can_reset, cleared}
 use Rattle.pa_heap.proofs.Resetting.{reset_row}
 use Rattle.pa_thread_state.proofs.Freeing.{can_step, freed, freed_view}
 use Rattle.pa_heap.proofs.Freeing.{free_row, touched_free}
 use Rattle.pa_heap.proofs.Relinking.{touched_relinked}
+use Rattle.pa_heap.proofs.Apart.{front_off}
 use Rattle.pa_heap.proofs.Returning.{stays_whole, front_lists}
 use Rattle.pa_lists.proofs.Elements.{length_map}
 
@@ -105,22 +106,27 @@ reset_listed counts s r word c h is aware stake budget below ref found back clas
     (record { room = λ j e. cc; no_swap = λ j e. cc; cells = λ list x none. none })
     (owes_done s.registers (ops.Reset r) (seen_at h word) t.len (Counted t steps.Reset word 0 ∷ []) ([], tt, refl) (ap bytes_in ref))
     (λ refused. absurd refused)
-    (λ line phase o run rules sees none.
+    (touched_apart s w rs (put_in_front h.partition c t s.caches) (Counted t steps.Reset word 0 ∷ []) touched
+    (λ x alone. front_off s.caches h.partition c t x knows.1.partition small is.lists.count
+    (λ same. user_not_free s.view t aware knows.0 (subst (λ y. 0 < free_of s.view y) (sym same) alone.free)) alone.off))
+    (λ line phase o run rules sees.
     let slot = slot_in_run o w h run sees (made_kept h s.view w touched.lists knows.1) in
     record {
       told = ([], tt, ap (λ u. Counted u steps.Reset word 0 ∷ []) (sym slot.title));
       row = reset_row (register_in s.registers r) h (seen_at h word) (regs_of s.registers) r (regs_of rs) ref refl
           (λ k. regs_set s.registers r Cleared k inside);
-      lists = inl (
-        back,
-        returned_row s w rs o.roots (quiet_record s w line phase (ops.Reset r) (answers.Done (seen_at h word))
-            (Counted t steps.Reset word 0 ∷ [])).played h c (number_of word + 1) is knows.1.partition small touched.numbers
-            (seen_left t (number_of word) (seen_of w t) (seen_of s.view t) found.not_older
-            (ap (λ (v : View). seen_of v t) re.rest ∙ (counts steps.Reset t word s.view can).seen t)) (slot.class c class) none room,
-      );
       reader = tt;
       home = λ m e. (h.partition, home_of o h.partition (mark_at line (seen_at h word) (Some steps.Reset)) m e slot.size);
     })
+    (λ line phase o run rules sees none.
+    let slot = slot_in_run o w h run sees (made_kept h s.view w touched.lists knows.1) in
+    inl (
+      back,
+      returned_row s w rs o.roots (quiet_record s w line phase (ops.Reset r) (answers.Done (seen_at h word))
+          (Counted t steps.Reset word 0 ∷ [])).played h c (number_of word + 1) is knows.1.partition small touched.numbers
+          (seen_left t (number_of word) (seen_of w t) (seen_of s.view t) found.not_older
+          (ap (λ (v : View). seen_of v t) re.rest ∙ (counts steps.Reset t word s.view can).seen t)) (slot.class c class) none room,
+    ))
 
 -- A free that returned the slot, which then went to the front of its list.
 pub free_listed : CountLeaves → OwnsChange → StatesAreOwns → (s : StockValue) (r word c : ℕ) (h : Handle) → IsStock s → IsAware s.view →
@@ -144,23 +150,28 @@ free_listed counts owns states s r word c h is aware stake budget below own foun
     (record { room = λ j e. cc; no_swap = λ j e. cc; cells = λ list x none. none })
     (owes_done s.registers (ops.Free r) (seen_at h word) t.len (Counted t steps.Free word 0 ∷ []) ([], tt, refl) (ap bytes_in own))
     (λ refused. absurd refused)
-    (λ line phase o run rules sees none.
+    (touched_apart s w rs (put_in_front h.partition c t s.caches) (Counted t steps.Free word 0 ∷ []) touched
+    (λ x alone. front_off s.caches h.partition c t x knows.1.partition small is.lists.count
+    (λ same. user_not_free s.view t aware knows.0 (subst (λ y. 0 < free_of s.view y) (sym same) alone.free)) alone.off))
+    (λ line phase o run rules sees.
     let slot = slot_in_run o w h run sees (made_kept h s.view w touched.lists knows.1) in
     record {
       told = ([], tt, ap (λ u. Counted u steps.Free word 0 ∷ []) (sym slot.title));
       row = free_row (register_in s.registers r) h (seen_at h word) (regs_of s.registers) r (regs_of rs) own refl
           (λ k. regs_set s.registers r Freed k inside);
-      lists = inl (
-        back,
-        returned_row s w rs o.roots (quiet_record s w line phase (ops.Free r) (answers.Done (seen_at h word))
-            (Counted t steps.Free word 0 ∷ [])).played h c (number_of word + 1) is knows.1.partition small touched.numbers
-            (seen_left t (number_of word) (seen_of w t) (seen_of s.view t) found.not_older
-            (ap (λ (v : View). seen_of v t) re.rest ∙ (counts steps.Free t word (poisoned t s.view) can).seen t))
-            (slot.class c class) none room,
-      );
       reader = tt;
       home = λ m e. (h.partition, home_of o h.partition (mark_at line (seen_at h word) (Some steps.Free)) m e slot.size);
     })
+    (λ line phase o run rules sees none.
+    let slot = slot_in_run o w h run sees (made_kept h s.view w touched.lists knows.1) in
+    inl (
+      back,
+      returned_row s w rs o.roots (quiet_record s w line phase (ops.Free r) (answers.Done (seen_at h word))
+          (Counted t steps.Free word 0 ∷ [])).played h c (number_of word + 1) is knows.1.partition small touched.numbers
+          (seen_left t (number_of word) (seen_of w t) (seen_of s.view t) found.not_older
+          (ap (λ (v : View). seen_of v t) re.rest ∙ (counts steps.Free t word (poisoned t s.view) can).seen t))
+          (slot.class c class) none room,
+    ))
 
 -- The op that was answered when the slot went to its list.
 pub reset_put : CountLeaves → (s mid after : StockValue) (r : ℕ) (h : Handle) (seen : Seen) → IsStock s → IsAware s.view →

@@ -18,7 +18,6 @@ use Rattle.pa_rules.specs.Registers.{Facts, Regs, with, Becomes, CopyRow, CopyTo
 use Rattle.pa_rules.specs.Nexts.{HasSomeHandle, is_owner}
 use Rattle.pa_rules.proofs.Nexts.{copy_filled}
 use Rattle.pa_cells.specs.declared.handle.Handle.{Handle}
-use Rattle.pa_cells.specs.Handles.{is_plain}
 use Rattle.pa_rules.specs.declared.register.Register.TheVariants.{Empty, Own, Ref, Freed, Cleared}
 use Rattle.pa_op_specs.specs.Stocks.{StockRegister, StockValue, IsStock, HasHandleTo, HasNoHandle, register_in, as_reg, regs_of, rules_at}
 use Rattle.pa_op_specs.specs.Outcomes.{Outcome, row_facts}
@@ -98,17 +97,17 @@ copied_does counts s from to word h is aware stake budget below within has bare 
     (record { room = λ j e. cc; no_swap = λ j e. cc; cells = λ list x none. none })
     (owes_done s.registers (ops.Copy from to) seen t.len (Counted t steps.Copy word 0 ∷ []) ([], tt, refl)
     (handle_bytes (register_in s.registers from) h has)) (λ refused. absurd refused)
-    (λ line phase o run rules sees none same.
+    (λ line phase o run rules sees.
     let slot = slot_in_run o w h run sees (made_kept h s.view w refl knows.1) in
     record {
       told = ([], tt, ap (λ u. Counted u steps.Copy word 0 ∷ []) (sym slot.title));
       row = counted_row o s h from to (answers.Done seen) (regs_of (slice_set s.registers to (Ref h))) rules slot has counted
           (copy_to_row (register_in s.registers to) h word (regs_of s.registers) to (regs_of (slice_set s.registers to (Ref h))) bare
           (λ k. regs_set s.registers to (Ref h) k inside));
-      lists = inr (λ z. z, none, same);
       reader = λ n own e. absurd (done_counts seen e);
       home = λ m e. (h.partition, home_of o h.partition (mark_at line seen (Some steps.Copy)) m e slot.size);
     })
+    (λ line phase o none same. inr (λ z. z, none, same))
 
 pub point_does : CountLeaves → (s after : StockValue) (from to : ℕ) (h : Handle) (seen : Seen) → IsStock s → IsAware s.view →
     HasItsStake s → 0 < s.view.budget →

@@ -5,6 +5,7 @@ use Rattle.std.proofs.lemmas.List.{append_assoc, length-set, get_or-set_same}
 use Rattle.std.proofs.lemmas.Bool.Decides.{nat_tests}
 use Rattle.pa_slot.specs.declared.title.Title.{Title}
 use Rattle.pa_slot.specs.declared.word.Step.{Step}
+use Rattle.pa_slot.specs.Titles.{IsWellFormed}
 use Rattle.pa_trace.specs.declared.script.Op.TheVariants as ops
 use Rattle.pa_record.specs.declared.entry.Answer.TheVariants as answers
 use Rattle.pa_record.specs.declared.entry.Seen.{Seen}
@@ -186,7 +187,6 @@ swap_does line cell reg index given found s a b d is phase = (
     owes = λ q. refl;
     words = λ refused. absurd refused;
     answers = λ o fits.
-        let none = no_act o x fits.run fits.acts (λ q other. other_list q m other) in
         record {
           told = refl;
           row = (
@@ -198,14 +198,25 @@ swap_does line cell reg index given found s a b d is phase = (
             is.gave,
             λ k. ap as_reg (is.registers k) ∙ becomes k (k == reg),
           );
-          lists = (none, λ p c. lists_same p c);
           reader = tt;
           unmaps = λ seen p asked slot f done among on act. absurd (not_done index seen done);
           makes = λ p n f low among says. absurd
               (not_in_none n (subst (λ (ms : List Made). Contains ms n) (other_list p m (λ e. omega arith)) among));
           home = λ n f. absurd (not_some n f);
-          signs = shapes_have_signs.swapped o.partitions index o.roots x is.swap.made refl refl;
         };
+  },
+  record {
+    apart = λ t alone.
+        let stays = kept_at alone.well.0 t alone.well.1 alone.free in (
+          record {
+            free = stays.0;
+            off = λ p c among. alone.off p c (subst (λ (cs : WorkerLists). Contains (titles_in cs p c) t) is.caches among);
+            well = alone.well;
+          },
+          stays.1,
+        );
+    signs = λ o fits. shapes_have_signs.swapped o.partitions index o.roots x is.swap.made refl refl;
+    row = λ o fits. (no_act o x fits.run fits.acts (λ q other. other_list q m other), λ p c. lists_same p c);
   },
   λ word bytes among. elim (in_cases (Entered 5 m) (Added word bytes) [] among)
       [ inl same ↦ absurd (no_addition m word bytes same) | inr none ↦ absurd (not_in_none _ none) ],
@@ -253,18 +264,22 @@ swap_does line cell reg index given found s a b d is phase = (
     becomes k true = found_is found
     becomes k false = refl
 
+    -- a title that was free is so still, at its number
+    kept_at : (n : ℕ) (t : Title) → IsWellFormed n t → 0 < free_of s.view t →
+        (0 < free_of d.view t) × (seen_of d.view t ≡ seen_of s.view t)
+    kept_at n t well free =
+        let free_a : 0 < free_of a.view t = let f = is.first.frees t in omega arith in
+        let free_b : 0 < free_of b.view t = let f = free_kept a.view b.view t swap.lends.keeps in omega arith in (
+          let f = is.last.frees t in omega arith,
+          is.last.numbers n t well free_b
+              ∙ (kept_number a.view b.view n t is.awares.0 is.awares.1 swap.lends.keeps well free_a ∙ is.first.numbers n t well free),
+        )
+
     lists_same : SameLists (listed_in d) (listed_in s)
     lists_same p c =
         ap (λ (cs : WorkerLists). numbered_by d.view (titles_in cs p c)) is.caches
         ∙ same_titles s.view d.view (titles_in s.caches p c)
-        (λ t among.
-        let free = is.stock.lists.free p c t among in
-        let well = is.stock.lists.well p c t among in
-        let free_a : 0 < free_of a.view t = let f = is.first.frees t in omega arith in
-        let free_b : 0 < free_of b.view t = let f = free_kept a.view b.view t swap.lends.keeps in omega arith in
-        is.last.numbers well.0 t well.1 free_b
-        ∙ (kept_number a.view b.view well.0 t is.awares.0 is.awares.1 swap.lends.keeps well.1 free_a
-        ∙ is.first.numbers well.0 t well.1 free))
+        (λ t among. let well = is.stock.lists.well p c t among in (kept_at well.0 t well.1 (is.stock.lists.free p c t among)).1)
 
 -- ---- from the three parts
 

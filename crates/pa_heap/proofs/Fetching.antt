@@ -26,9 +26,10 @@ use Rattle.pa_thread_state.specs.Allocating.{with_listed}
 use Rattle.pa_op_specs.proofs.Quiet.{same_titles}
 use Rattle.pa_thread_state.proofs.Relisting.{listed_cases, listed_from, relisted}
 use Rattle.pa_op_specs.specs.Outcomes.{FillsFrom}
+use Rattle.pa_heap.proofs.Apart.{set_off}
 use Rattle.pa_heap.proofs.Issuing.{Bringing}
 use Rattle.pa_heap.proofs.Taking.{first_alone, front_is}
-use Rattle.pa_thread_state.proofs.Taking.{took_free, took_new, took_same, took_number, took_enters}
+use Rattle.pa_thread_state.proofs.Taking.{took_free, took_other, took_still, took_kept, took_new, took_same, took_number, took_enters}
 use Rattle.pa_thread_state.proofs.Fetching.{fill_act, fill_asking, fill_made, fill_took, map_asking, map_took, mapped_slot}
 use Rattle.pa_root.proofs.CallGives.{same_numbers}
 
@@ -79,6 +80,16 @@ fill_brings line size p c s u n t rest gives is awares long low small empty clas
         | inr none ↦ absurd (not_in_none a none)
       ];
       usable = ap (λ k. k - 8) (sized ∙ sym (sizes_fit.class s.caches.version size c class));
+      apart = λ x alone. (
+        record {
+          free = took_still s u n (t ∷ rest) is took x alone.free;
+          off = set_off s.caches p c rest x low small is.lists.count
+              (λ among. took_other s u n (t ∷ rest) is took x alone.free (later_in t x rest among)) alone.off;
+          well = alone.well;
+        },
+        took_kept s u n (t ∷ rest) is took alone.well.0 x alone.well.1 alone.free,
+      );
+      lacks = λ alone. took_other s u n (t ∷ rest) is took t alone.free (first_in t rest);
       rows = λ roots x r seen later is_op first only slot number same. inl (
         p,
         c,
@@ -126,6 +137,11 @@ map_brings line size p len s u n t gives is awares long low direct shape =
         | inr none ↦ absurd (not_in_none a none)
       ];
       usable = ap (λ k. k - 8) (gives.long ∙ (shape ∙ sym (sizes_fit.direct s.caches.version size direct)));
+      apart = λ x alone. (
+        record { free = took_still s u n (t ∷ []) is took x alone.free; off = alone.off; well = alone.well },
+        took_kept s u n (t ∷ []) is took alone.well.0 x alone.well.1 alone.free,
+      );
+      lacks = λ alone. took_other s u n (t ∷ []) is took t alone.free (first_in t []);
       rows = λ roots x r seen later is_op first only slot number same. inr (
         p,
         size,

@@ -71,17 +71,17 @@ freed_does counts owns states s r word h is aware stake budget below own found s
     (record { room = λ j e. cc; no_swap = λ j e. cc; cells = λ list x none. none })
     (owes_done s.registers (ops.Free r) (seen_at h word) t.len (Counted t steps.Free word 0 ∷ []) ([], tt, refl) (ap bytes_in own))
     (λ refused. absurd refused)
-    (λ line phase o run rules sees none same.
+    (λ line phase o run rules sees.
     let slot = slot_in_run o w h run sees (made_kept h s.view w refl knows.1) in
     record {
       told = ([], tt, ap (λ u. Counted u steps.Free word 0 ∷ []) (sym slot.title));
       row = free_row (register_in s.registers r) h (seen_at h word) (regs_of s.registers) r
           (regs_of (slice_set s.registers r Freed)) own refl
           (λ k. regs_set s.registers r Freed k inside);
-      lists = inr (stays, none, same);
       reader = tt;
       home = λ m e. (h.partition, home_of o h.partition (mark_at line (seen_at h word) (Some steps.Free)) m e slot.size);
     })
+    (λ line phase o none same. inr (stays, none, same))
 
 -- a call that let go of a register's Own by a free which didn't return the slot did the op, which answers `done`
 pub free_kept : CountLeaves → OwnsChange → StatesAreOwns → (s after : StockValue) (r : ℕ) (h : Handle) (seen : Seen) → IsStock s →

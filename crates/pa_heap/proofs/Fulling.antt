@@ -45,6 +45,7 @@ use Rattle.pa_op_specs.proofs.Entered.{entered_does, makes_each, two_enters}
 use Rattle.pa_op_specs.proofs.AskedFor.{Asks, asks_two, it_asks, only_acts, act_at, root_elsewhere}
 use Rattle.pa_heap.proofs.Issuing.{alloc_row}
 use Rattle.pa_thread_state.proofs.Taking.{two_uncut}
+use Rattle.pa_root.proofs.Seeing.{free_kept}
 
 -- an allocation that is refused by its register or its size alone
 alloc_refuses : (s : StockValue) (i p size : ℕ) (answer : Answer) → IsStock s → IsPlain answer →
@@ -93,6 +94,14 @@ pub full_does : (line size r p j count : ℕ) (class : Option ℕ) (s : StockVal
 full_does line size r p j count class s w full is aware now inner bare few makes row =
     entered_does s (record s { view = w }) line op (answers.Full j) es refl refl refl refl
     (two_enters full.asked j s.thread p line [] taken a s.view w two (omega arith) refl (λ e among. absurd (not_in_none e among)))
+    (λ t alone. (
+      record {
+        free = subst (λ n. 0 < n) (sym (free_kept s.view w t two.lends.keeps)) alone.free;
+        off = alone.off;
+        well = alone.well;
+      },
+      kept_number s.view w alone.well.0 t aware now two.lends.keeps alone.well.1 alone.free,
+    ))
     (λ phase. let x = quiet_record s w line phase op (answers.Full j) es in let it = it_asks line p (a ∷ []) es w x asks (λ q. refl) in
     record {
       cells = λ list none. none;
@@ -128,10 +137,6 @@ full_does line size r p j count class s w full is aware now inner bare few makes
         told = refl;
         row = alloc_row (register_in s.registers r) (row_facts o) (regs_of s.registers) r size (answers.Full j) (regs_of s.registers) bare
             (inr (inr (few, j, refl, λ k. refl)));
-        lists = row o.roots x.played (listed_in (record s { view = w })) refl refl (only_acts o x it line p (a ∷ []) line_acts low refl)
-            (λ q d. same_titles s.view w (titles_in s.caches q d) (λ t among.
-            let well = is.lists.well q d t among in
-            kept_number s.view w well.0 t aware now two.lends.keeps well.1 (is.lists.free q d t among)));
         reader = tt;
         unmaps = λ seen q asked n e done among on acts. absurd (not_made j seen done);
         makes = makes_each x it o.pools (λ q e small among.
@@ -142,10 +147,17 @@ full_does line size r p j count class s w full is aware now inner bare few makes
               | inr none ↦ absurd (not_in_none e.act none)
             ]);
         home = λ m e. absurd (not_some m e);
-        signs = asks.signs ∙ shapes_have_signs.only o.partitions line p o.roots (a ∷ []) run.past
-            (only_acts o x it line p (a ∷ []) line_acts low refl);
       };
     })
+    (λ phase o run many rules sees line_acts.
+    let x = quiet_record s w line phase op (answers.Full j) es in
+    let only = only_acts o x (it_asks line p (a ∷ []) es w x asks (λ q. refl)) line p (a ∷ []) line_acts low refl in (
+      asks.signs ∙ shapes_have_signs.only o.partitions line p o.roots (a ∷ []) run.past only,
+      row o.roots x.played (listed_in (record s { view = w })) refl refl only
+          (λ q d. same_titles s.view w (titles_in s.caches q d) (λ t among.
+          let well = is.lists.well q d t among in
+          kept_number s.view w well.0 t aware now two.lends.keeps well.1 (is.lists.free q d t among))),
+    ))
   where
     low : p < 4
     low = let few = is.partitions in omega arith

@@ -22,7 +22,7 @@ use Rattle.pa_region.specs.declared.view.Entry.{Entry}
 use Rattle.pa_region.specs.declared.view.Entry.TheVariants.{Counted, Entered, Uncut}
 use Rattle.pa_region.specs.declared.view.Made.{Made}
 use Rattle.pa_region.specs.declared.view.View.{View}
-use Rattle.pa_region.specs.Views.{seen_of}
+use Rattle.pa_region.specs.Views.{free_of, seen_of}
 use Rattle.pa_region.specs.Lists.{entered_in}
 use Rattle.pa_rules.specs.Played.{mark_of_answer, mark_at}
 use Rattle.pa_rules.specs.Registers.{Row}
@@ -33,7 +33,7 @@ use Rattle.pa_logs.specs.Touches.{IsStepTold, IsToldBy, is_touch, title_of}
 use Rattle.pa_logs.specs.Indices.{Enters, asks}
 use Rattle.pa_logs.specs.Said.{ReadsIts}
 use Rattle.pa_root.specs.Handing.{root_entry}
-use Rattle.pa_step_order.specs.Signs.{Stepped}
+use Rattle.pa_step_order.specs.Signs.{Stepped, HasItsSigns}
 use Rattle.pa_step_order.specs.Shapes.{numbers_on}
 use Rattle.pa_step_order.proofs.Shaping.{shapes_have_signs}
 use Rattle.pa_cells.specs.declared.handle.Handle.{Handle}
@@ -43,21 +43,23 @@ use Rattle.pa_op_specs.specs.Outcomes.{Outcome, IsOutcome, IsSeenOf, row_facts, 
 use Rattle.pa_rules.specs.Sizes.{HasClass}
 use Rattle.pa_trace.specs.declared.script.Rules.{Rules}
 use Rattle.pa_op_specs.specs.Entering.{EntersCells, HasSeenSome}
-use Rattle.pa_op_specs.specs.Plays.{DoesOp, AnswersIn}
-use Rattle.pa_op_specs.proofs.Seeing.{slot_in_run, home_of}
+use Rattle.pa_op_specs.specs.Plays.{KeepsApart, DoesOp, AnswersIn}
+use Rattle.pa_op_specs.proofs.Seeing.{IsSlotIn, slot_in_run, home_of}
 use Rattle.pa_thread_state.proofs.Looking.{seen_at}
 use Rattle.pa_op_specs.proofs.Touching.{Touched}
 use Rattle.pa_op_specs.specs.Owing.{bytes_through}
 use Rattle.pa_op_specs.proofs.Owing.{owes_done}
-use Rattle.pa_op_specs.proofs.Quiet.{quiet_record}
+use Rattle.pa_op_specs.proofs.Quiet.{quiet_record, touched_apart}
 use Rattle.pa_op_specs.proofs.Batches.{in_gives, gives_ask_none, acts_back, act_among}
 use Rattle.pa_op_specs.proofs.Entered.{Entering, LineActs, acts_in, entered_does, entered_here, entered_elsewhere, entering_both, makes_each, none_here, touched_enters, unmaps_next}
+use Rattle.pa_heap.proofs.Apart.{KeepsOthers, apart_both}
 
 -- the slot of a handle, at the number that its step left
 abbrev pub left_at : Handle → ℕ → Numbered
 left_at h word = record { slot = name_of h.title; number = number_of word + 1 }
 
--- What is known of a reset or a free that returned its slot: its seat had the view w then, and these registers.
+-- What is known of a reset or a free that returned its slot: its seat had the view w then, and these registers. The slot's title
+-- wasn't free before.
 pub record HasReturned (op : Op) (step : Step) (h : Handle) (word : ℕ) (s : StockValue) (w : View) (rs : List StockRegister) : Type 0 where
   pub freeing : IsFreeing op
   pub cells : (list : List Made) (x : ToldRecord) → entered_in 5 x.stretch ≡ [] → EntersCells op list x
@@ -80,9 +82,18 @@ pub record HasReturned (op : Op) (step : Step) (h : Handle) (word : ℕ) (s : St
   pub reader : (o : Outcome) (x : ToldRecord) → ReadsIts o.sizes (regs_of s.registers) op x
   pub mark : (line : ℕ) → mark_of_answer line op (answers.Done (seen_at h word)) ≡ Some (mark_at line (seen_at h word) (Some step))
   pub touched : Touched s.thread (Counted h.title step word 0 ∷ []) s.view w
+  pub held : 0 < free_of s.view h.title → ⊥
   pub number : seen_of w h.title ≡ number_of word + 1
   pub made : HasSeenMade h w
   pub entries : HasSeenSome s.thread h.partition s.view
+
+-- what was free and on no list stays so, if all else than the slot's title does from then on
+pub returned_apart : (op : Op) (step : Step) (h : Handle) (word : ℕ) (s after : StockValue) (w : View) (rs : List StockRegister) →
+    HasReturned op step h word s w rs → KeepsOthers h.title (record s { view = w; registers = rs }) after → KeepsApart s after
+returned_apart op step h word s after w rs is others =
+    apart_both h.title s (record s { view = w; registers = rs }) after
+    (touched_apart s w rs s.caches (Counted h.title step word 0 ∷ []) is.touched (λ t alone. alone.off)) others
+    (λ alone. is.held alone.free)
 
 -- the answer of a step that was done is no refusal
 pub not_full : (seen : Seen) (j : ℕ) → answers.Done seen ≡ answers.Full j → ⊥
@@ -117,22 +128,24 @@ gives_name_none xs act among = let (slots, is) = in_gives xs act among in ap ask
 
 -- ---- slots are given
 
--- If slots were given back, and the lists are as the row asks.
+-- If slots were given back, all else that is free and on no list stayed so, and the lists are as the row asks.
 pub gives_does : SlotsStaySeen →
     (op : Op) (step : Step) (h : Handle) (class word line : ℕ) (s after : StockValue) (w : View) (rs : List StockRegister)
     (ms : List Made) (gone : List Numbered) → HasReturned op step h word s w rs → h.class ≡ Some class →
     after.thread ≡ s.thread → after.partitions ≡ s.partitions → after.plain_from ≡ s.plain_from →
     after.caches.version ≡ s.caches.version → after.registers ≡ rs →
     Entering s.thread line (map (Entered h.partition) ms) w after.view →
+    KeepsOthers h.title (record s { view = w; registers = rs }) after →
     map (λ (m : Made). m.numbers) ms ≡ map root_numbers (map (root_entry line) (gives gone)) →
     (HasClass s.caches.version class → (gone ≡ spilled class (left_at h word ∷ listed_in s h.partition class))
     × SameLists (listed_in after)
     (with_list (listed_in s) h.partition class (kept class (left_at h word ∷ listed_in s h.partition class)))) →
     DoesOp line op (answers.Done (seen_at h word)) s after
-gives_does stays op step h class word line s after w rs ms gone is of thread partitions plain version registers came says lists =
+gives_does stays op step h class word line s after w rs ms gone is of thread partitions plain version registers came others says lists =
     entered_does s after line op (answers.Done (seen_at h word)) es thread partitions plain version
     (entering_both s.thread line (c ∷ []) (map (Entered p) ms) s.view w after.view
     (touched_enters s.thread line (c ∷ []) s.view w is.touched) came)
+    (returned_apart op step h word s after w rs is others)
     (λ phase. record {
       cells = λ list none. is.cells list (x phase) none;
       it = it phase;
@@ -151,8 +164,9 @@ gives_does stays op step h class word line s after w rs ms gone is of thread par
       owes = owes_done s.registers op (seen_at h word) h.title.len es
           (is.told (λ (n : SlotName). h.title.len) es ([], tt, ap (λ fs. c ∷ fs) (none_touches h.partition ms))) is.long;
       words = λ refused. absurd refused;
-      answers = λ o run many rules sees line_acts. answers_in phase o run rules sees line_acts;
+      answers = λ o run many rules sees line_acts. answers_in phase o run sees line_acts;
     })
+    (λ phase o run many rules sees line_acts. (signs_in phase o run line_acts, leads_in phase o run rules sees line_acts))
   where
     p : ℕ
     p = h.partition
@@ -232,16 +246,39 @@ gives_does stays op step h class word line s after w rs ms gone is of thread par
             not_in_none (Unmap asked slot)
             (subst (λ done. Contains done (Unmap asked slot)) (line_acts.past q (grind (arith, nat_tests))) among)
 
-    answers_in : (phase : ℕ) (o : Outcome) → IsOutcome o → rules_at s ≡ o.rules → IsSeenOf o after.view → LineActs o (x phase) (it phase) →
-        AnswersIn o s after (x phase)
-    answers_in phase o run rules sees line_acts =
-        let slot = slot_in_run o after.view h run sees (stays h w after.view is.made (came.lists h.partition)) in
-        let only : OnlyActs o.roots line h.partition (gives gone) = (
-          line_acts.here h.partition low ∙ (own (h.partition == h.partition) refl ∙ acts_back line (gives gone)),
-          λ q differs. none_here o (x phase) (it phase) line_acts q (other q (q == h.partition) refl differs),
-        ) in
+    slot_in : (o : Outcome) → IsOutcome o → IsSeenOf o after.view → IsSlotIn o h
+    slot_in o run sees = slot_in_run o after.view h run sees (stays h w after.view is.made (came.lists h.partition))
+
+    only_in : (phase : ℕ) (o : Outcome) → LineActs o (x phase) (it phase) → OnlyActs o.roots line h.partition (gives gone)
+    only_in phase o line_acts = (
+      line_acts.here h.partition low ∙ (own (h.partition == h.partition) refl ∙ acts_back line (gives gone)),
+      λ q differs. none_here o (x phase) (it phase) line_acts q (other q (q == h.partition) refl differs),
+    )
+
+    leads_in : (phase : ℕ) (o : Outcome) → IsOutcome o → rules_at s ≡ o.rules → IsSeenOf o after.view → LineActs o (x phase) (it phase) →
+        CacheRow o.partitions o.roots (x phase).played (answers.Done (seen_at h word)) (listed_in s) (listed_in after)
+    leads_in phase o run rules sees line_acts =
+        let slot = slot_in o run sees in
         let real : HasClass s.caches.version class = subst (λ (k : Rules). HasClass k.version class) (sym rules) (slot.real class of) in
         let row_is = lists real in
+        is.lists o.partitions line phase o.roots (listed_in s) (listed_in after) (inl (
+          h.partition,
+          class,
+          slot.class class of,
+          subst (λ xs. OnlyActs o.roots line h.partition (gives xs)) row_is.0 (only_in phase o line_acts),
+          row_is.1,
+        ))
+
+    signs_in : (phase : ℕ) (o : Outcome) → IsOutcome o → LineActs o (x phase) (it phase) → HasItsSigns o.partitions o.roots (x phase)
+    signs_in phase o run line_acts =
+        ap (λ ys. Stepped ∷ ys)
+        (shapes_have_signs.entries line h.partition ms (gives gone) low (says ∙ numbers_again line (gives gone)) (gives_name_none gone)
+        ∙ shapes_have_signs.only o.partitions line h.partition o.roots (gives gone) run.past (only_in phase o line_acts))
+
+    answers_in : (phase : ℕ) (o : Outcome) → IsOutcome o → IsSeenOf o after.view → LineActs o (x phase) (it phase) →
+        AnswersIn o s after (x phase)
+    answers_in phase o run sees line_acts =
+        let slot = slot_in o run sees in
         record {
           told = is.told o.sizes es (
             [],
@@ -251,13 +288,6 @@ gives_does stays op step h class word line s after w rs ms gone is of thread par
           );
           row = subst (λ r. Row (row_facts o) op (regs_of s.registers) (answers.Done (seen_at h word)) (regs_of r))
               (sym registers) (is.row o);
-          lists = is.lists o.partitions line phase o.roots (listed_in s) (listed_in after) (inl (
-            h.partition,
-            class,
-            slot.class class of,
-            subst (λ xs. OnlyActs o.roots line h.partition (gives xs)) row_is.0 only,
-            row_is.1,
-          ));
           reader = is.reader o (x phase);
           unmaps = unmaps_next o.roots (x phase).played
               (λ q asked slot among seen done. absurd (none_unmaps phase o line_acts q asked slot among));
@@ -268,8 +298,4 @@ gives_does stays op step h class word line s after w rs ms gone is of thread par
             h.partition,
             home_of o h.partition (mark_at line (seen_at h word) (Some step)) m (sym (is.mark line) ∙ e) slot.size,
           );
-          signs = ap (λ ys. Stepped ∷ ys)
-              (shapes_have_signs.entries line h.partition ms (gives gone) low (says ∙ numbers_again line (gives gone))
-              (gives_name_none gone)
-              ∙ shapes_have_signs.only o.partitions line h.partition o.roots (gives gone) run.past only);
         }

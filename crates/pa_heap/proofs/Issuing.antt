@@ -45,7 +45,7 @@ use Rattle.pa_op_specs.specs.Outcomes.{FillsFrom, row_facts}
 use Rattle.pa_op_specs.specs.Owing.{IsMadeIn}
 use Rattle.pa_thread_state.specs.Changes.{IsBack}
 use Rattle.pa_thread_state.specs.Allocating.{Issues, after_issue}
-use Rattle.pa_op_specs.specs.Plays.{DoesOp}
+use Rattle.pa_op_specs.specs.Plays.{IsApart, KeepsApart, DoesOp}
 use Rattle.pa_op_specs.proofs.Registers.{regs_set}
 use Rattle.pa_op_specs.proofs.Seeing.{made_kept, slot_in_run, home_of, more_seen, same_seen, now_seen}
 use Rattle.pa_op_specs.proofs.Touching.{entry_logs}
@@ -55,7 +55,8 @@ use Rattle.pa_op_specs.proofs.Owing.{owes_made}
 use Rattle.pa_op_specs.proofs.Quiet.{quiet_record, same_titles}
 use Rattle.pa_op_specs.proofs.Entered.{Entering, TellsOf, entering_both, entered_does, makes_each}
 use Rattle.pa_op_specs.proofs.AskedFor.{Asks, it_asks, only_acts, act_at, root_elsewhere}
-use Rattle.pa_thread_state.proofs.Issuing.{issued, issued_view, issue_leaves, not_listed}
+use Rattle.pa_thread_state.proofs.Issuing.{issued, issued_view, issue_leaves, issue_still, not_listed}
+use Rattle.pa_heap.proofs.Apart.{KeepsOthers, apart_both}
 use Rattle.pa_logs.proofs.Listing.{entered_append}
 
 -- what the step leaves of the view before the zeros
@@ -89,6 +90,18 @@ issued_lists counts seals s r word h can back p c =
     same_titles s.view w (titles_in s.caches p c)
     (λ u among. same_seen t u (number_of word + 1) (seen_of w u) (seen_of s.view u) (not_listed s h back p c u among) (leaves.seen u))
 
+-- each other title that is free and on no list stays so
+issued_others : CountLeaves → SealedLeaves → (s : StockValue) (r word : ℕ) (h : Handle) →
+    CanCount steps.Issue h.title (zeroed h.title s.view) → KeepsOthers h.title s (issued s h r word)
+issued_others counts seals s r word h can u other alone =
+    let t = h.title in
+    let plain = is_plain s.plain_from h in
+    let w = issued_view plain s.view t word in
+    let leaves = issue_leaves counts seals plain t word (zeroed t s.view) can in (
+      record { free = issue_still counts seals plain t word s.view can u other alone.free; off = alone.off; well = alone.well },
+      same_seen t u (number_of word + 1) (seen_of w u) (seen_of s.view u) other (leaves.seen u),
+    )
+
 -- ---- the row of the registers
 
 request_row : (facts : Facts) (regs : Regs) (r size : ℕ) (seen : Seen) (usable : ℕ) (after : Regs) → size ≤ greatest_size →
@@ -107,7 +120,7 @@ alloc_row Cleared facts regs r size answer after bare row = row
 -- ---- the op
 
 -- What came before the issue: the view and the lists of the thread's state `s` changed to `v` and `cs`, with the entries `es`, which did
--- these acts in the journal of the handle's partition.
+-- these acts in the journal of the handle's partition. The handle's title wasn't free before, or was on a list.
 pub record Bringing (line size : ℕ) (h : Handle) (acts : List RootAct) (es : List Entry) (s : StockValue) (v : View)
     (cs : WorkerLists) : Type 0 where
   pub entering : Entering s.thread line es s.view v
@@ -120,6 +133,8 @@ pub record Bringing (line size : ℕ) (h : Handle) (acts : List RootAct) (es : L
       MakesEntry pools h.partition a x
   pub fills : (a : RootAct) → Contains acts a → FillsFrom s.caches.version a
   pub usable : h.title.len - 8 ≡ usable_of s.caches.version size
+  pub apart : KeepsApart s (record s { view = v; caches = cs })
+  pub lacks : IsApart h.title s → ⊥
   pub rows : (roots : Journals) (x : Played) (r : ℕ) (seen : Seen) (after : Cache) → x.op ≡ ops.Alloc r h.partition size →
       x.rules.version ≡ s.caches.version → OnlyActs roots x.line h.partition acts →
       seen.slot ≡ name_of h.title → number_of seen.found.0 ≡ seen_of v h.title →
@@ -148,6 +163,7 @@ made_does counts seals line size r word h acts es s v cs before is stake can fou
     entered_does s (issued mid h r word) line op answer all refl refl refl before.version
     (entering_both s.thread line es (Counted t steps.Issue word 0 ∷ []) s.view v w before.entering
     (issued_enters counts seals mid line word plain t is stake can found))
+    (apart_both t s mid (issued mid h r word) before.apart (issued_others counts seals mid r word h can) before.lacks)
     (λ phase. let x = quiet_record s w line phase op answer all in let it = it_asks line h.partition acts es v x before.asks same in
     record {
       cells = λ list none. none;
@@ -171,7 +187,6 @@ made_does counts seals line size r word h acts es s v cs before is stake can fou
       words = λ refused. absurd refused;
       answers = λ o run many rules sees line_acts.
           let slot = slot_in_run o w h run sees (made_kept h v w leaves.lists back.made) in
-          let only = only_acts o x it line h.partition acts line_acts back.made.partition refl in
           record {
             told = (
               (
@@ -189,19 +204,24 @@ made_does counts seals line size r word h acts es s v cs before is stake can fou
                 (regs_of (slice_set s.registers r (Own h))) few
                 (before.usable ∙ ap (λ (k : Rules). usable_of k.version size) rules)
                 (λ k. regs_set s.registers r (Own h) k inside));
-            lists = before.rows o.roots x.played r (seen_at h word) (listed_in (issued mid h r word)) refl refl only refl number
-                (issued_lists counts seals mid r word h can back);
             reader = tt;
             unmaps = λ seen p asked n e done among on act. absurd (not_done (seen_at h word) (h.title.len - 8) seen done);
             makes = makes_each x it o.pools (λ p e low among.
                 let at = act_at line h.partition p acts e among in
                 subst (λ q. MakesEntry o.pools q e.act x.played) (sym at.0) (before.makes o.pools e.act x.played r refl refl at.1));
             home = λ m e. (h.partition, home_of o h.partition (mark_at line (seen_at h word) (Some steps.Issue)) m e slot.size);
-            signs = filter_map-append sign_of es (Counted t steps.Issue word 0 ∷ [])
-                ∙ ap (λ ys. ys ++ Stepped ∷ [])
-                (before.asks.signs ∙ shapes_have_signs.only o.partitions line h.partition o.roots acts run.past only);
           };
     })
+    (λ phase o run many rules sees line_acts.
+    let x = quiet_record s w line phase op answer all in
+    let only = only_acts o x (it_asks line h.partition acts es v x before.asks same) line h.partition acts line_acts back.made.partition
+    refl in (
+      filter_map-append sign_of es (Counted t steps.Issue word 0 ∷ [])
+          ∙ ap (λ ys. ys ++ Stepped ∷ [])
+          (before.asks.signs ∙ shapes_have_signs.only o.partitions line h.partition o.roots acts run.past only),
+      before.rows o.roots x.played r (seen_at h word) (listed_in (issued mid h r word)) refl refl only refl number
+          (issued_lists counts seals mid r word h can back),
+    ))
   where
     t : Title
     t = h.title

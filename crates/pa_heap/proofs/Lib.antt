@@ -1,3 +1,4 @@
+pub mod Apart
 pub mod Copying
 pub mod Looking
 pub mod Reading
@@ -17,6 +18,7 @@ pub mod Given
 pub mod Unmapping
 pub mod Settling
 pub mod Playing
+pub mod Purging
 pub mod Purged
 pub mod Issuing
 pub mod Relinking
@@ -26,3 +28,5 @@ pub mod Fulling
 pub mod Allocated
 pub mod Stopped
 pub mod Ruling
+pub mod Brought
+pub mod Queued

@@ -126,12 +126,13 @@ looked_does looks s op answer reg word h is aware stake below has found no_swap 
     (touched_look looks s.thread t word s.view least.1 found least.0 (user_not_free s.view t aware knows.0))
     (record { room = l.room; no_swap = l.no_swap; cells = enters_no_cells op no_swap })
     (l.owes s.registers t word) (λ refused q known. refl)
-    (λ line phase o run rules sees none same.
+    (λ line phase o run rules sees.
     let slot = slot_in_run o w h run sees (made_kept h s.view w refl knows.1) in
     record {
       told = l.told o.sizes (Looked t word ∷ []) (ap (λ u. Looked u word ∷ []) (sym slot.title), in_use t word s.view knows.0 found);
       row = row o;
-      lists = l.lists o.partitions o.roots (quiet_record s w line phase op answer (Looked t word ∷ [])).played _ _ none same;
       reader = reads o line phase;
       home = λ m e. (h.partition, home_of o h.partition (mark_at line (seen_at h word) None) m (sym (l.home line) ∙ e) slot.size);
     })
+    (λ line phase o none same.
+    l.lists o.partitions o.roots (quiet_record s w line phase op answer (Looked t word ∷ [])).played _ _ none same)

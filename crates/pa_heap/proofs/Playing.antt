@@ -71,6 +71,7 @@ reset_returned counts s r word h is aware stake budget below ref found back =
       mark = λ line. refl;
       touched = touched_count counts s.thread steps.Reset t word s.view refl can found (least_is s.thread s.view is.stake stake).0
           (user_not_free s.view t aware knows.0);
+      held = user_not_free s.view t aware knows.0;
       number = seen_left t (number_of word) (seen_of w t) (seen_of s.view t) found.not_older
           ((counts steps.Reset t word s.view can).seen t);
       made = made_kept h s.view w refl knows.1;
@@ -98,6 +99,7 @@ free_returned counts owns states s r word h is aware stake budget below own foun
       reader = λ o x. tt;
       mark = λ line. refl;
       touched = touched_free counts owns states s r word h is stake budget below own found (user_not_free s.view t aware knows.0);
+      held = user_not_free s.view t aware knows.0;
       number = seen_left t (number_of word) (seen_of w t) (seen_of s.view t) found.not_older
           ((counts steps.Free t word (poisoned t s.view) can).seen t);
       made = made_kept h s.view w refl knows.1;

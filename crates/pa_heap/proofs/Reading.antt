@@ -212,7 +212,7 @@ module _ (looks : LookLeaves) (entries : EntryLeaves) (s : StockValue) (n reg pl
       (quiet_does s w s.registers (ops.Read reg place) (answers.Value (seen_at h word) value) es is.lists (touched looks owns)
       (record { room = λ j e. cc; no_swap = λ j e. cc; cells = λ list x none. none })
       (λ q. refl) (λ refused. absurd refused)
-      (λ line phase o run rules sees none same.
+      (λ line phase o run rules sees.
       let slot = slot_in_run o w h run sees (made_kept h s.view w refl (register_has s reg h is below has).1) in
       let a = well.len_aligned in let b = well.long in let long = slot.length in
       record {
@@ -229,19 +229,19 @@ module _ (looks : LookLeaves) (entries : EntryLeaves) (s : StockValue) (n reg pl
         row = read_row (register_in s.registers reg) h (row_facts o) (regs_of s.registers) place (answers.Value (seen_at h word) value)
             (regs_of s.registers) has
             (λ k. refl, inr (omega arith, seen_at h word, value, refl, inl (held, refl)));
-        lists = (none, same);
         reader = read_through s w o.sizes reg place value h
             (quiet_record s w line phase (ops.Read reg place) (answers.Value (seen_at h word) value) es) is aware below has slot.title
             (λ t. refl) (owner_is looks);
         home = λ m e. (h.partition, home_of o h.partition (mark_at line (seen_at h word) None) m e slot.size);
-      }) line))
+      })
+      (λ line phase o none same. (none, same)) line))
   read_does owns (answers.Dangling seen v) (same, equal, held) line =
       subst (λ q. DoesOp line (ops.Read reg place) (answers.Dangling q v) s (read_stock s h word place value)) (sym same)
       (subst (λ q. DoesOp line (ops.Read reg place) (answers.Dangling (seen_at h word) q) s (read_stock s h word place value)) (sym equal)
       (quiet_does s w s.registers (ops.Read reg place) (answers.Dangling (seen_at h word) value) es is.lists (touched looks owns)
       (record { room = λ j e. cc; no_swap = λ j e. cc; cells = λ list x none. none })
       (λ q. refl) (λ refused. absurd refused)
-      (λ line phase o run rules sees none same.
+      (λ line phase o run rules sees.
       let slot = slot_in_run o w h run sees (made_kept h s.view w refl (register_has s reg h is below has).1) in
       let a = well.len_aligned in let b = well.long in let long = slot.length in
       record {
@@ -258,12 +258,12 @@ module _ (looks : LookLeaves) (entries : EntryLeaves) (s : StockValue) (n reg pl
         row = read_row (register_in s.registers reg) h (row_facts o) (regs_of s.registers) place (answers.Dangling (seen_at h word) value)
             (regs_of s.registers) has
             (λ k. refl, inr (omega arith, seen_at h word, value, refl, inr (held, refl)));
-        lists = (none, same);
         reader = read_through s w o.sizes reg place value h
             (quiet_record s w line phase (ops.Read reg place) (answers.Dangling (seen_at h word) value) es) is aware below has slot.title
             (λ t. refl) (owner_is looks);
         home = λ m e. (h.partition, home_of o h.partition (mark_at line (seen_at h word) None) m e slot.size);
-      }) line))
+      })
+      (λ line phase o none same. (none, same)) line))
   read_does owns (answers.Made seen usable) is_read line = absurd is_read
   read_does owns (answers.Done seen) is_read line = absurd is_read
   read_does owns (answers.SecondFree seen) is_read line = absurd is_read

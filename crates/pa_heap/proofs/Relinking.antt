@@ -81,6 +81,10 @@ brings_relinked line size h acts es s v x cs re brings = subst (λ (y : View). B
   makes = brings.makes;
   fills = brings.fills;
   usable = brings.usable;
+  apart = λ t alone.
+      let (still, same) = brings.apart t alone in
+      (record { free = still.free; off = still.off; well = still.well }, same);
+  lacks = brings.lacks;
   rows = brings.rows;
 })
 

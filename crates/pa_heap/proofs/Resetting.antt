@@ -54,17 +54,17 @@ cleared_does counts s r word h is aware stake budget below ref found stays =
     (record { room = λ j e. cc; no_swap = λ j e. cc; cells = λ list x none. none })
     (owes_done s.registers (ops.Reset r) (seen_at h word) t.len (Counted t steps.Reset word 0 ∷ []) ([], tt, refl) (ap bytes_in ref))
     (λ refused. absurd refused)
-    (λ line phase o run rules sees none same.
+    (λ line phase o run rules sees.
     let slot = slot_in_run o w h run sees (made_kept h s.view w refl knows.1) in
     record {
       told = ([], tt, ap (λ u. Counted u steps.Reset word 0 ∷ []) (sym slot.title));
       row = reset_row (register_in s.registers r) h (seen_at h word) (regs_of s.registers) r
           (regs_of (slice_set s.registers r Cleared)) ref refl
           (λ k. regs_set s.registers r Cleared k inside);
-      lists = inr (stays, none, same);
       reader = tt;
       home = λ m e. (h.partition, home_of o h.partition (mark_at line (seen_at h word) (Some steps.Reset)) m e slot.size);
     })
+    (λ line phase o none same. inr (stays, none, same))
 
 -- a call that let go of a register's Ref by a reset which didn't return the slot did the op, which answers `done`
 pub reset_kept : CountLeaves → (s after : StockValue) (r : ℕ) (h : Handle) (seen : Seen) → IsStock s → IsAware s.view →

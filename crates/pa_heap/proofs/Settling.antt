@@ -44,6 +44,7 @@ use Rattle.pa_thread_state.proofs.Fronting.{front_cases}
 use Rattle.pa_thread_state.proofs.Fronts.{front_list, list_there, list_elsewhere}
 use Rattle.pa_op_specs.proofs.Entered.{TellsOf, entering_both, one_enters, two_enters}
 use Rattle.pa_thread_state.proofs.Homing.{left_enters}
+use Rattle.pa_heap.proofs.Apart.{KeepsOthers, front_off}
 use Rattle.pa_heap.proofs.Given.{HasReturned, left_at, gives_does}
 use Rattle.pa_heap.proofs.Unmapping.{behind, unmap_does}
 
@@ -159,6 +160,17 @@ home_does stays op step h word line s after w rs is of bare home = by_class h.cl
     lists : SameLists (listed_in after) (listed_in s)
     lists p class = home.lists p class ∙ step_lists op step h word s w rs is of p class
 
+    others : KeepsOthers h.title (record s { view = w; registers = rs }) after
+    others u other alone =
+        let free : 0 < free_of after.view u = subst (λ n. 0 < n) (sym (home.frees u other)) alone.free in (
+          record {
+            free = free;
+            off = λ p class among. alone.off p class (subst (λ (z : StockValue). Contains (titles_in z.caches p class) u) home.same among);
+            well = alone.well;
+          },
+          home.numbers alone.well.0 u alone.well.1 free,
+        )
+
     by_class : (k : Option ℕ) → h.class ≡ k →
         ComesHome k s.thread h.partition line (without_title h.title w) after.view (note_of_title h.title w) h.title →
         DoesOp line op (answers.Done (seen_at h word)) s after
@@ -170,7 +182,7 @@ home_does stays op step h word line s after w rs is of bare home = by_class h.cl
         (give_entry line h.partition (supers_for h.title.len) takes.first)
         (Unmap takes.asked (at_number_seen note h.title)) y after.view takes.enters (omega arith) refl
         (uncut_tells line h.title y after.view)))
-        of.number lists
+        others of.number lists
     by_class (Some class) class_is (index, one) =
         let acts_are : Give (numbered_by note (h.title ∷ [])) ∷ [] ≡ gives (left_at h word ∷ []) =
         ap (λ x. Give (x ∷ []) ∷ []) (in_note op step h word s w rs of) in
@@ -178,6 +190,7 @@ home_does stays op step h word line s after w rs is of bare home = by_class h.cl
         (left_at h word ∷ []) of class_is thread partitions plain version registers
         (entering_both s.thread line [] (Entered h.partition one.made ∷ []) w y after.view (left_enters s.thread line h.title w)
         (one_enters index s.thread h.partition line (Give (numbered_by note (h.title ∷ []))) y after.view one (omega arith)))
+        others
         (ap (λ n. n ∷ []) one.is_made.says ∙ ap (λ done. map root_numbers (map (root_entry line) done)) acts_are)
         (λ real.
         let none = bare class class_is real in
@@ -237,6 +250,7 @@ spill_does stays op step h class word line s after w rs is sound of class_is sma
       grows = λ t. subst (λ (v : View). seen_of w t ≤ seen_of v t) (sym view) (given.grows t);
       each = tail_tells line h.partition (gives (drop keep (listed_in mid h.partition class))) ms w after.view (omega arith) given.says;
     })
+    others
     (given.says ∙ ap (λ done. map root_numbers (map (root_entry line) done))
     (ap (λ xs. gives (drop keep xs)) (before_lists h.partition class) ∙ sym (ap gives over.1)))
     (λ real. (refl, lists))
@@ -311,6 +325,21 @@ spill_does stays op step h class word line s after w rs is sound of class_is sma
         sym (length-set spills.between.caches.lists (cache_place spills.between.caches.version h.partition class)
         (record { class = class; titles = h.title ∷ titles_in spills.between.caches h.partition class }))
         ∙ subst (λ (cs : WorkerLists). length cs.lists ≡ 4 * class_total cs.version) caches sound.lists.count
+
+    -- what is free and on no list isn't given back, nor put on a list
+    others : KeepsOthers h.title (record s { view = w; registers = rs }) after
+    others u other alone =
+        let still : 0 < free_of spills.between.view u = subst (λ n. 0 < n) (sym (given.frees u alone.off)) alone.free in (
+          record {
+            free = subst (λ (v : View). 0 < free_of v u) (sym view) still;
+            off = λ q d among.
+                front_off spills.between.caches h.partition class h.title u low real_between long_between other
+                (λ p c there. alone.off p c (given.listed p c u (subst (λ ts. Contains ts u) (given.kept p c) there))) q d
+                (subst (λ (cs : WorkerLists). Contains (titles_in cs q d) u) caches among);
+            well = alone.well;
+          },
+          ap (λ (v : View). seen_of v u) view ∙ given.numbers alone.well.0 u alone.well.1 still,
+        )
 
     -- a title that is on a list at the end is free then, so it has the number that was seen after the step
     end_number : (q d : ℕ) (t : Title) → Contains (titles_in after.caches q d) t → seen_of after.view t ≡ seen_of w t

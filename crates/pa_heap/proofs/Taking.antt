@@ -9,7 +9,7 @@ use Rattle.pa_heap.proofs.Ruling.{class_as}
 use Rattle.pa_record.specs.declared.entry.Seen.{Seen}
 use Rattle.pa_record.specs.declared.numbered.Numbered.{Numbered}
 use Rattle.pa_record.specs.Spans.{name_of}
-use Rattle.pa_lists.proofs.Members.{not_in_none, first_in}
+use Rattle.pa_lists.proofs.Members.{not_in_none, first_in, later_in}
 use Rattle.pa_region.specs.declared.view.Entry.TheVariants.{Uncut}
 use Rattle.pa_region.specs.declared.view.View.{View}
 use Rattle.pa_region.specs.Views.{seen_of}
@@ -25,6 +25,7 @@ use Rattle.pa_thread_state.proofs.Places.{titles_here}
 use Rattle.pa_thread_state.proofs.Relisting.{listed_cases, relisted}
 use Rattle.pa_op_specs.proofs.Entered.{entering_none}
 use Rattle.pa_op_specs.proofs.AskedFor.{asks_none}
+use Rattle.pa_heap.proofs.Apart.{set_off}
 use Rattle.pa_heap.proofs.Issuing.{Bringing}
 
 -- the first of titles that differ isn't among the others
@@ -75,6 +76,16 @@ front_brings line size p c t s mid front is low class = record {
   makes = λ pools a x r is_op first among. absurd (not_in_none a among);
   fills = λ a among. absurd (not_in_none a among);
   usable = ap (λ n. n - 8) (front.long ∙ sym (sizes_fit.class s.caches.version size c class));
+  apart = λ u alone. (
+    record {
+      free = alone.free;
+      off = set_off s.caches p c front.rest u low front.real is.lists.count
+          (λ among. alone.off p c (subst (λ ts. Contains ts u) (sym front.was) (later_in t u front.rest among))) alone.off;
+      well = alone.well;
+    },
+    refl,
+  );
+  lacks = λ alone. alone.off p c (subst (λ ts. Contains ts t) (sym front.was) (first_in t front.rest));
   rows = λ roots x r seen after is_op first only slot number same. inl (
     p,
     c,

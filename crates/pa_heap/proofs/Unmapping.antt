@@ -26,7 +26,7 @@ use Rattle.pa_region.specs.Views.{seen_of}
 use Rattle.pa_region.specs.Lists.{list_of}
 use Rattle.pa_rules.specs.Played.{mark_at}
 use Rattle.pa_rules.specs.Registers.{Row}
-use Rattle.pa_rules.specs.Caches.{IsDirect, SameLists, acts_of, OnlyActs}
+use Rattle.pa_rules.specs.Caches.{CacheRow, IsDirect, SameLists, acts_of, OnlyActs}
 use Rattle.pa_rules.specs.Roots.{MakesEntry}
 use Rattle.pa_lists.proofs.Parts.{parts_at}
 use Rattle.pa_logs.proofs.Filters.{get_in}
@@ -37,7 +37,7 @@ use Rattle.pa_pool.specs.Calls.{give_entry}
 use Rattle.pa_root.specs.Handing.{UnmapTakes, at_number_seen, root_entry}
 use Rattle.pa_cells.specs.declared.handle.Handle.{Handle}
 use Rattle.pa_cells.specs.Handles.{HandsOut, HasSeenMade, SlotsStaySeen}
-use Rattle.pa_step_order.specs.Signs.{Stepped}
+use Rattle.pa_step_order.specs.Signs.{Stepped, HasItsSigns}
 use Rattle.pa_step_order.proofs.Shaping.{shapes_have_signs}
 use Rattle.pa_op_specs.specs.Stocks.{StockRegister, StockValue, regs_of, listed_in}
 use Rattle.pa_op_specs.specs.Outcomes.{Outcome, IsOutcome, IsSeenOf, row_facts, FillsFrom}
@@ -48,7 +48,8 @@ use Rattle.pa_thread_state.proofs.Looking.{seen_at}
 use Rattle.pa_op_specs.proofs.Owing.{owes_done}
 use Rattle.pa_op_specs.proofs.Quiet.{quiet_record}
 use Rattle.pa_op_specs.proofs.Entered.{Entering, LineActs, acts_in, entered_does, entering_both, makes_each, none_here, touched_enters, unmaps_next}
-use Rattle.pa_heap.proofs.Given.{HasReturned, not_full, same_found, step_no_uncut}
+use Rattle.pa_heap.proofs.Apart.{KeepsOthers}
+use Rattle.pa_heap.proofs.Given.{HasReturned, returned_apart, not_full, same_found, step_no_uncut}
 
 -- the slot of a handle without a class is a direct map in any run that fits
 direct_in_run : (o : Outcome) (v : View) (h : Handle) → IsSeenOf o v → HasSeenMade h v → h.class ≡ None →
@@ -80,13 +81,16 @@ pub unmap_does : SlotsStaySeen →
     after.caches.version ≡ s.caches.version → after.registers ≡ rs →
     (takes : UnmapTakes s.thread h.partition line y after.view note h.title) →
     Entering s.thread line (behind h.title takes.enters.pool h.partition takes.enters.made) w after.view →
+    KeepsOthers h.title (record s { view = w; registers = rs }) after →
     seen_of note h.title ≡ number_of word + 1 →
     SameLists (listed_in after) (listed_in s) →
     DoesOp line op (answers.Done (seen_at h word)) s after
-unmap_does stays op step h word line s after w rs y note is direct thread partitions plain version registers takes came number lists =
+unmap_does stays op step h word line s after w rs y note is direct thread partitions plain version registers takes came others
+    number lists =
     entered_does s after line op (answers.Done (seen_at h word)) es thread partitions plain version
     (entering_both s.thread line (c ∷ []) (behind h.title pool h.partition made) s.view w after.view
     (touched_enters s.thread line (c ∷ []) s.view w is.touched) came)
+    (returned_apart op step h word s after w rs is others)
     (λ phase. record {
       cells = λ list none. is.cells list (x phase) none;
       it = it phase;
@@ -102,6 +106,7 @@ unmap_does stays op step h word line s after w rs y note is direct thread partit
       words = λ refused. absurd refused;
       answers = λ o run many rules sees line_acts. answers_in phase o run sees line_acts;
     })
+    (λ phase o run many rules sees line_acts. (signs_in phase o run line_acts, leads_in phase o sees line_acts))
   where
     low : h.partition < 4
     low = is.made.partition
@@ -236,28 +241,44 @@ unmap_does stays op step h word line s after w rs y note is direct thread partit
             absurd (not_in_none (Unmap index slot)
             (subst (λ done. Contains done (Unmap index slot)) (line_acts.past q (grind (arith, nat_tests))) among))
 
+    unmap : RootAct
+    unmap = Unmap takes.asked (at_number_seen note h.title)
+
+    seen_made : HasSeenMade h after.view
+    seen_made = stays h w after.view is.made (came.lists h.partition)
+
+    only_in : (phase : ℕ) (o : Outcome) → LineActs o (x phase) (it phase) → OnlyActs o.roots line h.partition (unmap ∷ [])
+    only_in phase o line_acts = (
+      line_acts.here h.partition low ∙ ap acts_in (own (h.partition == h.partition) refl),
+      λ q differs. none_here o (x phase) (it phase) line_acts q (other q (q == h.partition) refl differs),
+    )
+
+    leads_in : (phase : ℕ) (o : Outcome) → IsSeenOf o after.view → LineActs o (x phase) (it phase) →
+        CacheRow o.partitions o.roots (x phase).played (answers.Done (seen_at h word)) (listed_in s) (listed_in after)
+    leads_in phase o sees line_acts =
+        is.lists o.partitions line phase o.roots (listed_in s) (listed_in after) (inr (
+          h.partition,
+          takes.asked,
+          seen_of note h.title,
+          direct_in_run o after.view h sees seen_made direct,
+          only_in phase o line_acts,
+          lists,
+        ))
+
+    signs_in : (phase : ℕ) (o : Outcome) → IsOutcome o → LineActs o (x phase) (it phase) → HasItsSigns o.partitions o.roots (x phase)
+    signs_in phase o run line_acts =
+        ap (λ ys. Stepped ∷ ys)
+        (shapes_have_signs.asked line h.partition takes.asked unmap pool made low takes.enters.is_made.says refl
+        ∙ shapes_have_signs.only o.partitions line h.partition o.roots (unmap ∷ []) run.past (only_in phase o line_acts))
+
     answers_in : (phase : ℕ) (o : Outcome) → IsOutcome o → IsSeenOf o after.view →
         LineActs o (x phase) (it phase) → AnswersIn o s after (x phase)
     answers_in phase o run sees line_acts =
-        let seen_made = stays h w after.view is.made (came.lists h.partition) in
         let slot = slot_in_run o after.view h run sees seen_made in
-        let unmap : RootAct = Unmap takes.asked (at_number_seen note h.title) in
-        let only : OnlyActs o.roots line h.partition (unmap ∷ []) = (
-          line_acts.here h.partition low ∙ ap acts_in (own (h.partition == h.partition) refl),
-          λ q differs. none_here o (x phase) (it phase) line_acts q (other q (q == h.partition) refl differs),
-        ) in
         record {
           told = is.told o.sizes es ([], tt, ap (λ u. Counted u step word 0 ∷ []) (sym slot.title));
           row = subst (λ r. Row (row_facts o) op (regs_of s.registers) (answers.Done (seen_at h word)) (regs_of r))
               (sym registers) (is.row o);
-          lists = is.lists o.partitions line phase o.roots (listed_in s) (listed_in after) (inr (
-            h.partition,
-            takes.asked,
-            seen_of note h.title,
-            direct_in_run o after.view h sees seen_made direct,
-            only,
-            lists,
-          ));
           reader = is.reader o (x phase);
           unmaps = unmaps_next o.roots (x phase).played
               (λ q asked slot among seen done. at_step phase o line_acts q asked slot among ∙
@@ -269,7 +290,4 @@ unmap_does stays op step h word line s after w rs y note is direct thread partit
             h.partition,
             home_of o h.partition (mark_at line (seen_at h word) (Some step)) m (sym (is.mark line) ∙ e) slot.size,
           );
-          signs = ap (λ ys. Stepped ∷ ys)
-              (shapes_have_signs.asked line h.partition takes.asked unmap pool made low takes.enters.is_made.says refl
-              ∙ shapes_have_signs.only o.partitions line h.partition o.roots (unmap ∷ []) run.past only);
         }

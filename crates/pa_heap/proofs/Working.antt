@@ -24,7 +24,7 @@ pub plays_op : (line : ℕ) (op : Op) (answer : Answer) (before after : WorkerVa
     DoesOp line op answer before.stock after.stock →
     CountsOp line op answer before.stock after.stock before.counts after.counts before.owed after.owed → PlaysOp line op answer before after
 plays_op line op answer before after records does counts phase =
-    let (x, is, done, none) = does phase in (
+    let (x, is, done, leads, none) = does phase in (
       x,
       is,
       record {
@@ -33,6 +33,7 @@ plays_op line op answer before after records does counts phase =
         counts = λ o fits. (counts phase x is done o fits).0;
         bytes = λ o fits. op_books o.homes o.sizes x before after done none (counts phase x is done o fits).1;
       },
+      leads,
     )
 
 -- The same by what the calls leave: the thread state, the records with one more, the counts, and what is owed.
@@ -44,7 +45,7 @@ pub worker_plays : (line : ℕ) (op : Op) (answer : Answer) (w : WorkerValue) (a
     CountsOp line op answer w.stock after w.counts counts w.owed owed →
     PlaysOp line op answer w (record { stock = after; records = records; room = room; stopped = stopped; counts = counts; owed = owed })
 worker_plays line op answer w after records counts owed thread room stopped items at does counted =
-    let (x, is, done, none) = does 0 in
+    let (x, is, done, leads, none) = does 0 in
     plays_op line op answer w (record { stock = after; records = records; room = room; stopped = stopped; counts = counts; owed = owed })
     (items ∙ ap (λ k. w.records ++ record { line = line; thread = k; answer = answer } ∷ []) (at ∙ done.same.0)) does counted
 
@@ -54,7 +55,7 @@ pub worker_goes_on : (line : ℕ) (op : Op) (answer : Answer) (w : WorkerValue) 
     (owed : List Owed) (e : Entry) → records ≡ w.records ++ e ∷ [] → CanPlayOp w → DoesOp line op answer w.stock after →
     KeepsOn w (record { stock = after; records = records; room = w.room; stopped = w.stopped; counts = counts; owed = owed })
 worker_goes_on line op answer w after records counts owed e items can does =
-    let (x, is, done, none) = does 0 in
+    let (x, is, done, leads, none) = does 0 in
     record {
       going = can.going;
       stake = subst (λ k. 0 < stake_of after.view k) (sym done.same.0)
@@ -77,7 +78,7 @@ pub covered_after : (line : ℕ) (op : Op) (answer : Answer) (before after : Sto
     ((q : ℕ) → owed_in q rs ≤ owed_in q os + owed_by q (step_in op answer) (bytes_stepped before.registers op answer)) →
     HasItsStake before → IsCovered os before → IsCovered ps after
 covered_after line op answer before after os ps rs does owes less stake covered =
-    let (x, is, done, none) = does 0 in
+    let (x, is, done, leads, none) = does 0 in
     subst (λ (zs : List Owed). IsCovered zs after) (sym owes)
     (op_covered before after x os rs done none
     (λ q. subst (λ (y : Played). owed_in q rs ≤ owed_in q os + owed_by q (step_by y) (bytes_stepped before.registers y.op y.answer))

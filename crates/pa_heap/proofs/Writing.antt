@@ -110,7 +110,7 @@ filled_does counts looks owns states fills n s reg value first word h is aware s
     (record { room = λ j e. cc; no_swap = λ j e. cc; cells = λ list x empty. empty })
     (owes_done s.registers (ops.Write reg value) (seen_at h word) t.len (Looked t first ∷ Counted t steps.Write word value ∷ [])
     (Looked t first ∷ [], ((first, refl), tt), refl) (ap bytes_in own)) (λ refused. absurd refused)
-    (λ line phase o run rules sees no_acts same.
+    (λ line phase o run rules sees.
     let slot = slot_in_run o w h run sees (made_kept h s.view w refl knows.1) in
     record {
       told = (
@@ -119,10 +119,10 @@ filled_does counts looks owns states fills n s reg value first word h is aware s
         ap (λ x. Looked x first ∷ Counted x steps.Write word value ∷ []) (sym slot.title),
       );
       row = write_row (register_in s.registers reg) h word (regs_of s.registers) own can.0.1;
-      lists = inr (λ z. z, no_acts, same);
       reader = tt;
       home = λ m e. (h.partition, home_of o h.partition (mark_at line (seen_at h word) (Some steps.Write)) m e slot.size);
     })
+    (λ line phase o no_acts same. inr (λ z. z, no_acts, same))
 
 -- what was seen is what a step or a look at the handle's slot found
 seen_is : (h : Handle) (seen : Seen) → seen.slot ≡ name_of h.title → seen ≡ seen_at h seen.found.0

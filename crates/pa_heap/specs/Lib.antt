@@ -1,2 +1,4 @@
 pub mod Closing
 pub mod Stopping
+pub mod Waiting
+pub mod Leaving

@@ -12,6 +12,7 @@ mod exchanges;
 mod frees;
 mod left;
 mod purges;
+mod queues;
 mod reads;
 mod resets;
 mod worker;
@@ -19,4 +20,5 @@ mod writes;
 
 pub use closing::close;
 pub use left::Left;
+pub use queues::{drain_all, wait_behind};
 pub use worker::Worker;

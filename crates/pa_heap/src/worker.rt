@@ -11,7 +11,9 @@ ghost use Rattle.pa_link.specs.Chains.{slot_names};
 ghost use Rattle.pa_op_specs.specs.Stocks.{IsForThread, listed_in, titles_in};
 ghost use Rattle.pa_totals.specs.Settled.{none_owed};
 ghost use Rattle.pa_op_specs.specs.Workers.{IsWorker, IsNewWorker, HasItsStake, worker_with_view};
+ghost use Rattle.pa_op_specs.specs.Plays.{KeepsApart};
 ghost use Rattle.pa_op_specs.specs.Settling.{settled_worker};
+ghost use Rattle.pa_thread_state.specs.Changes.{StaysMade};
 ghost use Rattle.pa_heap.specs.Closing.{HasTold};
 
 use crate::counts::{START, owed_none};
@@ -98,7 +100,8 @@ impl<N: Name> Worker<N> {
         self.stock.tell(heap.region())
     }
 
-    /// Takes the stake back, with what the note has seen, if it owes nothing. The lists are as they were, each title at its number.
+    /// Takes the stake back, with what the note has seen, if it owes nothing. The lists are as they were, each title at its number,
+    /// and so is what it has free and on no list.
     pub fn hear(&mut self, heap: &Heap<N>, note: Note)
         requires region { note.region ≡ N.region }
         requires none { (k : ℕ) → stake_of self.old.stock.view k ≡ 0 }
@@ -106,6 +109,8 @@ impl<N: Name> Worker<N> {
         requires note { IsForThread self.old.stock.thread note.view }
         ensures heard { self.new ≡ worker_with_view (united self.old.stock.view note.view) self.old }
         ensures lists { SameLists (listed_in self.new.stock) (listed_in self.old.stock) }
+        ensures apart { KeepsApart self.old.stock self.new.stock }
+        ensures made { StaysMade self.old.stock self.new.stock }
     {
         self.stock.hear(heap.region(), note);
         self.stock.kept();

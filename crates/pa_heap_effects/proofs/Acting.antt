@@ -23,7 +23,7 @@ use Rattle.pa_rules.specs.Played.{step_of}
 use Rattle.pa_rules.specs.Roots.{Journals, IsEntry, MakesEntry, IsFull}
 use Rattle.pa_rules.specs.Caches.{Cache, Caches, with_list, acts_of, OnlyActs, NoActs, FilledFirst, DoneRow, CacheRow}
 use Rattle.pa_legal.specs.Numbers.{moves_of, at_end, IsNumbered}
-use Rattle.pa_legal.specs.Known.{UnmapsNext}
+use Rattle.pa_legal.specs.Flows.{UnmapsNext}
 use Rattle.pa_heap_effects.specs.Deeds.{entries_at, grown, root_at, root_after, ActsFit, IsPlacedTo, IsDeed}
 use Rattle.pa_heap_effects.specs.Pooled.{pool_at, Asks, IsDone}
 use Rattle.pa_heap_effects.specs.Ops.{no_acts, only_in, IsCalled, KeepsLists, NothingMoves, FrontLeaves}

@@ -15,7 +15,7 @@ use Rattle.pa_rules.specs.declared.played.Played.{Played}
 use Rattle.pa_rules.specs.Roots.{Journals, IsEntry, MakesEntry, MakesFull, IsFull}
 use Rattle.pa_rules.specs.Caches.{Cache, Caches, with_cache, no_caches}
 use Rattle.pa_legal.specs.Numbers.{moves_of, IsNumbered}
-use Rattle.pa_legal.specs.Known.{UnmapsNext}
+use Rattle.pa_legal.specs.Flows.{UnmapsNext}
 use Rattle.pa_heap_effects.specs.Deeds.{Acts, entries_at, grown, root_at, root_after, IsPlacedTo, IsDeed}
 use Rattle.pa_heap_effects.specs.Laws.{LineExtends, LineReplays}
 use Rattle.pa_heap_effects.proofs.Growing.{IsMore, grown_cases, grown_old, lines_before, journal_more, sorted_more}

@@ -21,7 +21,7 @@ use Rattle.pa_rules.proofs.Flowing.{not_once}
 use Rattle.pa_rules.specs.Holders.{Way, Out, Back, Move, moves_by}
 use Rattle.pa_legal.specs.Turns.{is_out}
 use Rattle.pa_legal.specs.Numbers.{is_of, moves_of, HasAt, at_end, IsNumbered}
-use Rattle.pa_legal.proofs.flow.Counts.{is_back}
+use Rattle.pa_legal.specs.Flows.{is_back}
 use Rattle.pa_legal.proofs.Standing.{counted, had, walk, acts_out, acts_back, journal_out, journal_back, none_had}
 use Rattle.pa_heap_effects.specs.Deeds.{entries_at, ActsFit}
 use Rattle.pa_heap_effects.proofs.Growing.{least_push}

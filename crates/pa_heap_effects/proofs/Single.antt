@@ -24,7 +24,7 @@ use Rattle.pa_rules.specs.Roots.{Journals, IsEntry, MakesEntry, IsFull}
 use Rattle.pa_rules.specs.Caches.{Cache, Caches, OnlyActs, CacheRow}
 use Rattle.pa_rules.proofs.Naming.{asked_is}
 use Rattle.pa_rules.proofs.Owned.{title_of}
-use Rattle.pa_legal.specs.Known.{UnmapsNext}
+use Rattle.pa_legal.specs.Flows.{UnmapsNext}
 use Rattle.pa_heap_effects.specs.Deeds.{entries_at, grown, root_at, IsPlacedTo}
 use Rattle.pa_heap_effects.specs.Pooled.{pool_at, Asks}
 use Rattle.pa_heap_effects.specs.Ops.{only_in, IsCalled}

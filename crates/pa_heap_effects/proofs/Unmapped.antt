@@ -30,7 +30,7 @@ use Rattle.pa_rules.specs.Roots.{Journals}
 use Rattle.pa_rules.specs.Caches.{Caches, IsDirect, CacheRow, unmap_at}
 use Rattle.pa_rules.specs.Holders.{Out, Back, Move, move_of}
 use Rattle.pa_rules.proofs.Owned.{title_of}
-use Rattle.pa_legal.specs.Known.{UnmapsNext}
+use Rattle.pa_legal.specs.Flows.{UnmapsNext}
 use Rattle.pa_heap_effects.specs.Deeds.{grown, root_at, IsPlacedTo}
 use Rattle.pa_heap_effects.specs.Pooled.{pool_at}
 use Rattle.pa_heap_effects.specs.Ops.{only_in, Returns, unmap_made, UnmapIsDone}

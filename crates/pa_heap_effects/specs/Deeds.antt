@@ -14,7 +14,7 @@ use Rattle.pa_rules.specs.Roots.{Journals, IsEntry, MakesEntry, IsFull}
 use Rattle.pa_rules.specs.Order.{IsOfLine}
 use Rattle.pa_rules.specs.Caches.{Cache, Caches, CacheRow, CachesTo, no_caches}
 use Rattle.pa_legal.specs.Numbers.{moves_of, at_end, IsNumbered, AreNumbered}
-use Rattle.pa_legal.specs.Known.{UnmapsNext}
+use Rattle.pa_legal.specs.Flows.{UnmapsNext}
 
 -- the acts of a line, by partition
 abbrev pub Acts : Type 0

@@ -23,7 +23,6 @@ use Rattle.pa_record.proofs.Leaving.{out_is_left}
 use Rattle.pa_rules.specs.declared.played.Played.{Played}
 use Rattle.pa_rules.specs.Played.{mark_at, marks_of}
 use Rattle.pa_rules.specs.Roots.{Journals, AreRoots, IsPoolOf}
-use Rattle.pa_rules.specs.Caches.{AreCaches}
 use Rattle.pa_rules.specs.Holders.{Holder, Way, Out, Back, Move, move_of, moves_by, is_move_of, moves_at, IsFirstHolder, IsOfSlot, made_by, MovesFit, HasHolders, AreHolders}
 use Rattle.pa_rules.specs.Told.{records_of}
 use Rattle.pa_rules.proofs.Numbering.{lines_rise, rising_differ}
@@ -32,11 +31,11 @@ use Rattle.pa_rules.proofs.Recorded.{records_are_lines}
 use Rattle.pa_rules.proofs.Running.{OtherRecord}
 use Rattle.pa_legal.specs.Turns.{is_out, is_with}
 use Rattle.pa_legal.specs.Numbers.{all_moves, is_of, moves_of, HasAt, at_after, IsNumbered, AreNumbered}
-use Rattle.pa_legal.specs.Known.{UnmapsNext, FindsInUse, LegalIsKnown}
-use Rattle.pa_legal.proofs.flow.Counts.{is_back}
+use Rattle.pa_legal.specs.Flows.{UnmapsNext, is_back, SlotsFlow}
+use Rattle.pa_legal.specs.Known.{FindsInUse, LegalIsKnown}
+use Rattle.pa_legal.proofs.flow.Flowing.{caches_flow}
 use Rattle.pa_legal.proofs.holders.Alternating.{away_at, hit_after, miss_same}
 use Rattle.pa_legal.proofs.holders.Held.{first_away, needed_way, made_way}
-use Rattle.pa_legal.proofs.holders.Records.{unmap_returns}
 use Rattle.pa_legal.proofs.holders.Gone.{below, marked, gone_from}
 use Rattle.pa_legal.proofs.Standing.{counted, had, acts_out, acts_back}
 use Rattle.pa_lists.proofs.Indexed.{in_at}
@@ -283,15 +282,15 @@ done_is a b e = cc
 
 unmaps_follow : (supers partitions : ℕ) (ps : List Played) (pools : List PoolEntry) (roots : Journals)
     → AreRoots partitions ps pools roots → IsPoolOf supers ps pools roots → AllPairs OtherRecord ps → Slots (marks_of ps) →
-    AreCaches partitions roots ps → AreHolders ps roots → ((x : Played) → Contains ps x → FindsInUse x) → (x : Played) → Contains ps x →
+    SlotsFlow partitions roots ps → AreHolders ps roots → ((x : Played) → Contains ps x → FindsInUse x) → (x : Played) → Contains ps x →
     UnmapsNext roots x
-unmaps_follow supers partitions ps pools roots r h lines slots caches holders used x among seen p asked slot e answer member line is =
-    let real = below supers partitions ps pools roots r h lines slots caches p e member in
-    let back = unmap_returns partitions roots ps x e p asked slot caches real among member line is in
+unmaps_follow supers partitions ps pools roots r h lines slots flows holders used x among seen p asked slot e answer member line is =
+    let real = below supers partitions ps pools roots r h lines slots flows p e member in
+    let back = flows.maps x e p asked slot real among member line is in
     let same : seen ≡ back.seen = done_is seen back.seen (sym answer ∙ back.answer) in
     let number : number_of seen.found.0 ≡ number_of back.seen.found.0 = ap (λ (z : Seen). number_of z.found.0) same in
     let (i, at) = in_at (roots p) e member in
-    let mark = marked supers partitions ps pools roots r h lines slots caches used slot.slot x back among in
+    let mark = marked supers partitions ps pools roots r h lines slots flows used slot.slot x back among in
     let before = holders.gone_from_records p i asked (number_of back.seen.found.0) slot e x at is among
     (mark_at x.line back.seen (Some back.step), mark, back.slot, refl) in
     let move : Contains (moves_at (roots p) slot.slot slot.number) (move_of e.line Back slot) =
@@ -300,7 +299,7 @@ unmaps_follow supers partitions ps pools roots r h lines slots caches holders us
     (subst (λ a. Contains (moves_by e.line a) (move_of e.line Back slot)) (sym is) (first_in (move_of e.line Back slot) [])))
     (rw (same_slot_yes slot.slot slot.slot refl, eq-eqb slot.number slot.number refl) refl) in
     by_first (first_of (moves_at (roots p) slot.slot slot.number) (holders.moves p slot.slot slot.number) move)
-    (λ z n there of. gone_from supers partitions ps pools roots r h lines slots caches used slot.slot x back among z n there of) number
+    (λ z n there of. gone_from supers partitions ps pools roots r h lines slots flows used slot.slot x back among z n there of) number
     before
   where
     first_of : (ms : List Move) → HasHolders ps slot.slot slot.number ms → Contains ms (move_of e.line Back slot) → (holder : Holder) ×
@@ -321,6 +320,7 @@ legal_is_known t r legal used =
     let ps = records_of t r in
     let lines = rising_differ ps
     (lines_rise (rules_of t) t.lines ps (records_are_lines.lines (rules_of t) t.lines r.entries legal.lines)) in
+    let flows = caches_flow t.partitions ps r.pools r.roots legal.roots.journals legal.caches in
     record {
       lines = legal.lines;
       cells = legal.cells;
@@ -329,11 +329,9 @@ legal_is_known t r legal used =
       contents = legal.contents;
       pool = legal.pool;
       roots = legal.roots;
-      caches = legal.caches;
+      flows = flows;
       seen = legal.seen;
-      report = legal.report;
       numbers = numbers_follow t.partitions ps r.pools r.roots legal.roots legal.holders;
-      unmaps = unmaps_follow t.region t.partitions ps r.pools r.roots legal.roots legal.pool lines legal.slots legal.caches legal.holders
-          used;
+      unmaps = unmaps_follow t.region t.partitions ps r.pools r.roots legal.roots legal.pool lines legal.slots flows legal.holders used;
       used = used;
     }

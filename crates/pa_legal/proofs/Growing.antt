@@ -7,7 +7,7 @@ use Rattle.pa_rules.specs.Holders.{Move, moves_by, Way, Out, Back}
 use Rattle.pa_legal.specs.Numbers.{all_moves, is_of, moves_of, at_after, IsNumbered, at_end, NumbersGrow}
 use Rattle.pa_legal.proofs.Standing.{counted}
 use Rattle.pa_legal.specs.Turns.{is_out}
-use Rattle.pa_legal.proofs.flow.Counts.{is_back}
+use Rattle.pa_legal.specs.Flows.{is_back}
 use Rattle.std.proofs.lemmas.List.Sums.{sum_by-cons}
 
 pub numbered_append : (at : Option ℕ) (ms ns : List Move) → IsNumbered at ms → IsNumbered (at_end at ms) ns → IsNumbered at (ms ++ ns)

@@ -14,10 +14,9 @@ use Rattle.pa_rules.specs.Played.{mark_of_answer}
 use Rattle.pa_rules.specs.Roots.{Journals}
 use Rattle.pa_rules.specs.Holders.{WithThread, Move, moves_at, IsHeld}
 use Rattle.pa_rules.proofs.FourPlaces.{HasLeft}
+use Rattle.pa_legal.specs.Flows.{is_issue_at, marked, issues_at}
 use Rattle.pa_legal.specs.Known.{AreKnown, HoldersFollow}
 use Rattle.pa_legal.proofs.Titling.{one_partition}
-use Rattle.pa_legal.proofs.flow.Rows.{is_issue_at, marked}
-use Rattle.pa_legal.proofs.flow.Threads.{issues_at}
 use Rattle.pa_legal.proofs.holders.Alternating.{moved_left}
 use Rattle.pa_legal.proofs.holders.Held.{moves_hold, issuer_holds}
 use Rattle.pa_legal.proofs.holders.Records.{made_left}
@@ -40,7 +39,7 @@ module _ (supers partitions : ℕ) (ps : List Played) (pools : List PoolEntry) (
   issuer : (x : Played) (seen : Seen) (usable : ℕ) → Contains ps x → x.answer ≡ Made seen usable →
       IsHeld ps roots seen.slot (number_of seen.found.0) (WithThread x.thread)
   issuer x seen usable among is =
-      let (p, left) = made_left partitions roots ps x seen usable a.caches among is in
+      let (p, left) = made_left roots x seen.slot (a.flows.made x seen usable among is) in
       let k = number_of seen.found.0 in
       let (h, first, last) = issuer_holds supers partitions ps pools roots a seen.slot k p x left among (issued x seen usable is) in
       (p, h, λ q other. not_moved p q k seen.slot (moves_at (roots q) seen.slot k) left other refl, first, last)

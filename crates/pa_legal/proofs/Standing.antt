@@ -28,7 +28,7 @@ use Rattle.pa_rules.proofs.FourPlaces.{slot_once}
 use Rattle.pa_rules.proofs.Totals.{some_cached}
 use Rattle.pa_legal.specs.Turns.{is_out}
 use Rattle.pa_legal.specs.Numbers.{all_moves, is_of, moves_of, HasAt, at_after, at_end, IsNumbered, OutNone, CachedOut}
-use Rattle.pa_legal.proofs.flow.Counts.{is_back}
+use Rattle.pa_legal.specs.Flows.{is_back}
 
 -- ---- how often a slot moves
 

@@ -1,4 +1,5 @@
 pub mod Turns
+pub mod Flows
 pub mod Numbers
 pub mod Kinds
 pub mod Known

@@ -1,5 +1,6 @@
 ghost use Rattle.pa_legal.specs.Kinds.{OneKind};
-ghost use Rattle.pa_legal.specs.Known.{HoldersFollow, LegalFollows, LegalIsKnown, NewMaps};
+ghost use Rattle.pa_legal.specs.Flows.{CachesFlow};
+ghost use Rattle.pa_legal.specs.Known.{ClausesFollow, HoldersFollow, LegalFollows, LegalIsKnown, NewMaps};
 ghost use Rattle.pa_legal.specs.Numbers.{CachedOut, NumbersGrow, OutNone, Unnamed};
 ghost use Rattle.pa_legal.specs.Owners.{HandlesArePut, LegalHasHandles, OwnersFindTheBit};
 ghost use Rattle.pa_legal.specs.Tallies.{TalliesFollow};
@@ -21,14 +22,24 @@ pub fn one_kind()
     ensures { OneKind }
 {}
 
-/// The law that each free slot has one holder, from the caches, the roots, the pool,
+/// The law that slots flow from the roots to the threads and back as the laws above need it, if a run's caches are legal.
+pub fn caches_flow()
+    ensures { CachesFlow }
+{}
+
+/// The law that each free slot has one holder, from how slots flow, the roots, the pool,
 /// the slots and the numbers at which a root has each slot.
 pub fn holders_follow()
     ensures { HoldersFollow }
 {}
 
-/// The law that a run is legal if each of its clauses is known but the titles and the holders,
-/// and so are the numbers at which a root has each slot.
+/// The law that a run has all clauses but those of the caches and of the report if each of them is known but the titles and
+/// the holders, and so are the numbers at which a root has each slot and how slots flow.
+pub fn clauses_follow()
+    ensures { ClausesFollow }
+{}
+
+/// The law that a run is legal if it has these clauses, and those of the caches and of the report.
 pub fn legal_follows()
     ensures { LegalFollows }
 {}

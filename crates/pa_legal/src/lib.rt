@@ -5,7 +5,7 @@
 mod laws;
 
 pub use laws::{
-    cached_out, handles_are_put, holders_balance, holders_follow, legal_follows, legal_has_handles,
-    legal_is_known, new_maps, numbers_grow, one_kind, out_none, owners_find_the_bit,
-    tallies_follow, unnamed,
+    cached_out, caches_flow, clauses_follow, handles_are_put, holders_balance, holders_follow,
+    legal_follows, legal_has_handles, legal_is_known, new_maps, numbers_grow, one_kind, out_none,
+    owners_find_the_bit, tallies_follow, unnamed,
 };

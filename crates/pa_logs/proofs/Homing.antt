@@ -7,18 +7,15 @@ use Rattle.pa_slot.specs.declared.title.Title.{Title}
 use Rattle.pa_slot.specs.declared.word.SlotName.{SlotName}
 use Rattle.pa_slot.specs.declared.word.Step.{Step}
 use Rattle.pa_slot.specs.declared.word.Step.TheVariants as steps
-use Rattle.pa_slot.specs.Count.{CanStep, number_of, held_of, refs_of}
+use Rattle.pa_slot.specs.Count.{CanStep, held_of, refs_of}
 use Rattle.pa_slot.specs.Run.{Mark, IsFirstAt, IsRunFrom, IsOneRun, same_slot}
 use Rattle.pa_slot.proofs.Runs.{same_slot_eq, same_slot_yes, issue_first}
 use Rattle.pa_buckets.specs.Table.{slot_of}
-use Rattle.pa_trace.specs.declared.script.Op.TheVariants as ops
 use Rattle.pa_trace.specs.declared.script.Rules.{Rules}
 use Rattle.pa_record.specs.declared.entry.Seen.{Seen}
 use Rattle.pa_record.specs.declared.entry.Answer.{Answer}
 use Rattle.pa_record.specs.declared.entry.Answer.TheVariants as answers
-use Rattle.pa_record.specs.declared.numbered.Numbered.{Numbered}
 use Rattle.pa_record.specs.declared.pool.PoolEntry.{PoolEntry}
-use Rattle.pa_record.specs.declared.root.RootAct.TheVariants.{Map}
 use Rattle.pa_record.specs.Spans.{name_of}
 use Rattle.pa_record.specs.Sound.{IsMadeBy}
 use Rattle.pa_record.specs.Laws.{leaves_by}
@@ -28,12 +25,11 @@ use Rattle.pa_rules.specs.declared.played.Played.{Played}
 use Rattle.pa_rules.specs.Played.{marks_of}
 use Rattle.pa_rules.specs.Registers.{made_of, is_plain_op, plain_or, plain_in}
 use Rattle.pa_rules.specs.Roots.{Journals, AreRoots, IsPoolOf}
-use Rattle.pa_rules.specs.Caches.{Cache, Caches, MadeRow, CacheRow, CachesTo, no_caches, with_cache}
 use Rattle.pa_rules.specs.Report.{HasSize}
 use Rattle.pa_rules.proofs.Following.{titles_follow}
-use Rattle.pa_rules.proofs.Known.{IsKnown, entry_of_act, first_keeps, known_with, row_known}
 use Rattle.pa_rules.proofs.Owned.{title_of}
 use Rattle.pa_rules.proofs.Running.{mark_from}
+use Rattle.pa_legal.specs.Flows.{IsMadeFor}
 use Rattle.pa_legal.specs.Tallies.{AreHomes}
 use Rattle.pa_logs.specs.Lengths.{titles_by, lengths_by}
 use Rattle.pa_logs.specs.Homes.{homes_by, HaveSlots, HomesFollow}
@@ -139,55 +135,15 @@ plain_made s b (y ∷ ys) each x seen usable among made slot = elim (in_cases y 
 abbrev HasSome : Journals → SlotName → Type 0
 HasSome roots s = (p len : ℕ) × HasSize roots p s len
 
--- the slot of a record that made one has the partition from which its op asked for it, and a length
-record IsMadeFor (roots : Journals) (x : Played) (s : SlotName) : Type 0 where
-  reg : ℕ
-  partition : ℕ
-  asked : ℕ
-  len : ℕ
-  op : x.op ≡ ops.Alloc reg partition asked
-  has : HasSize roots partition s len
-
-made_row : (roots : Journals) (x : Played) (seen : Seen) (cache after : Cache) → IsKnown roots cache → MadeRow roots x seen cache after →
-    IsMadeFor roots x seen.slot
-made_row roots x seen cache after known (inl (p, class, xs, rest, asks, filled, front, becomes)) =
-    let first = first_keeps seen.slot roots x.line p class (cache p class) xs (λ n. known p class n) filled in
-    let head : Numbered = record { slot = seen.slot; number = number_of seen.found.0 } in
-    record {
-      reg = asks.0;
-      partition = p;
-      asked = asks.1;
-      len = slot_of class;
-      op = asks.2;
-      has = inl (class, first.known head (subst (λ zs. Contains zs head) (sym front) (first_in head rest)), refl);
-    }
-made_row roots x seen cache after known (inr (p, size, asked, len, asks, only, becomes)) =
-    let (e, among, act) = entry_of_act roots x.line p (Map asked seen.slot len) only.0 in
-    record { reg = asks.0; partition = p; asked = size; len = len; op = asks.1; has = inr (e, asked, among, act) }
-
-made_in : (partitions : ℕ) (roots : Journals) (xs : List Played) (all after : Caches) (x : Played) (seen : Seen) (usable : ℕ) →
-    ((t : ℕ) → IsKnown roots (all t)) →
-    CachesTo partitions roots all xs after → Contains xs x → x.answer ≡ answers.Made seen usable → IsMadeFor roots x seen.slot
-made_in partitions roots [] all after x seen usable known to among made = absurd (not_in_none x among)
-made_in partitions roots (y ∷ ys) all after x seen usable known (next, row, rest) among made = elim (in_cases y x ys among) [
-  | inl e ↦
-      let answer : y.answer ≡ answers.Made seen usable = ap (λ (z : Played). z.answer) e ∙ made in
-      subst (λ (z : Played). IsMadeFor roots z seen.slot) e
-      (made_row roots y seen (all y.thread) next (known y.thread)
-      (subst (λ a. CacheRow partitions roots y a (all y.thread) next) answer row))
-  | inr later ↦
-      made_in partitions roots ys (with_cache all y.thread next) after x seen usable
-      (known_with roots all y.thread next known (row_known partitions roots y y.answer (all y.thread) next (known y.thread) row)) rest later
-      made
+-- the slot of a record that made one is of its partition
+sized : (roots : Journals) (x : Played) (s : SlotName) (made : IsMadeFor roots x s) → (len : ℕ) × HasSize roots made.partition s len
+sized roots x s made = elim made.from [
+  | inl (class, of) ↦ (slot_of class, inl (class, of, refl))
+  | inr (asked, len, e, among, line, act) ↦ (len, inr (e, asked, among, act))
 ]
 
 module _ (supers partitions : ℕ) (ps : List Played) (pools : List PoolEntry) (roots : Journals)
     (h : HaveSlots supers partitions ps pools roots) where
-  made_for : (x : Played) (seen : Seen) (usable : ℕ) → Contains ps x → x.answer ≡ answers.Made seen usable → IsMadeFor roots x seen.slot
-  made_for x seen usable among answer =
-      let (after, to) = h.caches in
-      made_in partitions roots ps no_caches after x seen usable (λ t q c n none. absurd (not_in_none n none)) to among answer
-
   -- the step at the word 0 is the issue of a slot that was made
   first_step : (s : SlotName) (m : Mark) (p : Step) → IsFirstAt (marks_of ps) s 0 m p → CanStep p 0 → HasSome roots s
   first_step s m p first can =
@@ -196,8 +152,9 @@ module _ (supers partitions : ℕ) (ps : List Played) (pools : List PoolEntry) (
       let issue : p ≡ steps.Issue = issue_first p 0 can refl in
       let step : d.step ≡ steps.Issue = some_is d.step steps.Issue (sym (ap (λ (z : Mark). z.step) is) ∙ (first.step ∙ ap Some issue)) in
       let issued = issue_is x.op x.answer d stepped step in
-      let made = made_for x issued.seen issued.usable among issued.answer in
-      subst (λ n. HasSome roots n) (issued.slot ∙ (sym (ap (λ (z : Mark). z.slot) is) ∙ first.slot)) (made.partition, made.len, made.has)
+      let made = h.made x issued.seen issued.usable among issued.answer in
+      let (len, has) = sized roots x issued.seen.slot made in
+      subst (λ n. HasSome roots n) (issued.slot ∙ (sym (ap (λ (z : Mark). z.slot) is) ∙ first.slot)) (made.partition, len, has)
     where
       some_is : (a b : Step) → Some a ≡ Some b → a ≡ b
       some_is a b e = cc
@@ -241,8 +198,9 @@ module _ (supers partitions : ℕ) (ps : List Played) (pools : List PoolEntry) (
   plain_asked : (rules : Rules) (x : Played) (seen : Seen) (usable : ℕ) → x.rules ≡ rules → Contains ps x →
       x.answer ≡ answers.Made seen usable → is_plain_op x.rules x.op ≡ nat_le rules.plain_from (homes_by partitions pools roots seen.slot)
   plain_asked rules x seen usable same among answer =
-      let made = made_for x seen usable among answer in
-      let home = home_named supers partitions ps pools roots h.journals h.pool made.partition made.len seen.slot made.has in
+      let made = h.made x seen usable among answer in
+      let (len, has) = sized roots x seen.slot made in
+      let home = home_named supers partitions ps pools roots h.journals h.pool made.partition len seen.slot has in
       ap₂ is_plain_op same made.op ∙ ap (nat_le rules.plain_from) (sym home)
 
   is_plain : (rules : Rules) (s : SlotName) (history : List Done) → ((x : Played) → Contains ps x → x.rules ≡ rules) →

@@ -1,4 +1,4 @@
--- A title that exists and that no log names is held: it is with its root, or on a thread's list.
+-- A title that exists and that no log names is held: it is with its root, or waits with a thread, as on its lists.
 use Rattle.std.proofs.Common.{◌≡◌, ℕ, zero, suc, ◌+◌, ◌<◌, List, [], ◌∷◌, Some, refl, sym, ◌∙◌, ap, subst, arith, inl, inr}
 use Rattle.std.specs.Prelude.{Contains}
 use Rattle.std.proofs.lemmas.Bool.{cases_lt}
@@ -34,7 +34,7 @@ use Rattle.pa_rules.proofs.FourPlaces.{Given, slot_once, times_member}
 use Rattle.pa_rules.proofs.Running.{mark_from}
 use Rattle.pa_logs.specs.Told.{ToldRecord, played_in, told_of}
 use Rattle.pa_logs.specs.Touches.{title_of}
-use Rattle.pa_logs.specs.Standing.{HasFree, StandsHeld}
+use Rattle.pa_logs.specs.Standing.{StandsHeld, HasListed, ListedWait}
 use Rattle.pa_logs.proofs.Logs.{logs_are_told}
 use Rattle.pa_logs.proofs.Marks.{tells_its_mark}
 use Rattle.pa_logs.proofs.Reporting.{lines_differ}
@@ -82,7 +82,7 @@ cached_some s all p (suc n) more = elim (cases_lt 0 (listed_times s (all n p) 0 
 
 module _ (supers partitions threads p : ℕ) (sizes : SlotName → ℕ) (pools : List PoolEntry) (roots : Journals) (ts : List ToldRecord)
     (all : Caches) (v : View) (t : Title)
-    (h : HasFree supers partitions threads sizes pools roots ts all v) (size : sizes (name_of t) ≡ t.len)
+    (h : HasListed supers partitions threads sizes pools roots ts all v) (size : sizes (name_of t) ≡ t.len)
     (unnamed : logged_of v (names t) ≡ 0) where
   title_is : (s : SlotName) → s ≡ name_of t → title_of sizes s ≡ t
   title_is s same = ap (λ z. title_of sizes z) same ∙ with_length (sizes (name_of t)) size
@@ -127,35 +127,39 @@ module _ (supers partitions threads p : ℕ) (sizes : SlotName → ℕ) (pools :
       each e (j, low, is) =
           let (x, of, makes) = h.journals.lines p j e (slice_get-get_or (roots p) j e low ∙ ap Some is) in (x, of.0, sym of.1)
 
-  with_root : IsStanding pools (roots p) t → (IsNameOut (root_replayed pools (roots p) new_root) (name_of t) → ⊥) → HasTitle v t
-  with_root (inl made) inside = let some = h.rooted p t made inside in omega arith
-  with_root (inr mapped) inside = absurd (inside (t, inr mapped, refl))
-
-  held : IsStanding pools (roots p) t → HasTitle v t
-  held stands =
+  on_list : IsStanding pools (roots p) t → IsNameOut (root_replayed pools (roots p) new_root) (name_of t) → 0 < free_of v t
+  on_list stands out =
       let j = h.journals.journals p in
       let below = is_partition supers partitions (played_in ts) pools roots h.journals h.pool p t
       (stands_made pools (roots p) t j stands) in
       elim (out_is_left pools (roots p) (name_of t) j) [
-        | inr (inside, same) ↦ with_root stands inside
-        | inl (out, more) ↦
+        | inr (inside, same) ↦ absurd (inside out)
+        | inl (still, more) ↦
             let (e, among, leaves) = left_by_some (name_of t) (roots p) (omega arith) in
             let (vs, run, found) = h.slots (name_of t) in
             elim (slot_once supers partitions threads p (played_in ts) pools roots (played_in ts) (roots p) all (name_of t) 0 (given below)
             (e, among, leaves) (no_run vs run)) [
               | inr (inside, none) ↦ absurd (inside out)
-              | inl (still, once) ↦
+              | inl (there, once) ↦
                   let (k, few, is) = cached_some (name_of t) all p threads (in_lists (cached_times (name_of t) all p threads) once) in
                   let real = is.within in
-                  let some = subst (λ u. 0 < free_of v u) (title_is is.slot.slot is.same)
-                  (h.listed k p is.at is.slot few below (omega arith) is.among) in
-                  omega arith
+                  subst (λ u. 0 < free_of v u) (title_is is.slot.slot is.same) (h.listed k p is.at is.slot few below (omega arith) is.among)
             ]
       ]
     where
       in_lists : (n : ℕ) → n + busy 0 ≡ 1 → 0 < n
       in_lists n e = omega arith
 
+pub listed_wait : ListedWait
+listed_wait supers partitions threads sizes pools roots ts all v h p t stands out size unnamed =
+    on_list supers partitions threads p sizes pools roots ts all v t h size unnamed stands out
+
 pub stands_held : StandsHeld
-stands_held supers partitions threads p sizes pools roots ts all v t h stands size unnamed =
-    held supers partitions threads p sizes pools roots ts all v t h size unnamed stands
+stands_held p sizes pools roots v t h stands size unnamed = elim (out_is_left pools (roots p) (name_of t) (h.journals p)) [
+  | inl (out, more) ↦ let some = h.waits p t stands out size unnamed in omega arith
+  | inr (inside, same) ↦ with_root stands inside
+]
+  where
+    with_root : IsStanding pools (roots p) t → (IsNameOut (root_replayed pools (roots p) new_root) (name_of t) → ⊥) → HasTitle v t
+    with_root (inl made) inside = let some = h.rooted p t made inside in omega arith
+    with_root (inr mapped) inside = absurd (inside (t, inr mapped, refl))

@@ -14,7 +14,6 @@ use Rattle.pa_lists.proofs.Joined.{map_cases, map_in}
 use Rattle.pa_region.specs.declared.view.Made.{Made}
 use Rattle.pa_region.specs.declared.view.View.{View}
 use Rattle.pa_rules.specs.declared.played.Played.{Played}
-use Rattle.pa_rules.specs.Caches.{Caches}
 use Rattle.pa_rules.specs.Roots.{Journals, IsEntry, IsFull, MakesEntry, AreRoots, IsPoolOf}
 use Rattle.pa_rules.specs.Order.{IsOfLine, StandsBefore}
 use Rattle.pa_rules.specs.Held.{IsStanding}
@@ -95,19 +94,17 @@ module _ (partitions : ℕ) (lists : ℕ → List Made) (pools : List PoolEntry)
   are_roots : AreRoots partitions (played_in ts) pools roots
   are_roots = record { one = h.one; journals = h.journals; lines = lines; order = order; none_past = h.none_past; refusals = refusals }
 
-closing : (supers partitions threads : ℕ) (sizes : SlotName → ℕ) (lists : ℕ → List Made) (r : Told) (ts : List ToldRecord) (all : Caches)
-    (v : View) →
-    SeatSays supers partitions threads sizes lists r ts all v → IsClosing sizes r v
-closing supers partitions threads sizes lists r ts all v h =
+closing : (supers partitions : ℕ) (sizes : SlotName → ℕ) (lists : ℕ → List Made) (r : Told) (ts : List ToldRecord) (v : View) →
+    SeatSays supers partitions sizes lists r ts v → IsClosing sizes r v
+closing supers partitions sizes lists r ts v h =
     let long : (p : ℕ) (title : Title) → IsStanding r.pools (r.roots p) title → sizes (name_of title) ≡ title.len = λ p title stands.
     h.lengths (name_of title) ∙
-    lengths_follow.stands supers partitions p (played_in ts) r.pools r.roots title h.has.journals h.has.pool stands in
+    lengths_follow.stands supers partitions p (played_in ts) r.pools r.roots title h.journals h.pool stands in
     record {
       long = long;
-      cut = λ p title stands. stands_uncut supers partitions p lists r.pools r.roots ts v title h.lists_are h.has.journals h.has.pool
-          h.has.logs h.unmaps stands;
-      kept = λ p title stands unnamed. stands_held supers partitions threads p sizes r.pools r.roots ts all v title h.has stands
-          (long p title stands) unnamed;
+      cut = λ p title stands. stands_uncut supers partitions p lists r.pools r.roots ts v title h.lists_are h.journals h.pool h.logs
+          h.unmaps stands;
+      kept = λ p title stands unnamed. stands_held p sizes r.pools r.roots v title h.has stands (long p title stands) unnamed;
       clean = h.clean;
     }
 

@@ -15,6 +15,7 @@ pub mod Logs
 pub mod Marks
 pub mod Merging
 pub mod OneSlot
+pub mod OnLists
 pub mod Orders
 pub mod Places
 pub mod Readers

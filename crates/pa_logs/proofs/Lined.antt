@@ -1,5 +1,5 @@
 -- The records of a trace: those of an earlier phase have smaller lines.
-use Rattle.std.proofs.Common.{ℕ, ◌<◌, List, subst}
+use Rattle.std.proofs.Common.{◌<◌, List, subst}
 use Rattle.std.specs.Prelude.{Contains}
 use Rattle.pa_trace.specs.declared.script.Line.{Line}
 use Rattle.pa_lists.proofs.Joined.{map_in}

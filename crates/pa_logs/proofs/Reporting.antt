@@ -1,6 +1,6 @@
 -- The lines of the report are right.
 use Rattle.std.proofs.Common.{◌≡◌, ℕ, zero, suc, ◌+◌, ◌<◌, ◌≤◌, Bool, leb, List, [], ◌∷◌, ◌++◌, filter, map, refl, sym, ◌∙◌, ap, subst, arith, inl, inr}
-use Rattle.std.specs.Prelude.{◌≢◌, Contains, AllPairs, length, if◌then◌else◌}
+use Rattle.std.specs.Prelude.{◌≢◌, Contains, AllPairs, length}
 use Rattle.std.proofs.lemmas.Bool.{cases_lt, cases_eq, eq-eqb, ne_eqb, le-leb, leb-true}
 use Rattle.std.proofs.lemmas.List.Elements.{filter-append, Contains-append_right}
 use Rattle.pa_slot.specs.declared.word.SlotName.{SlotName}
@@ -33,7 +33,7 @@ use Rattle.pa_logs.specs.Told.{ToldRecord, played_in, is_until, told_until}
 use Rattle.pa_logs.specs.Listed.{first_of, line_of, is_on, AreRising}
 use Rattle.pa_logs.specs.Rows.{records_by}
 use Rattle.pa_logs.specs.Indices.{AreLists}
-use Rattle.pa_logs.specs.Reported.{TakenAt, counted_by, IsLeftBy, CacheLeadsTo, AreListed, IsLineTold, AreReported, ReportFollows}
+use Rattle.pa_logs.specs.Reported.{TakenAt, counted_by, IsLeftBy, CacheLeadsTo, AreListed, IsLineTold, IsLineShared, AreReported, ReportFollows}
 use Rattle.pa_logs.proofs.Filters.{pairs_filter, nothing_more}
 use Rattle.pa_logs.proofs.Listing.{lines_have_theirs}
 use Rattle.pa_logs.proofs.Merging.{own_first, other_first}
@@ -234,9 +234,8 @@ lines_differ (t ∷ ts) h =
 
 module _ (supers partitions threads : ℕ) (home size : SlotName → ℕ) (lists : ℕ → List Made) (pools : List PoolEntry) (roots : Journals)
     (ts : List ToldRecord) (all : AreReported supers partitions threads home size lists pools roots ts) where
-  right : (l : ReportLine) → IsLineTold partitions threads home size lists roots ts l →
-      IsReportLine partitions threads (played_in ts) pools roots l
-  right l h =
+  shared : (l : ReportLine) → IsLineTold threads home size lists ts l → IsLineShared (played_in ts) pools roots l
+  shared l h =
       let ps = played_in ts in
       let xs = until l.phase ps in
       let differ = lines_differ ts all.lists_are.rising in
@@ -258,18 +257,23 @@ module _ (supers partitions threads : ℕ) (home size : SlotName → ℕ) (lists
         quarantined = tallies_follow.quarantined supers partitions l.partition ps xs pools roots home size l.quarantined tallied homes
             (left_by enters leaves home size l.partition threads xs l.quarantined few
             (tallies_follow.left supers partitions l.partition ps xs pools roots home size tallied) h.quarantined);
-        cached = cached partitions threads roots xs l.partition l.cached h.cached;
         root = has_census l.partition l.phase lists pools roots ts (census_of l) all.lists_are h.partition h.root;
       }
 
 pub report_follows : ReportFollows
 report_follows = record {
   census = λ p phase lists pools roots ts c are small h. has_census p phase lists pools roots ts c are small h;
-  line = λ supers partitions threads home size lists pools roots ts l all h. right supers partitions threads home size lists pools roots ts
-      all l h;
-  report = λ supers phases partitions threads home size lists pools roots ts lines all places each. record {
+  line = λ supers partitions threads home size lists pools roots ts l all h. shared supers partitions threads home size lists pools roots
+      ts all l h;
+  report = λ phases partitions threads ps pools roots lines places each listed. record {
     places = places;
-    right = all_from_members (IsReportLine partitions threads (played_in ts) pools roots) lines
-        (λ l among. right supers partitions threads home size lists pools roots ts all l (each l among));
+    right = all_from_members (IsReportLine partitions threads ps pools roots) lines (λ l among.
+        let of = each l among in
+        record {
+          live = of.live;
+          quarantined = of.quarantined;
+          cached = cached partitions threads roots (until l.phase ps) l.partition l.cached (listed l among);
+          root = of.root;
+        });
   };
 }

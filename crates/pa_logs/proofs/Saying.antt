@@ -1,34 +1,46 @@
--- What the layers say of lists, logs, exchanges and what was seen gives what the laws require of them.
+-- What the layers say of lists, logs, exchanges, what was seen, the pool, the roots and steps gives what the laws require of them.
 use Rattle.std.proofs.Common.{◌≡◌, ◌≢◌, ℕ, ◌<◌, ◌≤◌, List, [], ◌∷◌, ◌++◌, map, sym, ◌∙◌, ap, subst, arith, inl, inr}
 use Rattle.std.specs.Prelude.{Contains, AllPairs}
 use Rattle.std.proofs.lemmas.List.Elements.{Contains-append_left, Contains-append_right}
 use Rattle.pa_slot.specs.declared.title.Title.{Title}
+use Rattle.pa_slot.specs.declared.word.SlotName.{SlotName}
+use Rattle.pa_slot.specs.Run.{Slots}
 use Rattle.pa_trace.specs.Rules.{rules_of}
 use Rattle.pa_region.specs.declared.view.View.{View}
+use Rattle.pa_region.specs.History.{Done}
 use Rattle.pa_region.specs.Lists.{list_of}
 use Rattle.pa_trace.specs.declared.script.Trace.{Trace}
 use Rattle.pa_trace.specs.declared.script.Op.TheVariants as ops
+use Rattle.pa_trace.specs.Limits.{IsOpWithin}
 use Rattle.pa_lists.proofs.Joined.{map_in, filter_cases}
 use Rattle.pa_lists.proofs.Members.{first_in}
 use Rattle.pa_lists.proofs.Pairs.{pairs_none, pairs_cons, pairs_head, pairs_tail}
-use Rattle.pa_rules.specs.Played.{AreLines}
+use Rattle.pa_rules.specs.declared.played.Played.{Played}
+use Rattle.pa_rules.specs.Played.{AreLines, marks_of}
 use Rattle.pa_rules.specs.Order.{StandsBefore}
+use Rattle.pa_rules.specs.Roots.{AreRoots, IsPoolOf}
 use Rattle.pa_rules.specs.Told.{Told}
 use Rattle.pa_rules.specs.Legal.{phases_in}
 use Rattle.pa_rules.proofs.Recorded.{records_are_lines}
+use Rattle.pa_rules.proofs.Ruling.{told_once}
 use Rattle.pa_rules.proofs.Running.{one_by}
 use Rattle.pa_logs.specs.Told.{ToldRecord, played_in, is_until, told_until}
 use Rattle.pa_logs.specs.Listed.{line_of, IsListOf, AreRising, HasCuts}
 use Rattle.pa_logs.specs.Reads.{KnowsAll, HaveEnds}
 use Rattle.pa_logs.specs.Seats.{AreOfThreads}
+use Rattle.pa_logs.specs.Steps.{AreSteps}
+use Rattle.pa_logs.specs.Touches.{title_of}
 use Rattle.pa_logs.specs.Viewed.{AreViewed}
 use Rattle.pa_logs.specs.Swaps.{SwapMade, AreSwapped, AreAnswered}
 use Rattle.pa_logs.specs.Indices.{IsSwapAt, AreLists}
-use Rattle.pa_logs.specs.Said.{HasLogs, EndsPhase, LayersSay}
+use Rattle.pa_logs.specs.Said.{sizes_in, HasLogs, EndsPhase, LayersSay}
 use Rattle.pa_logs.proofs.Due.{IsWithin, records_due, told_rise}
+use Rattle.pa_logs.proofs.Histories.{histories_follow}
 use Rattle.pa_logs.proofs.Indexing.{indices_follow}
+use Rattle.pa_logs.proofs.Layering.{layers_follow}
 use Rattle.pa_logs.proofs.Listing.{lines_have_theirs}
 use Rattle.pa_logs.proofs.Seating.{seats_know}
+use Rattle.pa_logs.proofs.Slots.{slots_follow}
 use Rattle.pa_logs.proofs.Swapping.{Apart, apart, swaps_follow}
 
 -- exchanges with entries on different lines
@@ -164,3 +176,42 @@ module _ (t : Trace) (r : Told) (v : View) (ts : List ToldRecord) (says : Layers
     stands = stands_seen;
     hands = λ x y u first second hands. swaps_follow.hands (list_of 5 v) r.cells says.swaps ts x y u swapped first second hands;
   }
+
+  -- ---- the pool, the roots and the slots
+
+  pub pool : IsPoolOf t.region (played_in ts) r.pools r.roots
+  pool = layers_follow.pool t.region (λ q. list_of q v) r.pools r.roots ts
+      (record { lists_are = are_lists; asked = says.pool.asked; fits = says.pool.fits; cuts = cuts 4 (omega arith) })
+
+  -- the partition of a request is one of the first four
+  partition_small : (x : ToldRecord) (reg p size : ℕ) → Contains ts x → x.played.op ≡ ops.Alloc reg p size → p < 4
+  partition_small x reg p size among op =
+      let most = says.runner.limits.head.1.1 in
+      let is : IsOpWithin t.partitions (ops.Alloc reg p size) = subst (λ o. IsOpWithin t.partitions o) op (within x among).op in
+      let below = is.1 in
+      omega arith
+
+  -- all records are played by the trace's rules
+  one : (x y : Played) → Contains (played_in ts) x → Contains (played_in ts) y → x.rules ≡ y.rules
+  one = subst (λ xs. (x y : Played) → Contains xs x → Contains xs y → x.rules ≡ y.rules) (sym says.runner.records) (told_once t r)
+
+  pub roots : AreRoots t.partitions (played_in ts) r.pools r.roots
+  roots = layers_follow.roots t.partitions (λ q. list_of q v) r.pools r.roots ts (record {
+    one = one;
+    lists_are = are_lists;
+    journals = says.roots.journals;
+    makes = says.roots.makes;
+    cuts = λ p few. cuts p (omega arith);
+    none_past = says.roots.none_past;
+    refused = λ x j reg p size among answer op. (partition_small x reg p size among op, says.roots.refused x j reg p size among answer op);
+  })
+
+  -- the history of a slot, by the logs
+  abbrev pub history : SlotName → List Done
+  history s = knows.all.history (title_of (sizes_in t r) s)
+
+  pub steps : (s : SlotName) → AreSteps (played_in ts) s (history s)
+  steps s = histories_follow (sizes_in t r) v ts knows.all.history knows.logs says.heap.told knows.all.chain s
+
+  pub slots : Slots (marks_of (played_in ts))
+  slots = slots_follow (played_in ts) history steps

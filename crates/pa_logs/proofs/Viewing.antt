@@ -172,7 +172,7 @@ module _ (cells : ℕ → List CellEntry) (place : ℕ → ℕ) (ps : List Playe
       absurd (omega arith)
 
 -- what a record's mark says of what its seat had seen, and of what it hands on
-found_by : (sizes : SlotName → ℕ) (cells : ℕ → List CellEntry) (ts : List ToldRecord) (x : ToldRecord) (m : Mark) (o : Option Step) →
+pub found_by : (sizes : SlotName → ℕ) (cells : ℕ → List CellEntry) (ts : List ToldRecord) (x : ToldRecord) (m : Mark) (o : Option Step) →
     AreTold sizes ts → AreViewed cells ts → Contains ts x →
     mark_of x.played ≡ Some m → m.step ≡ o → (x.saw (title_of sizes m.slot) ≤ number_of m.found) ×
     (left_number m ≤ x.gives (title_of sizes m.slot))

@@ -1,4 +1,4 @@
--- A run is legal if all this is known of it.
+-- A run has its clauses, and is legal, if all this is known of it.
 use Rattle.std.proofs.Common.{ℕ, List, sym, ◌∙◌, ap, subst, inr}
 use Rattle.std.specs.Prelude.{Contains}
 use Rattle.pa_slot.specs.declared.word.SlotName.{SlotName}
@@ -11,16 +11,19 @@ use Rattle.pa_rules.specs.declared.played.Played.{Played}
 use Rattle.pa_rules.specs.Played.{AreLines, mark_of}
 use Rattle.pa_rules.specs.Seen.{Standing, IsSeenInOrder}
 use Rattle.pa_rules.specs.Flow.{IsInPhases}
+use Rattle.pa_rules.specs.Caches.{AreCaches}
+use Rattle.pa_rules.specs.Legal.{phases_in}
+use Rattle.pa_rules.specs.Report.{IsReport}
 use Rattle.pa_rules.specs.Told.{Told}
 use Rattle.pa_rules.proofs.Numbering.{lines_differ}
 use Rattle.pa_rules.proofs.Recorded.{records_are_lines}
 use Rattle.pa_legal.specs.Known.{FindsInUse, IsKnown}
-use Rattle.pa_legal.proofs.Whole.{legal_follows}
+use Rattle.pa_legal.proofs.Whole.{clauses_follow, legal_follows}
 use Rattle.pa_logs.specs.Told.{ToldRecord, played_in}
 use Rattle.pa_logs.specs.Touches.{title_of, AreTold}
 use Rattle.pa_logs.specs.Reads.{IsReadOff}
 use Rattle.pa_logs.specs.Viewed.{IsOrdered}
-use Rattle.pa_logs.specs.Whole.{IsPlayedOut, LegalIsTold}
+use Rattle.pa_logs.specs.Whole.{IsPlayedOut, ClausesAreTold, LegalIsTold}
 use Rattle.pa_logs.proofs.Histories.{histories_follow}
 use Rattle.pa_logs.proofs.Lined.{phases_rise}
 use Rattle.pa_logs.proofs.Marks.{tells_its_mark}
@@ -70,13 +73,19 @@ module _ (sizes : SlotName → ℕ) (place : ℕ → ℕ) (t : Trace) (r : Told)
     contents = contents_follow t.version sizes r.cells v ts read_off out.readers;
     pool = out.pool;
     roots = out.roots;
-    caches = out.caches;
+    flows = out.flows;
     seen = seen;
-    report = out.report;
     numbers = out.numbers;
     unmaps = out.unmaps;
     used = looks_in_use sizes ts out.told;
   }
 
+pub clauses_are_told : ClausesAreTold
+clauses_are_told sizes place t r v ts out =
+    clauses_follow t r (subst (λ ps. IsKnown t r ps) out.records (known sizes place t r v ts out))
+
 pub legal_is_told : LegalIsTold
-legal_is_told sizes place t r v ts out = legal_follows t r (subst (λ ps. IsKnown t r ps) out.records (known sizes place t r v ts out))
+legal_is_told sizes place t r v ts out caches report =
+    legal_follows t r (clauses_are_told sizes place t r v ts out)
+    (subst (λ ps. AreCaches t.partitions r.roots ps) out.records caches)
+    (subst (λ ps. IsReport (phases_in t.lines) t.partitions t.threads ps r.pools r.roots r.report) out.records report)

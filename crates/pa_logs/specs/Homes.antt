@@ -5,6 +5,8 @@ use Rattle.pa_slot.specs.declared.title.Title.{Title}
 use Rattle.pa_slot.specs.declared.word.SlotName.{SlotName}
 use Rattle.pa_slot.specs.Run.{Slots, same_slot}
 use Rattle.pa_trace.specs.declared.script.Rules.{Rules}
+use Rattle.pa_record.specs.declared.entry.Seen.{Seen}
+use Rattle.pa_record.specs.declared.entry.Answer.TheVariants.{Made}
 use Rattle.pa_record.specs.declared.pool.PoolEntry.{PoolEntry}
 use Rattle.pa_record.specs.Spans.{name_of}
 use Rattle.pa_region.specs.History.{Done}
@@ -12,8 +14,8 @@ use Rattle.pa_rules.specs.declared.played.Played.{Played}
 use Rattle.pa_rules.specs.Played.{marks_of}
 use Rattle.pa_rules.specs.Registers.{plain_in}
 use Rattle.pa_rules.specs.Roots.{Journals, AreRoots, IsPoolOf}
-use Rattle.pa_rules.specs.Caches.{AreCaches}
 use Rattle.pa_rules.specs.Report.{HasSize}
+use Rattle.pa_legal.specs.Flows.{IsMadeFor}
 use Rattle.pa_legal.specs.Known.{FindsInUse}
 use Rattle.pa_legal.specs.Tallies.{AreHomes}
 use Rattle.pa_logs.specs.Lengths.{titles_by, lengths_by}
@@ -25,11 +27,12 @@ homes_by zero pools roots s = 0
 homes_by (suc n) pools roots s =
     if list_any (λ (t : Title). same_slot (name_of t) s) (titles_by pools (roots n)) then n else homes_by n pools roots s
 
--- What is known of a run: its journals and pool, the threads' lists, each slot's run, and that looks find words in use.
+-- What is known of a run: its journals and pool, that a slot which a record made is of the partition from which its op asked for it,
+-- each slot's run, and that looks find words in use.
 pub record HaveSlots (supers partitions : ℕ) (ps : List Played) (pools : List PoolEntry) (roots : Journals) : Type 0 where
   pub journals : AreRoots partitions ps pools roots
   pub pool : IsPoolOf supers ps pools roots
-  pub caches : AreCaches partitions roots ps
+  pub made : (x : Played) (seen : Seen) (usable : ℕ) → Contains ps x → x.answer ≡ Made seen usable → IsMadeFor roots x seen.slot
   pub slots : Slots (marks_of ps)
   pub used : (x : Played) → Contains ps x → FindsInUse x
 

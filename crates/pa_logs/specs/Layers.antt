@@ -14,10 +14,9 @@ use Rattle.pa_region.specs.declared.view.Made.{Made}
 use Rattle.pa_region.specs.declared.view.View.{View}
 use Rattle.pa_region.specs.Lists.{entered_in}
 use Rattle.pa_region.specs.Waiting.{unclean_of}
-use Rattle.pa_rules.specs.Caches.{Caches}
 use Rattle.pa_rules.specs.Roots.{Journals, MakesEntry, AreRoots, IsPoolOf}
 use Rattle.pa_rules.specs.Told.{Told}
-use Rattle.pa_logs.specs.Told.{ToldRecord, played_in}
+use Rattle.pa_logs.specs.Told.{ToldRecord, played_in, AreLogs}
 use Rattle.pa_logs.specs.Listed.{HasCuts}
 use Rattle.pa_logs.specs.Indices.{IsFullAt, AreAsked, AreLists}
 use Rattle.pa_logs.specs.Lengths.{lengths_by}
@@ -54,12 +53,15 @@ pub record RootsSay (partitions : ℕ) (lists : ℕ → List Made) (pools : List
       (p < most_partitions) × IsFullAt (lists p) x j
 
 -- What the closing seat must satisfy, from the journals, the logs and what it has.
-pub record SeatSays (supers partitions threads : ℕ) (sizes : SlotName → ℕ) (lists : ℕ → List Made) (r : Told) (ts : List ToldRecord)
-    (all : Caches) (v : View) : Type 0 where
+pub record SeatSays (supers partitions : ℕ) (sizes : SlotName → ℕ) (lists : ℕ → List Made) (r : Told) (ts : List ToldRecord)
+    (v : View) : Type 0 where
   pub lists_are : AreLists lists r.pools r.roots ts
+  pub journals : AreRoots partitions (played_in ts) r.pools r.roots
+  pub pool : IsPoolOf supers (played_in ts) r.pools r.roots
+  pub logs : AreLogs v ts
   pub lengths : (s : SlotName) → sizes s ≡ lengths_by partitions r.pools r.roots s
   pub unmaps : OnlyUnmapsUncut ts
-  pub has : HasFree supers partitions threads sizes r.pools r.roots ts all v
+  pub has : HasFree sizes r.pools r.roots v
   pub clean : unclean_of v ≡ 0
 
 -- If the layers say what they must, the clauses hold, and the closing seat is as required.
@@ -68,5 +70,5 @@ pub record LayersFollow : Type 0 where
       PoolSays supers lists pools roots ts → IsPoolOf supers (played_in ts) pools roots
   pub roots : (partitions : ℕ) (lists : ℕ → List Made) (pools : List PoolEntry) (roots : Journals) (ts : List ToldRecord) →
       RootsSay partitions lists pools roots ts → AreRoots partitions (played_in ts) pools roots
-  pub closing : (supers partitions threads : ℕ) (sizes : SlotName → ℕ) (lists : ℕ → List Made) (r : Told) (ts : List ToldRecord)
-      (all : Caches) (v : View) → SeatSays supers partitions threads sizes lists r ts all v → IsClosing sizes r v
+  pub closing : (supers partitions : ℕ) (sizes : SlotName → ℕ) (lists : ℕ → List Made) (r : Told) (ts : List ToldRecord)
+      (v : View) → SeatSays supers partitions sizes lists r ts v → IsClosing sizes r v

@@ -8,6 +8,7 @@ pub mod Reads
 pub mod Reported
 pub mod Rows
 pub mod Said
+pub mod InTurn
 pub mod Seats
 pub mod Standing
 pub mod Steps

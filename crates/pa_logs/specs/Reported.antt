@@ -2,7 +2,7 @@
 use Rattle.std.specs.Prelude.{◌≡◌, ℕ, zero, suc, ◌+◌, ◌-◌, ◌<◌, List, [], ◌∷◌, ◌++◌, Bool, map, Contains}
 use Rattle.pa_slot.specs.declared.word.SlotName.{SlotName}
 use Rattle.pa_slot.specs.declared.word.Step.{Step}
-use Rattle.pa_slot.specs.Run.{Slots}
+use Rattle.pa_slot.specs.Run.{Slots, IsLive, IsQuarantined}
 use Rattle.pa_record.specs.declared.pool.PoolEntry.{PoolEntry}
 use Rattle.pa_record.specs.declared.root.RootEntry.{RootEntry}
 use Rattle.pa_record.specs.declared.report.ReportLine.{ReportLine}
@@ -17,7 +17,7 @@ use Rattle.pa_rules.specs.Played.{marks_of}
 use Rattle.pa_rules.specs.Flow.{IsInPhases}
 use Rattle.pa_rules.specs.Roots.{Journals, AreRoots, IsPoolOf}
 use Rattle.pa_rules.specs.Caches.{Cache, Caches, CacheRow, no_caches}
-use Rattle.pa_rules.specs.Report.{HasCensus, IsReport, IsReportLine, cached_slots, cached_bytes, census_of, phases_of, until}
+use Rattle.pa_rules.specs.Report.{HasCensus, IsReport, IsTally, cached_slots, cached_bytes, census_of, phases_of, until}
 use Rattle.pa_slot.specs.Kinds.{issues, frees, enters, leaves}
 use Rattle.pa_legal.specs.Tallies.{weight_of, one_of, bytes_of, AreHomes}
 use Rattle.pa_logs.specs.Told.{ToldRecord, played_in, told_until}
@@ -70,15 +70,20 @@ pub record AreListed (partitions threads : ℕ) (roots : Journals) (xs : List Pl
   pub slots : tally.slots ≡ cached_slots all p threads
   pub bytes : tally.bytes ≡ cached_bytes all p threads
 
--- A line of the report is what threads and roots say at the end of its phase: live and quarantined slots by the steps that the
--- threads count, cached ones by their lists, and what the root has by its census.
-pub record IsLineTold (partitions threads : ℕ) (home size : SlotName → ℕ) (lists : ℕ → List Made) (roots : Journals) (ts : List ToldRecord)
+-- A line of the report, but for its cached slots, is what threads and roots say at the end of its phase: live and quarantined slots by
+-- the steps that the threads count, and what the root has by its census.
+pub record IsLineTold (threads : ℕ) (home size : SlotName → ℕ) (lists : ℕ → List Made) (ts : List ToldRecord)
     (l : ReportLine) : Type 0 where
   pub partition : l.partition < most_partitions
   pub live : IsLeftBy issues frees home size l.partition threads (until l.phase (played_in ts)) l.live
   pub quarantined : IsLeftBy enters leaves home size l.partition threads (until l.phase (played_in ts)) l.quarantined
-  pub cached : AreListed partitions threads roots (until l.phase (played_in ts)) l.partition l.cached
   pub root : TakenAt l.partition l.phase lists ts (census_of l)
+
+-- A line of the report is right but for its cached slots, which the threads' lists tell, or lists and queues.
+pub record IsLineShared (ps : List Played) (pools : List PoolEntry) (roots : Journals) (l : ReportLine) : Type 0 where
+  pub live : IsTally IsLive roots (until l.phase ps) l.partition l.live
+  pub quarantined : IsTally IsQuarantined roots (until l.phase ps) l.partition l.quarantined
+  pub root : HasCensus ps pools roots l.phase l.partition (census_of l)
 
 -- What is known of the run: its lists, journals, pool and slots, and the partition and length of each slot. Records are in phases,
 -- and each thread's number is below `threads`.
@@ -94,17 +99,16 @@ pub record AreReported (supers partitions threads : ℕ) (home size : SlotName �
 
 -- Each line of the report is right, and so is the report.
 --   census: what a root's census was taken of is its journal up to the end of the phase
---   line: a line that says so is right
---   report: the report of such lines, one for each phase and partition in order, is right
+--   line: a line that says so is right but for its cached slots
+--   report: the report of such lines, one for each phase and partition in order, is right, if their cached slots are those of lists
 pub record ReportFollows : Type 0 where
   pub census : (p phase : ℕ) (lists : ℕ → List Made) (pools : List PoolEntry) (roots : Journals) (ts : List ToldRecord) (c : Census) →
       AreLists lists pools roots ts → p < most_partitions → TakenAt p phase lists ts c → HasCensus (played_in ts) pools roots phase p c
   pub line : (supers partitions threads : ℕ) (home size : SlotName → ℕ) (lists : ℕ → List Made) (pools : List PoolEntry) (roots : Journals)
       (ts : List ToldRecord) (l : ReportLine) → AreReported supers partitions threads home size lists pools roots ts →
-      IsLineTold partitions threads home size lists roots ts l → IsReportLine partitions threads (played_in ts) pools roots l
-  pub report : (supers phases partitions threads : ℕ) (home size : SlotName → ℕ) (lists : ℕ → List Made) (pools : List PoolEntry)
-      (roots : Journals) (ts : List ToldRecord) (lines : List ReportLine) →
-      AreReported supers partitions threads home size lists pools roots ts →
+      IsLineTold threads home size lists ts l → IsLineShared (played_in ts) pools roots l
+  pub report : (phases partitions threads : ℕ) (ps : List Played) (pools : List PoolEntry) (roots : Journals) (lines : List ReportLine) →
       map (λ (l : ReportLine). (l.phase, l.partition)) lines ≡ phases_of partitions 1 phases →
-      ((l : ReportLine) → Contains lines l → IsLineTold partitions threads home size lists roots ts l) →
-      IsReport phases partitions threads (played_in ts) pools roots lines
+      ((l : ReportLine) → Contains lines l → IsLineShared ps pools roots l) →
+      ((l : ReportLine) → Contains lines l → AreListed partitions threads roots (until l.phase ps) l.partition l.cached) →
+      IsReport phases partitions threads ps pools roots lines

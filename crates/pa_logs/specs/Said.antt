@@ -1,12 +1,12 @@
 -- What each layer says of a run that was played in a region, all at once. From this it follows that the run is legal, and that the
--- closed region holds it. Each layer has to say what only it can say, and nothing is required twice.
+-- closed region holds it. Each layer has to say what only it can say, and nothing is required twice. What is said of the threads'
+-- lists stands beside the rest, which speaks of no list: so it holds too of runs in which slots wait elsewhere.
 use Rattle.std.specs.Prelude.{◌≡◌, ℕ, nat_le, ◌+◌, ◌-◌, ◌<◌, ◌≤◌, List, [], ◌∷◌, Bool, true, map, filter, length, Contains}
 use Rattle.std.specs.List.{AllByRecursion as Each}
 use Rattle.pa_slot.specs.declared.title.Title.{Title}
 use Rattle.pa_slot.specs.declared.word.SlotName.{SlotName}
 use Rattle.pa_slot.specs.declared.word.Step.{Step}
 use Rattle.pa_slot.specs.Count.{number_of}
-use Rattle.pa_buckets.specs.Limits.{class_count}
 use Rattle.pa_trace.specs.Rules.{rules_of}
 use Rattle.pa_region.specs.declared.view.Deeds.{Deeds}
 use Rattle.pa_region.specs.declared.view.Entry.TheVariants.{Counted, Looked, Read}
@@ -25,7 +25,6 @@ use Rattle.pa_trace.specs.Limits.{IsWithinLimits, most_partitions}
 use Rattle.pa_record.specs.declared.census.Census.{Census}
 use Rattle.pa_record.specs.declared.entry.Answer.TheVariants.{Full, Uncounted}
 use Rattle.pa_record.specs.declared.history.Held.TheVariants.{Nothing}
-use Rattle.pa_record.specs.declared.numbered.Numbered.{Numbered}
 use Rattle.pa_record.specs.declared.pool.PoolEntry.{PoolEntry}
 use Rattle.pa_record.specs.declared.report.ReportLine.{ReportLine}
 use Rattle.pa_record.specs.declared.root.RootEntry.{RootEntry}
@@ -47,7 +46,8 @@ use Rattle.pa_rules.specs.Sizes.{usable_of}
 use Rattle.pa_rules.specs.Told.{Told, records_of}
 use Rattle.pa_rules.specs.Held.{IsHeldIn}
 use Rattle.pa_rules.specs.Legal.{phases_in, IsLegalTold}
-use Rattle.pa_legal.specs.Known.{UnmapsNext}
+use Rattle.pa_legal.specs.Flows.{SlotsFlow, UnmapsNext}
+use Rattle.pa_legal.specs.Known.{HasClauses}
 use Rattle.pa_legal.specs.Numbers.{AreNumbered}
 use Rattle.pa_slot.specs.Kinds.{issues, frees, enters, leaves}
 use Rattle.pa_logs.specs.Told.{ToldRecord, played_in, is_of_thread, log_of, told_until}
@@ -60,8 +60,8 @@ use Rattle.pa_logs.specs.Rows.{records_by}
 use Rattle.pa_logs.specs.Indices.{IsFullAt, IsSwapAt, AreAsked}
 use Rattle.pa_logs.specs.Lengths.{lengths_by}
 use Rattle.pa_logs.specs.Homes.{homes_by}
-use Rattle.pa_logs.specs.Reported.{IsLeftBy, CacheLeadsTo}
-use Rattle.pa_logs.specs.Standing.{OnlyUnmapsUncut}
+use Rattle.pa_logs.specs.Reported.{IsLeftBy, CacheLeadsTo, IsLineShared}
+use Rattle.pa_logs.specs.Standing.{OnlyUnmapsUncut, OutIsFree, ListedIsFree}
 use Rattle.pa_logs.specs.Whole.{IsPlayedOut}
 
 -- the length and the partition of each slot, as the journals of the run say them
@@ -201,18 +201,15 @@ pub record HaveSeen (ts : List ToldRecord) : Type 0 where
   pub thread : (x y : ToldRecord) (t : Title) → Contains ts x → Contains ts y → x.played.thread ≡ y.played.thread →
       x.played.line < y.played.line → x.gives t ≤ y.saw t
 
--- What the ops of workers ensure for their own seats. `lists` are those of all threads at the phases' ends.
+-- What the ops of workers ensure for their own seats.
 --   told, lines: each log segment is what its answer requires, and entered only what is of its line
 --   rows: the transitions of each thread's registers
 --   seen: what its seat had seen
---   caches: the lists to which its records lead at each phase's end
-pub record HeapTells (t : Trace) (r : Told) (ts : List ToldRecord) (lists : ℕ → Caches) : Type 0 where
+pub record HeapTells (t : Trace) (r : Told) (ts : List ToldRecord) : Type 0 where
   pub told : AreTold (sizes_in t r) ts
   pub lines : (q : ℕ) → q < 6 → AreOfLines q ts
   pub rows : (k : ℕ) → HasToldRows (sizes_in t r) (facts_in t r) (no_regs k) (filter (is_of_thread k) ts)
   pub seen : HaveSeen ts
-  pub caches : (n k : ℕ) → 1 ≤ n → n ≤ phases_in t.lines →
-      CacheLeadsTo t.partitions r.roots (no_caches k) (records_by k (until n (played_in ts))) (lists n k)
 
 -- ---- the report
 
@@ -228,48 +225,72 @@ pub record IsCensusBy (list pool_list : List Made) (c : Census) : Type 0 where
   pub replays : IsJournal pool journal
   pub taken : c ≡ census (root_replayed pool journal new_root)
 
--- A line of the report is what the workers' counts of steps, their lists and the root's census say at the end of its phase,
--- with these lists and this seat.
-pub record IsLineSaid (t : Trace) (r : Told) (v : View) (ts : List ToldRecord) (all : Caches) (seat : View) (l : ReportLine) : Type 0 where
+-- A line of the report, but for its cached slots, is what the workers' counts of steps and the root's census say at the end of its
+-- phase, with this seat.
+pub record IsLineSaid (t : Trace) (r : Told) (v : View) (ts : List ToldRecord) (seat : View) (l : ReportLine) : Type 0 where
   pub live : IsLeftBy issues frees (homes_in t r) (sizes_in t r) l.partition t.threads (until l.phase (played_in ts)) l.live
   pub quarantined :
       IsLeftBy enters leaves (homes_in t r) (sizes_in t r) l.partition t.threads (until l.phase (played_in ts)) l.quarantined
-  pub cached : (l.cached.slots ≡ cached_slots all l.partition t.threads) × (l.cached.bytes ≡ cached_bytes all l.partition t.threads)
   pub root : IsCensusBy (list_of l.partition seat) (list_of 4 v) (census_of l)
 
 -- ---- all at once
 
--- What all layers say of a run.
---   seats, lists, swaps: the seats and the threads' lists at the phases' ends, and the exchanges
+-- What all layers say of a run, but for the threads' lists.
+--   seats, swaps: the seats at the phases' ends, and the exchanges
 pub record LayersSay (t : Trace) (r : Told) (v : View) (ts : List ToldRecord) : Type 0 where
   pub seats : ℕ → View
-  pub lists : ℕ → Caches
   pub swaps : List SwapMade
   pub runner : RunnerSays t r v ts seats
   pub pool : PoolTells t r v ts
   pub roots : RootsTell t r v ts
   pub cells : CellsTell r v ts swaps
-  pub heap : HeapTells t r ts lists
-  pub report : (l : ReportLine) → Contains r.report l → IsLineSaid t r v ts (lists l.phase) (seats l.phase) l
+  pub heap : HeapTells t r ts
+  pub report : (l : ReportLine) → Contains r.report l → IsLineSaid t r v ts (seats l.phase) l
 
--- What the layers ensure besides for the seat that closes the region, with these as the threads' lists at the end.
+-- What the ops of workers ensure for the threads' lists.
+--   lists: those of all threads at the phases' ends
+--   caches: they are the ones to which a thread's records lead at each phase's end
+--   cached: a line of the report counts what they hold of its partition at the end of its phase
+pub record ListsSay (t : Trace) (r : Told) (ts : List ToldRecord) : Type 0 where
+  pub lists : ℕ → Caches
+  pub caches : (n k : ℕ) → 1 ≤ n → n ≤ phases_in t.lines →
+      CacheLeadsTo t.partitions r.roots (no_caches k) (records_by k (until n (played_in ts))) (lists n k)
+  pub cached : (l : ReportLine) → Contains r.report l →
+      (l.cached.slots ≡ cached_slots (lists l.phase) l.partition t.threads)
+      × (l.cached.bytes ≡ cached_bytes (lists l.phase) l.partition t.threads)
+
+-- What the layers ensure besides for the seat that closes the region.
 --   unmaps: a title that a log segment says was uncut goes back by an entry of the same record
 --   rooted: a slot that was made and is with its root is free in the seat, as the root's seat held it
---   listed: so is the title of a slot on a thread's list
+--   waits: so is one that exists, is out of its root and is named by no log, as the seat of a worker held it, where it waited
 --   clean: each Own of the seat is clean
-pub record CloseSays (t : Trace) (r : Told) (v : View) (ts : List ToldRecord) (all : Caches) : Type 0 where
+pub record CloseSays (t : Trace) (r : Told) (v : View) (ts : List ToldRecord) : Type 0 where
   pub unmaps : OnlyUnmapsUncut ts
   pub rooted : (p : ℕ) (u : Title) → IsMade (root_replayed r.pools (r.roots p) new_root) u →
       (IsNameOut (root_replayed r.pools (r.roots p) new_root) (name_of u) → ⊥) → 0 < free_of v u
-  pub listed : (k p class : ℕ) (m : Numbered) → k < t.threads → p < t.partitions → class < class_count → Contains (all k p class) m →
-      0 < free_of v (title_of (sizes_in t r) m.slot)
+  pub waits : OutIsFree (sizes_in t r) r.pools r.roots v
   pub clean : unclean_of v ≡ 0
 
--- If all layers say what they must, all that must be known of the run is known, and it is legal. If the close ensures for its seat
--- what the words are, they hold the run.
+-- What follows if all layers say what they must. How slots flow follows from what is said of the threads' lists, or of lists and queues.
+--   flows: how slots flow, by the threads' lists
+--   played: all that must be known of the run is known
+--   clauses: it has the clauses of a legal run, but those of the caches and of the report
+--   lines: each line of its report is right but for its cached slots
+--   legal: with the threads' lists, it is legal
+--   waits: if the closing seat has the titles on the threads' lists at the end free, it has those free that are out of their roots
+--   held: if the close ensures for its seat what the words are, they hold the run
 pub record LayersTellAll : Type 0 where
+  pub flows : (t : Trace) (r : Told) (v : View) (ts : List ToldRecord) → LayersSay t r v ts → ListsSay t r ts →
+      SlotsFlow t.partitions r.roots (played_in ts)
   pub played : (t : Trace) (r : Told) (v : View) (ts : List ToldRecord) → LayersSay t r v ts →
-      IsPlayedOut (sizes_in t r) (place_of (list_of 5 v)) t r v ts
-  pub legal : (t : Trace) (r : Told) (v : View) (ts : List ToldRecord) → LayersSay t r v ts → IsLegalTold t r
-  pub held : (words : List ℕ) (t : Trace) (r : Told) (v : View) (ts : List ToldRecord) (says : LayersSay t r v ts) →
-      CloseSays t r v ts (says.lists (phases_in t.lines)) → IsEnd words v → IsHeldIn t r words
+      SlotsFlow t.partitions r.roots (played_in ts) → IsPlayedOut (sizes_in t r) (place_of (list_of 5 v)) t r v ts
+  pub clauses : (t : Trace) (r : Told) (v : View) (ts : List ToldRecord) → LayersSay t r v ts →
+      SlotsFlow t.partitions r.roots (played_in ts) → HasClauses t r (records_of t r)
+  pub lines : (t : Trace) (r : Told) (v : View) (ts : List ToldRecord) → LayersSay t r v ts →
+      SlotsFlow t.partitions r.roots (played_in ts) → (l : ReportLine) → Contains r.report l →
+      IsLineShared (played_in ts) r.pools r.roots l
+  pub legal : (t : Trace) (r : Told) (v : View) (ts : List ToldRecord) → LayersSay t r v ts → ListsSay t r ts → IsLegalTold t r
+  pub waits : (t : Trace) (r : Told) (v : View) (ts : List ToldRecord) → LayersSay t r v ts → (lists : ListsSay t r ts) →
+      ListedIsFree t.threads t.partitions (sizes_in t r) (lists.lists (phases_in t.lines)) v → OutIsFree (sizes_in t r) r.pools r.roots v
+  pub held : (words : List ℕ) (t : Trace) (r : Told) (v : View) (ts : List ToldRecord) → LayersSay t r v ts →
+      SlotsFlow t.partitions r.roots (played_in ts) → CloseSays t r v ts → IsEnd words v → IsHeldIn t r words

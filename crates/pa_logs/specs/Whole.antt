@@ -1,4 +1,5 @@
--- What is known of a run that was played in a region, and that it is legal.
+-- What is known of a run that was played in a region, that it has the clauses of a legal run but those of the threads' lists and of
+-- the report, and that with these it is legal.
 use Rattle.std.specs.Prelude.{◌≡◌, ℕ, ◌<◌, List, Contains}
 use Rattle.pa_slot.specs.declared.word.SlotName.{SlotName}
 use Rattle.pa_trace.specs.Rules.{rules_of}
@@ -15,7 +16,8 @@ use Rattle.pa_rules.specs.Report.{IsReport}
 use Rattle.pa_rules.specs.Sizes.{usable_of}
 use Rattle.pa_rules.specs.Told.{Told, records_of}
 use Rattle.pa_rules.specs.Legal.{phases_in, IsLegalTold}
-use Rattle.pa_legal.specs.Known.{UnmapsNext}
+use Rattle.pa_legal.specs.Flows.{SlotsFlow, UnmapsNext}
+use Rattle.pa_legal.specs.Known.{HasClauses}
 use Rattle.pa_legal.specs.Numbers.{AreNumbered}
 use Rattle.pa_logs.specs.Told.{ToldRecord, played_in}
 use Rattle.pa_logs.specs.Touches.{AreTold}
@@ -28,7 +30,8 @@ use Rattle.pa_logs.specs.Viewed.{IsExchanged, AreViewed}
 --   last, ends: at the end and at each phase's end a view knows all logs
 --   readers: reads are known to be through their handles
 --   viewed, handed, threads: what seats had seen, and the order of exchanges, in which a line has the place `place`
---   cells, registers, pool, roots, caches, report: six clauses of a legal run
+--   cells, registers, pool, roots: four clauses of a legal run
+--   flows: how slots flow from the roots to the threads and back
 --   numbers, unmaps: a root's numbers, and direct maps that go back
 pub record IsPlayedOut (sizes : SlotName → ℕ) (place : ℕ → ℕ) (t : Trace) (r : Told) (v : View) (ts : List ToldRecord) : Type 0 where
   pub due : AreDue (rules_of t) t.lines r.entries
@@ -45,13 +48,19 @@ pub record IsPlayedOut (sizes : SlotName → ℕ) (place : ℕ → ℕ) (t : Tra
   pub registers : AreRegisters (usable_of t.version) r.cells (played_in ts)
   pub pool : IsPoolOf t.region (played_in ts) r.pools r.roots
   pub roots : AreRoots t.partitions (played_in ts) r.pools r.roots
-  pub caches : AreCaches t.partitions r.roots (played_in ts)
-  pub report : IsReport (phases_in t.lines) t.partitions t.threads (played_in ts) r.pools r.roots r.report
+  pub flows : SlotsFlow t.partitions r.roots (played_in ts)
   pub numbers : AreNumbered r.roots
   pub unmaps : (x : Played) → Contains (played_in ts) x → UnmapsNext r.roots x
 
--- The output of a run that was played out is legal.
+-- a run that was played out has the clauses of a legal run, but those of the caches and of the report
+abbrev pub ClausesAreTold : Type 0
+ClausesAreTold =
+    (sizes : SlotName → ℕ) (place : ℕ → ℕ) (t : Trace) (r : Told) (v : View) (ts : List ToldRecord) →
+    IsPlayedOut sizes place t r v ts → HasClauses t r (records_of t r)
+
+-- the output of a run that was played out is legal, if its caches and its report are those of a legal run
 abbrev pub LegalIsTold : Type 0
 LegalIsTold =
     (sizes : SlotName → ℕ) (place : ℕ → ℕ) (t : Trace) (r : Told) (v : View) (ts : List ToldRecord) →
-    IsPlayedOut sizes place t r v ts → IsLegalTold t r
+    IsPlayedOut sizes place t r v ts → AreCaches t.partitions r.roots (played_in ts) →
+    IsReport (phases_in t.lines) t.partitions t.threads (played_in ts) r.pools r.roots r.report → IsLegalTold t r

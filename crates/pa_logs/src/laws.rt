@@ -9,13 +9,13 @@ ghost use Rattle.pa_logs.specs.Reported.{ReportFollows};
 ghost use Rattle.pa_logs.specs.Rows.{ThreadsMerge, UsableFollows};
 ghost use Rattle.pa_logs.specs.Said.{LayersTellAll};
 ghost use Rattle.pa_logs.specs.Seats.{SeatsKnow};
-ghost use Rattle.pa_logs.specs.Standing.{StandsHeld, StandsUncut};
+ghost use Rattle.pa_logs.specs.Standing.{ListedWait, StandsHeld, StandsUncut};
 ghost use Rattle.pa_logs.specs.Steps.{ContentFollows, HistoriesFollow, SlotsFollow};
 ghost use Rattle.pa_logs.specs.Swaps.{CellsFollow, SwapsFollow};
 ghost use Rattle.pa_logs.specs.Told.{LogsAreTold};
 ghost use Rattle.pa_logs.specs.Touches.{TellsItsMark};
 ghost use Rattle.pa_logs.specs.Viewed.{SeenFollows};
-ghost use Rattle.pa_logs.specs.Whole.{LegalIsTold};
+ghost use Rattle.pa_logs.specs.Whole.{ClausesAreTold, LegalIsTold};
 ghost use Rattle.pa_logs.specs.Worked.{WorkedIsReadOff, WorkedIsSeen};
 
 /// What is weighed over the logs of a view with every stake is weighed over the records.
@@ -71,6 +71,12 @@ pub fn entries_in_order()
 /// The acts of a line in a journal are those that its record entered.
 pub fn acts_are_theirs()
     ensures { ActsAreTheirs }
+{}
+
+/// A run has the clauses of a legal run but those of the threads' lists and of the report, if all this is known of its
+/// records and logs.
+pub fn clauses_are_told()
+    ensures { ClausesAreTold }
 {}
 
 /// A run is legal if all this is known of its records, logs and lists.
@@ -149,9 +155,14 @@ pub fn stands_uncut()
     ensures { StandsUncut }
 {}
 
-/// The closing seat holds each title that exists and that no log names: it is with its root, or on a thread's list.
+/// The closing seat holds each title that exists and that no log names: it is with its root, or waits with a thread.
 pub fn stands_held()
     ensures { StandsHeld }
+{}
+
+/// A title that exists, is out of its root and is named by no log is on a thread's list, if free slots wait there.
+pub fn listed_wait()
+    ensures { ListedWait }
 {}
 
 /// The clauses of the pool and of the roots hold, and the closing seat is as required, from what

@@ -90,7 +90,7 @@ exact_contents usable_of cells ps alone h x among = exact usable_of cells ps x x
 -- ---- numbers
 
 -- no mark finds a lower number of its slot than one on a lesser line left
-abbrev FindsNoLess : List Mark → Type 0
+abbrev pub FindsNoLess : List Mark → Type 0
 FindsNoLess ms = (m n : Mark) → Contains ms m → Contains ms n → m.line < n.line → m.slot ≡ n.slot → left_number m ≤ number_of n.found
 
 finds_no_less : (cells : ℕ → List CellEntry) (ps : List Played) → IsAlone ps → IsSeenInOrder cells ps → FindsNoLess (marks_of ps)
@@ -183,7 +183,7 @@ finds_left ms slots rises seen front back m parts h =
           ]
         ]
 
-numbers : (ms : List Mark) → Slots ms → AllPairs Rises ms → FindsNoLess ms → AreNumbersInFileOrder ms
+pub numbers : (ms : List Mark) → Slots ms → AllPairs Rises ms → FindsNoLess ms → AreNumbersInFileOrder ms
 numbers ms slots rises seen m among =
     let (front, back, parts) = parts_at ms m among in
     let h = front_of ms slots front (m ∷ back) rises (finds_left ms slots rises seen) parts in

@@ -9,7 +9,7 @@ use Rattle.pa_region.specs.declared.view.View.{View}
 use Rattle.pa_region.specs.Views.{free_of, seen_of, stake_of}
 use Rattle.pa_region.specs.Lists.{list_of, IsBeginning, list_among, entry_in, entered_in}
 use Rattle.pa_region.specs.Takes.{log_of}
-use Rattle.pa_op_specs.specs.Stocks.{StockValue}
+use Rattle.pa_op_specs.specs.Stocks.{StockValue, listed_in}
 use Rattle.std.proofs.lemmas.List.Elements.{Contains-append_cases}
 use Rattle.std.proofs.lemmas.Bool.Decides.{nat_tests}
 use Rattle.pa_slot.specs.Count.{number_of}
@@ -31,19 +31,20 @@ use Rattle.pa_region.specs.declared.view.Made.{Made}
 use Rattle.pa_region.specs.Lending.{Lends}
 use Rattle.pa_region.proofs.LendBack.{begins_on}
 use Rattle.pa_rules.specs.declared.played.Played.{Played}
-use Rattle.pa_rules.specs.Caches.{acts_of, OnlyActs}
+use Rattle.pa_rules.specs.Caches.{acts_of, OnlyActs, CacheRow}
 use Rattle.pa_rules.specs.Roots.{Journals, MakesEntry}
-use Rattle.pa_legal.specs.Known.{UnmapsNext}
+use Rattle.pa_legal.specs.Flows.{UnmapsNext}
 use Rattle.pa_logs.specs.Told.{ToldRecord}
 use Rattle.pa_logs.specs.Listed.{line_of, first_of}
 use Rattle.pa_logs.specs.Indices.{Enters, AskedNone, AskedOnce, IsFullAt}
 use Rattle.pa_logs.specs.Standing.{Unmaps}
+use Rattle.pa_step_order.specs.Signs.{HasItsSigns}
 use Rattle.pa_root.specs.Making.{EntersOne, EntersTwo}
 use Rattle.pa_root.specs.Handing.{root_entry}
 use Rattle.pa_op_specs.specs.Outcomes.{Outcome, IsOutcome, IsSeenOf, ActsAreOf, FillsFrom}
 use Rattle.pa_op_specs.specs.Entering.{EntersCells, HasSeenSome}
-use Rattle.pa_op_specs.specs.Owing.{OwesOf, KeepsWords}
-use Rattle.pa_op_specs.specs.Plays.{DoesOp, AnswersIn}
+use Rattle.pa_op_specs.specs.Owing.{OwesOf, AddsNothing, KeepsWords}
+use Rattle.pa_op_specs.specs.Plays.{KeepsApart, Does, DoesOp, AnswersIn}
 use Rattle.pa_op_specs.proofs.Touching.{Touches, Touched}
 use Rattle.pa_op_specs.proofs.Quiet.{quiet_record}
 
@@ -367,17 +368,24 @@ pub record SaysEntered (s after : StockValue) (x : ToldRecord) : Type 0 where
       LineActs o x it
       → AnswersIn o s after x
 
+-- What it entered, in each run in which the acts of its line are these, is in its order and is what its thread's lists require, and leads
+-- to the next.
+abbrev pub LeadsEntered : (s after : StockValue) (x : ToldRecord) → Enters x → Type 0
+LeadsEntered s after x it =
+    (o : Outcome) → IsOutcome o → o.partitions ≡ s.partitions → x.played.rules ≡ o.rules → IsSeenOf o after.view → LineActs o x it →
+    HasItsSigns o.partitions o.roots x × CacheRow o.partitions o.roots x.played x.played.answer (listed_in s) (listed_in after)
+
 no_entries : (ms : List Made) → map (λ (m : Made). m.numbers) ms ≡ [] → ms ≡ []
 no_entries [] none = refl
 no_entries (m ∷ ms) none = absurd cc
 
-pub entered_does : (s after : StockValue) (line : ℕ) (op : Op) (answer : Answer) (es : List Entry) → after.thread ≡ s.thread →
+-- all that the op does but for its thread's lists
+pub entered_some : (s after : StockValue) (line phase : ℕ) (op : Op) (answer : Answer) (es : List Entry) → after.thread ≡ s.thread →
     after.partitions ≡ s.partitions → after.plain_from ≡ s.plain_from → after.caches.version ≡ s.caches.version →
     Entering s.thread line es s.view after.view →
-    ((phase : ℕ) → SaysEntered s after (quiet_record s after.view line phase op answer es)) → DoesOp line op answer s after
-entered_does s after line op answer es thread partitions plain version entering says phase = (
-  x,
-  refl,
+    SaysEntered s after (quiet_record s after.view line phase op answer es) →
+    Does s after (quiet_record s after.view line phase op answer es) × AddsNothing es
+entered_some s after line phase op answer es thread partitions plain version entering say = (
   record {
     thread = refl;
     same = (thread, partitions, plain);
@@ -415,8 +423,28 @@ entered_does s after line op answer es thread partitions plain version entering 
     x : ToldRecord
     x = quiet_record s after.view line phase op answer es
 
-    say : SaysEntered s after x
-    say = says phase
-
     none : entered_in 5 es ≡ []
     none = cells_none s.thread line es s.view after.view entering
+
+-- The op does what it should if besides it keeps what is free and on no list, and leads the lists.
+pub entered_does : (s after : StockValue) (line : ℕ) (op : Op) (answer : Answer) (es : List Entry) → after.thread ≡ s.thread →
+    after.partitions ≡ s.partitions → after.plain_from ≡ s.plain_from → after.caches.version ≡ s.caches.version →
+    Entering s.thread line es s.view after.view → KeepsApart s after →
+    (says : (phase : ℕ) → SaysEntered s after (quiet_record s after.view line phase op answer es)) →
+    ((phase : ℕ) → LeadsEntered s after (quiet_record s after.view line phase op answer es) (says phase).it) →
+    DoesOp line op answer s after
+entered_does s after line op answer es thread partitions plain version entering apart says leads phase =
+    let x = quiet_record s after.view line phase op answer es in
+    let say = says phase in
+    let (does, adds) = entered_some s after line phase op answer es thread partitions plain version entering say in
+    let led : LeadsEntered s after x say.it = leads phase in (
+      x,
+      refl,
+      does,
+      record {
+        apart = apart;
+        signs = λ o fits. (led o fits.run fits.many fits.rules fits.seen (line_acts o x say.it fits.run fits.acts)).0;
+        row = λ o fits. (led o fits.run fits.many fits.rules fits.seen (line_acts o x say.it fits.run fits.acts)).1;
+      },
+      adds,
+    )

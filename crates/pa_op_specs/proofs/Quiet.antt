@@ -28,8 +28,8 @@ use Rattle.pa_logs.specs.Said.{ReadsIts}
 use Rattle.pa_op_specs.specs.Stocks.{StockRegister, StockValue, WorkerLists, HoldsLists, titles_in, listed_in, regs_of, rules_at}
 use Rattle.pa_op_specs.specs.Outcomes.{Outcome, IsOutcome, IsSeenOf, ActsAreOf, row_facts}
 use Rattle.pa_op_specs.specs.Entering.{EntersCells}
-use Rattle.pa_op_specs.specs.Owing.{OwesOf, KeepsWords}
-use Rattle.pa_op_specs.specs.Plays.{DoesOp}
+use Rattle.pa_op_specs.specs.Owing.{OwesOf, AddsNothing, KeepsWords}
+use Rattle.pa_op_specs.specs.Plays.{IsApart, KeepsApart, Does, DoesOp}
 use Rattle.pa_step_order.proofs.Shaping.{shapes_have_signs}
 use Rattle.pa_op_specs.proofs.Touching.{Touches, Touched}
 
@@ -66,7 +66,6 @@ quiet_record s w line phase op answer es = record {
 pub record Says (o : Outcome) (s after : StockValue) (x : ToldRecord) : Type 0 where
   pub told : IsToldBy o.sizes x.played.op x.played.answer x.stretch
   pub row : Row (row_facts o) x.played.op (regs_of s.registers) x.played.answer (regs_of after.registers)
-  pub lists : CacheRow o.partitions o.roots x.played x.played.answer (listed_in s) (listed_in after)
   pub reader : ReadsIts o.sizes (regs_of s.registers) x.played.op x
   pub home : (m : Mark) → mark_of_answer x.played.line x.played.op x.played.answer ≡ Some m → (p : ℕ) ×
       HasSize o.roots p m.slot (o.sizes m.slot)
@@ -106,16 +105,26 @@ pub record IsQuiet (op : Op) (answer : Answer) : Type 0 where
   pub no_swap : (j : ℕ) → answer ≡ answers.Swapped j → ⊥
   pub cells : (list : List Made) (x : ToldRecord) → entered_in 5 x.stretch ≡ [] → EntersCells op list x
 
-pub touched_does : (s : StockValue) (w : View) (registers : List StockRegister) (caches : WorkerLists) (op : Op) (answer : Answer)
+-- a title that is free and on no list stays so, if it isn't on one of the lists after the op
+pub touched_apart : (s : StockValue) (w : View) (registers : List StockRegister) (caches : WorkerLists) (es : List Entry) →
+    Touched s.thread es s.view w →
+    ((t : Title) → IsApart t s → (p class : ℕ) → Contains (titles_in caches p class) t → ⊥) →
+    KeepsApart s (record s { view = w; registers = registers; caches = caches })
+touched_apart s w registers caches es touched off t is = (
+  record { free = let a = is.free in let b = touched.frees t in omega arith; off = off t is; well = is.well },
+  touched.numbers t is.free,
+)
+
+-- all that the op does but for its thread's lists
+pub touched_some : (s : StockValue) (w : View) (registers : List StockRegister) (caches : WorkerLists) (op : Op) (answer : Answer)
     (es : List Entry) →
     caches.version ≡ s.caches.version → Touched s.thread es s.view w → IsQuiet op answer → OwesOf s.registers op answer es →
     KeepsWords answer s.view w →
-    ((line phase : ℕ) (o : Outcome) → IsOutcome o → rules_at s ≡ o.rules → IsSeenOf o w → NoActs o.roots line →
+    ((line phase : ℕ) (o : Outcome) → IsOutcome o → rules_at s ≡ o.rules → IsSeenOf o w →
     Says o s (record s { view = w; registers = registers; caches = caches }) (quiet_record s w line phase op answer es)) →
-    (line : ℕ) → DoesOp line op answer s (record s { view = w; registers = registers; caches = caches })
-touched_does s w registers caches op answer es kept touched quiet owes words says line phase = (
-  x,
-  refl,
+    (line phase : ℕ) →
+    Does s (record s { view = w; registers = registers; caches = caches }) (quiet_record s w line phase op answer es) × AddsNothing es
+touched_some s w registers caches op answer es kept touched quiet owes words says line phase = (
   record {
     thread = refl;
     same = (refl, refl, refl);
@@ -144,16 +153,14 @@ touched_does s w registers caches op answer es kept touched quiet owes words say
     words = words;
     answers = λ o fits.
         let here = no_acts o x fits.run fits.acts none in
-        let say = says line phase o fits.run fits.rules fits.seen here in
+        let say = says line phase o fits.run fits.rules fits.seen in
         record {
           told = say.told;
           row = say.row;
-          lists = say.lists;
           reader = say.reader;
           unmaps = λ seen p asked slot e is among on act. absurd (kept_of_line (o.roots p) line e among on (here p));
           makes = λ p m e low among is. absurd (not_in_none m (subst (λ ms. Contains ms m) (none p) among));
           home = say.home;
-          signs = shapes_have_signs.quiet o.sizes o.partitions o.roots x say.told none here quiet.no_swap;
         };
   },
   λ word bytes among. touched.each (Added word bytes) among,
@@ -173,15 +180,46 @@ touched_does s w registers caches op answer es kept touched quiet owes words say
       pools_are = ap (λ (ms : List Made). map (λ m. m.numbers) ms) (none 4);
     }
 
+-- The op does what it should if besides it leads the lists, in a run in which no entry is of its line.
+pub touched_does : (s : StockValue) (w : View) (registers : List StockRegister) (caches : WorkerLists) (op : Op) (answer : Answer)
+    (es : List Entry) →
+    caches.version ≡ s.caches.version → Touched s.thread es s.view w → IsQuiet op answer → OwesOf s.registers op answer es →
+    KeepsWords answer s.view w → KeepsApart s (record s { view = w; registers = registers; caches = caches }) →
+    ((line phase : ℕ) (o : Outcome) → IsOutcome o → rules_at s ≡ o.rules → IsSeenOf o w →
+    Says o s (record s { view = w; registers = registers; caches = caches }) (quiet_record s w line phase op answer es)) →
+    ((line phase : ℕ) (o : Outcome) → IsOutcome o → rules_at s ≡ o.rules → IsSeenOf o w → NoActs o.roots line →
+    CacheRow o.partitions o.roots (quiet_record s w line phase op answer es).played answer (listed_in s)
+    (listed_in (record s { view = w; registers = registers; caches = caches }))) →
+    (line : ℕ) → DoesOp line op answer s (record s { view = w; registers = registers; caches = caches })
+touched_does s w registers caches op answer es kept touched quiet owes words apart says leads line phase =
+    let x = quiet_record s w line phase op answer es in
+    let (does, adds) = touched_some s w registers caches op answer es kept touched quiet owes words says line phase in
+    let none : (q : ℕ) → entered_in q es ≡ [] = λ q. entered_none q es s.view w touched.each in (
+      x,
+      refl,
+      does,
+      record {
+        apart = apart;
+        signs = λ o fits. shapes_have_signs.quiet o.sizes o.partitions o.roots x (says line phase o fits.run fits.rules fits.seen).told none
+            (no_acts o x fits.run fits.acts none) quiet.no_swap;
+        row = λ o fits. leads line phase o fits.run fits.rules fits.seen (no_acts o x fits.run fits.acts none);
+      },
+      adds,
+    )
+
 -- what a quiet op does, if the lists are as they were
 pub quiet_does : (s : StockValue) (w : View) (registers : List StockRegister) (op : Op) (answer : Answer) (es : List Entry) →
     HoldsLists s.caches s.view → Touched s.thread es s.view w → IsQuiet op answer → OwesOf s.registers op answer es →
     KeepsWords answer s.view w →
-    ((line phase : ℕ) (o : Outcome) → IsOutcome o → rules_at s ≡ o.rules → IsSeenOf o w → NoActs o.roots line →
-    SameLists (listed_in (record s { view = w; registers = registers })) (listed_in s) →
+    ((line phase : ℕ) (o : Outcome) → IsOutcome o → rules_at s ≡ o.rules → IsSeenOf o w →
     Says o s (record s { view = w; registers = registers }) (quiet_record s w line phase op answer es)) →
+    ((line phase : ℕ) (o : Outcome) → NoActs o.roots line →
+    SameLists (listed_in (record s { view = w; registers = registers })) (listed_in s) →
+    CacheRow o.partitions o.roots (quiet_record s w line phase op answer es).played answer (listed_in s)
+    (listed_in (record s { view = w; registers = registers }))) →
     (line : ℕ) → DoesOp line op answer s (record s { view = w; registers = registers })
-quiet_does s w registers op answer es lists touched quiet owes words says =
+quiet_does s w registers op answer es lists touched quiet owes words says leads =
     touched_does s w registers s.caches op answer es refl touched quiet owes words
-    (λ line phase o run rules sees none. says line phase o run rules sees none
+    (touched_apart s w registers s.caches es touched (λ t is. is.off)) says
+    (λ line phase o run rules sees none. leads line phase o none
     (λ p c. same_titles s.view w (titles_in s.caches p c) (λ t among. touched.numbers t (lists.free p c t among))))

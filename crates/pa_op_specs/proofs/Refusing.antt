@@ -129,13 +129,13 @@ plain_does s op answer is no_swap plain row reads =
     quiet_does s s.view s.registers op answer [] is.lists (touched_none s.thread s.view)
     (record { room = p.room; no_swap = p.no_swap; cells = enters_no_cells op no_swap })
     (p.owes s.registers) (λ refused q known. refl)
-    (λ line phase o run rules sees none same. record {
+    (λ line phase o run rules sees. record {
       told = p.told o.sizes;
       row = row o run rules sees;
-      lists = p.lists o.partitions o.roots (quiet_record s s.view line phase op answer []).played _ _ none same;
       reader = reads o line phase run sees;
       home = λ m e. absurd (p.home line m e);
     })
+    (λ line phase o none same. p.lists o.partitions o.roots (quiet_record s s.view line phase op answer []).played _ _ none same)
 
 -- A copy, a reset, a free, a write or a read that its register alone refuses.
 pub copy_refuses : (s : StockValue) (from to : ℕ) (answer : Answer) → IsStock s → copy_next (register_in s.registers from) ≡ Err answer →

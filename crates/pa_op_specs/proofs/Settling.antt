@@ -42,7 +42,7 @@ use Rattle.pa_op_specs.specs.Workers.{WorkerValue}
 use Rattle.pa_op_specs.specs.Booking.{booked}
 use Rattle.pa_op_specs.specs.Outcomes.{Outcome, ActsAreOf, FitsRun}
 use Rattle.pa_op_specs.specs.Entering.{EntersCells, EntersOwn}
-use Rattle.pa_op_specs.specs.Plays.{Does, PlaysOne, PlaysAll}
+use Rattle.pa_op_specs.specs.Plays.{Does, LeadsLists, PlaysOne, PlaysAll}
 use Rattle.pa_op_specs.specs.Settling.{lengthened, last_lengthened, settled_worker, SettlingEndsPhase}
 use Rattle.pa_op_specs.proofs.Stakes.{least_is, can_settle}
 
@@ -304,13 +304,11 @@ module _ (leaves : SettleAllLeaves) (owed : List Owed) where
         record {
           told = told_on (all_added owed) added o.sizes x.played.op x.played.answer x.stretch a.told;
           row = a.row;
-          lists = a.lists;
           reader = reader_on (all_added owed) added o.sizes (regs_of s.registers) x.played.op x a.reader;
           unmaps = a.unmaps;
           makes = λ p m e low among is. a.makes p m e low
               (subst (λ (ms : List Made). Contains ms m) (entered (all_added owed) added p x.stretch) among) is;
           home = a.home;
-          signs = shapes_have_signs.settled o.partitions o.roots x (all_added owed) added a.signs;
         };
   }
     where
@@ -360,12 +358,28 @@ module _ (leaves : SettleAllLeaves) where
         one.bytes o (fits_back leaves v.owed o w.stock.partitions v.stock.view x fits) p q low kind;
   }
 
+  -- what led the lists does so with additions at the end of its log segment
+  leads_on : (w v : WorkerValue) (x : ToldRecord) → LeadsLists w.stock v.stock x →
+      LeadsLists w.stock (settled_worker v).stock (lengthened (all_added v.owed) x)
+  leads_on w v x leads = record {
+    apart = λ t is.
+        let (still, seen) = leads.apart t is in
+        (record { free = still.free; off = still.off; well = still.well }, seen);
+    signs = λ o fits. shapes_have_signs.settled o.partitions o.roots x (all_added v.owed) (added leaves v.owed)
+        (leads.signs o (fits_back leaves v.owed o w.stock.partitions v.stock.view x fits));
+    row = λ o fits. leads.row o (fits_back leaves v.owed o w.stock.partitions v.stock.view x fits);
+  }
+
   all_on : (w v : WorkerValue) (x : ToldRecord) (xs : List ToldRecord) → PlaysAll w (x ∷ xs) v →
       least_stake v.stock.view.stakes ≡ v.stock.thread → CanSettleAll v.owed v.stock.view →
       PlaysAll w (last_lengthened (all_added v.owed) (x ∷ xs)) (settled_worker v)
-  all_on w v x [] (next, one, same) mine can =
-      (settled_worker v, one_on w v x (subst (λ (z : WorkerValue). PlaysOne w z x) (sym same) one) mine can, refl)
-  all_on w v x (y ∷ xs) (next, one, more) mine can = (next, one, all_on next v y xs more mine can)
+  all_on w v x [] (next, one, leads, same) mine can = (
+    settled_worker v,
+    one_on w v x (subst (λ (z : WorkerValue). PlaysOne w z x) (sym same) one) mine can,
+    leads_on w v x (subst (λ (z : WorkerValue). LeadsLists w.stock z.stock x) (sym same) leads),
+    refl,
+  )
+  all_on w v x (y ∷ xs) (next, one, leads, more) mine can = (next, one, leads, all_on next v y xs more mine can)
 
 same_records : (es : List Entry) (x : ToldRecord) (xs : List ToldRecord) → played_in (last_lengthened es (x ∷ xs)) ≡ played_in (x ∷ xs)
 same_records es x [] = refl

@@ -23,16 +23,17 @@ use Rattle.pa_record.specs.RunText.{NamesSlots, IsPrintable}
 use Rattle.pa_rules.specs.declared.played.Played.{Played}
 use Rattle.pa_rules.specs.Played.{AreDue, marks_of, played, AreLines}
 use Rattle.pa_rules.specs.Roots.{Journals, AreRoots, IsPoolOf, journal_at}
-use Rattle.pa_rules.specs.Caches.{Caches}
+use Rattle.pa_rules.specs.Caches.{Caches, AreCaches}
 use Rattle.pa_rules.specs.Report.{HasSize, IsTally, HasCensus, IsReportLine, IsReport, phases_of}
 use Rattle.pa_rules.specs.Told.{Told, told_by, records_of}
-use Rattle.pa_rules.specs.Legal.{phases_in, IsFileTold, IsFileRun}
+use Rattle.pa_rules.specs.Legal.{phases_in, IsLegalTold, IsFileTold, IsFileRun}
 use Rattle.pa_rules.specs.FileOrder.{IsInFileOrder}
 use Rattle.pa_rules.proofs.Numbering.{rising_differ}
 use Rattle.pa_rules.proofs.Recorded.{records_are_lines}
 use Rattle.pa_legal.specs.Known.{IsKnown}
 use Rattle.pa_legal.specs.Tallies.{AreHomes, IsTallied}
-use Rattle.pa_legal.proofs.Whole.{legal_follows}
+use Rattle.pa_legal.proofs.flow.Flowing.{caches_flow}
+use Rattle.pa_legal.proofs.Whole.{clauses_follow, legal_follows}
 use Rattle.pa_legal.proofs.tallies.Adding.{tallies_follow}
 use Rattle.pa_heap_effects.specs.Deeds.{IsPlacedTo}
 use Rattle.pa_heap_effects.specs.Onward.{IsPhaseEnd}
@@ -136,6 +137,9 @@ module _ (t : Trace) (p : Player) (same_rules : rules_at p ≡ rules_of t) (h : 
     right = report_right;
   }
 
+  are_caches : AreCaches t.partitions (journals p) h.ps
+  are_caches = (caches p, h.placed.caches)
+
   known : IsKnown t (lists_of (phase_ended p).told) h.ps
   known = record {
     lines = subst (λ (k : Rules). AreDue k t.lines p.told.entries) same_rules (subst (AreDue (rules_at p) t.lines) h.entries right.due);
@@ -145,9 +149,8 @@ module _ (t : Trace) (p : Player) (same_rules : rules_at p ≡ rules_of t) (h : 
     contents = subst (λ (k : Rules). AreContents (usable_of k.version) (shown p).cells h.ps) same_rules right.contents;
     pool = run_of.1;
     roots = run_of.0;
-    caches = (caches p, h.placed.caches);
+    flows = caches_flow t.partitions h.ps p.told.pools (journals p) run_of.0.journals are_caches;
     seen = right.seen;
-    report = report;
     numbers = h.placed.numbers;
     unmaps = h.placed.unmaps;
     used = right.used;
@@ -166,9 +169,17 @@ module _ (t : Trace) (p : Player) (same_rules : rules_at p ≡ rules_of t) (h : 
   same_records = ap (played (rules_of t) t.lines) (sym h.entries) ∙ records_are_lines.same (rules_of t) t.lines h.ps
       (subst (λ (k : Rules). AreLines k t.lines h.ps) same_rules h.told.lines)
 
+  legal : IsLegalTold t (lists_of (phase_ended p).told)
+  legal =
+      let r = lists_of (phase_ended p).told in
+      legal_follows t r (clauses_follow t r (subst (λ xs. IsKnown t r xs) (sym same_records) known))
+      (subst (λ xs. AreCaches t.partitions (journals p) xs) (sym same_records) are_caches)
+      (subst (λ xs. IsReport (phases_in t.lines) t.partitions t.threads xs p.told.pools (journals p) (phase_ended p).told.report)
+      (sym same_records) report)
+
   file_told : IsFileTold t (lists_of (phase_ended p).told)
   file_told = (
-    legal_follows t (lists_of (phase_ended p).told) (subst (λ xs. IsKnown t (lists_of (phase_ended p).told) xs) (sym same_records) known),
+    legal,
     subst (λ xs. IsInFileOrder xs p.told.pools (journals p) (shown p).cells) (sym same_records) in_order,
   )
 

@@ -30,10 +30,12 @@ use Rattle.pa_rules.specs.Told.{Told, records_of}
 use Rattle.pa_rules.specs.Legal.{phases_in, IsLegalTold}
 use Rattle.pa_rules.specs.Held.{IsHeldIn}
 use Rattle.pa_rules.proofs.Recorded.{records_are_lines}
+use Rattle.pa_legal.specs.Flows.{SlotsFlow}
 use Rattle.pa_timeline.specs.Timeline.{HasTimeline}
 use Rattle.pa_logs.specs.Told.{ToldRecord, played_in, is_of_thread}
 use Rattle.pa_logs.specs.Touches.{title_of}
-use Rattle.pa_logs.specs.Said.{sizes_in, IsLineSaid, LayersSay, CloseSays}
+use Rattle.pa_logs.specs.Said.{sizes_in, IsLineSaid, LayersSay, ListsSay, CloseSays}
+use Rattle.pa_logs.specs.Standing.{ListedIsFree}
 use Rattle.pa_logs.proofs.Due.{place_is}
 use Rattle.pa_logs.proofs.Filters.{filter_all}
 use Rattle.pa_logs.proofs.Reporting.{leads}
@@ -48,15 +50,17 @@ use Rattle.pa_heap.proofs.TakingIn.{first_known}
 use Rattle.pa_op_specs.specs.Stocks.{titles_in, listed_in, listed_slot}
 use Rattle.pa_op_specs.specs.Workers.{WorkerValue}
 use Rattle.pa_op_specs.proofs.Seeing.{slot_in_run}
+use Rattle.pa_execution.specs.Turns.{Beside}
 use Rattle.pa_execution.specs.Courses.{Course, HasSeenAll}
 use Rattle.pa_execution.specs.Merged.{told_in, lists_at, outcome_of}
 use Rattle.pa_execution.specs.Telling.{IsWholeRun}
-use Rattle.pa_execution.specs.Lines.{IsLineBy}
+use Rattle.pa_execution.specs.Lines.{IsLineBy, IsLineCached}
 use Rattle.pa_execution.proofs.Chaining.{sees_last}
 use Rattle.pa_execution.proofs.Fitting.{is_outcome, seen_of_it}
 use Rattle.pa_execution.proofs.Grouping.{are_lines, all_until, within}
-use Rattle.pa_execution.proofs.Keepers.{courses_tell_all, lists_told}
+use Rattle.pa_execution.proofs.Keepers.{courses_tell_all}
 use Rattle.pa_execution.proofs.Lining.{courses_tell_lines}
+use Rattle.pa_execution.proofs.Listing.{courses_tell_lists, lists_told}
 use Rattle.pa_execution.proofs.Timing.{courses_tell_timeline}
 use Rattle.pa_execution.proofs.Recording.{workers_have_theirs}
 use Rattle.pa_runner.specs.Linked.{HasLinkedLists}
@@ -98,10 +102,10 @@ module _ (t : Trace) (workers : List WorkerValue) (seat : View) (report : List R
       let n = phases_in t.lines in
       let ts = told_in t c in
       let count = went.same_count in
-      let theirs = workers_have_theirs t c limits course in
+      let theirs = workers_have_theirs Beside t c limits course in
       record {
         rules = rules_of t;
-        due = records_are_lines.due (rules_of t) t.lines (played_in ts) (are_lines t c limits course);
+        due = records_are_lines.due (rules_of t) t.lines (played_in ts) (are_lines Beside t c limits course);
         theirs = λ k below.
             let few : k < t.threads = omega arith in
             let told : (worker_in workers k).records ≡ (worker_in went.ends k).records =
@@ -109,7 +113,7 @@ module _ (t : Trace) (workers : List WorkerValue) (seat : View) (report : List R
             let ended : (c.ends n k).records ≡ (worker_in went.ends k).records =
             ap (λ (w : WorkerValue). w.records) (went.ended.ends k few) in
             told ∙ (sym ended ∙ (theirs.records n k (omega arith) (omega arith) few
-            ∙ (ap (λ (xs : List ToldRecord). map entry_of (played_in (filter (is_of_thread k) xs))) (all_until t c limits course) ∙
+            ∙ (ap (λ (xs : List ToldRecord). map entry_of (played_in (filter (is_of_thread k) xs))) (all_until Beside t c limits course) ∙
             thread_entries k ts)));
       }
 
@@ -165,7 +169,7 @@ module _ (t : Trace) (workers : List WorkerValue) (seat : View) (report : List R
 
     -- ---- the lines of the report
 
-    line_by : (l : ReportLine) → Contains report l → IsLineBy t went.course closed.last l
+    line_by : (l : ReportLine) → Contains report l → IsLineBy Beside t went.course closed.last l
     line_by l among =
         let place : ℕ × ℕ = (l.phase, l.partition) in
         let at = place_is t.partitions 1 (phases_in t.lines) place
@@ -174,30 +178,38 @@ module _ (t : Trace) (workers : List WorkerValue) (seat : View) (report : List R
         let high = at.high in
         let inside : l.phase ≤ phases_in t.lines = omega arith in
         let is = went.right l among in
-        let seen = sees_last t went.course limits went.ended.course closed.last is_whole.closes l.phase low inside in
+        let seen = sees_last Beside t went.course limits went.ended.course closed.last is_whole.closes l.phase low inside in
         record {
           live = is.live;
           quarantined = is.quarantined;
-          cached = is.cached;
           root = is.root (list_of 4 closed.last) left.pool.items (seen.lists 4) closed.lists.pool;
         }
 
     lines_said : (l : ReportLine) → Contains report l →
-        IsLineSaid t run_told closed.last (told_in t went.course) (lists_at t went.course l.phase) (went.course.seats l.phase) l
-    lines_said l among = courses_tell_lines t run_told went.course closed.last exchanges is_whole l among (line_by l among)
+        IsLineSaid t run_told closed.last (told_in t went.course) (went.course.seats l.phase) l
+    lines_said l among = courses_tell_lines Beside t run_told went.course closed.last exchanges is_whole l among (line_by l among)
 
     all_say : LayersSay t run_told closed.last (told_in t went.course)
-    all_say = courses_tell_all t run_told went.course closed.last exchanges is_whole lines_said
+    all_say = courses_tell_all Beside t run_told went.course closed.last exchanges is_whole lines_said
 
-    lists_say : (n : ℕ) → all_say.lists n ≡ lists_at t went.course n
-    unfolding all_say
-    lists_say n = lists_told t run_told went.course closed.last exchanges is_whole lines_said n
+    line_cached : (l : ReportLine) → Contains report l → IsLineCached t went.course l
+    line_cached l among = (went.right l among).cached
+
+    lists_all : ListsSay t run_told (told_in t went.course)
+    lists_all = courses_tell_lists t run_told went.course closed.last exchanges is_whole line_cached
+
+    lists_say : (n : ℕ) → lists_all.lists n ≡ lists_at t went.course n
+    unfolding lists_all
+    lists_say n = lists_told t run_told went.course closed.last exchanges is_whole line_cached n
+
+    flows : SlotsFlow t.partitions run_told.roots (played_in (told_in t went.course))
+    flows = layers_tell_all.flows t run_told closed.last (told_in t went.course) all_say lists_all
 
     pub is_legal : IsLegalTold t run_told
-    is_legal = layers_tell_all.legal t run_told closed.last (told_in t went.course) all_say
+    is_legal = layers_tell_all.legal t run_told closed.last (told_in t went.course) all_say lists_all
 
     pub has_timeline : HasTimeline t run_told
-    has_timeline = courses_tell_timeline t run_told went.course closed.last exchanges is_whole lines_said closed.clean
+    has_timeline = courses_tell_timeline t run_told went.course closed.last exchanges is_whole lines_said flows closed.clean
 
     -- ---- what the closing seat needs
 
@@ -215,10 +227,10 @@ module _ (t : Trace) (workers : List WorkerValue) (seat : View) (report : List R
         let ps = played_in ts in
         let now : until n ps ≡ ps = filter_all (λ (x : Played). leb x.phase n) ps (λ x among.
         let (y, there, is) = map_cases (λ (z : ToldRecord). z.played) ts x among in
-        le-leb x.phase n (subst (λ (z : Played). z.phase ≤ n) is (within t went.course limits went.ended.course y there).high)) in
+        le-leb x.phase n (subst (λ (z : Played). z.phase ≤ n) is (within Beside t went.course limits went.ended.course y there).high)) in
         let (after, to, same) =
-        leads t.partitions run_told.roots no_caches (until n ps) (all_say.lists n)
-        (λ k. all_say.heap.caches n k (omega arith) (omega arith)) in
+        leads t.partitions run_told.roots no_caches (until n ps) (lists_all.lists n)
+        (λ k. lists_all.caches n k (omega arith) (omega arith)) in
         subst (λ (c : Caches). CachesTo t.partitions run_told.roots no_caches (records_of t run_told) c) (fun_ext same ∙ lists_say n)
         (subst (λ xs. CachesTo t.partitions run_told.roots no_caches xs after) (now ∙ all_say.runner.records) to)
 
@@ -271,22 +283,22 @@ module _ (t : Trace) (workers : List WorkerValue) (seat : View) (report : List R
         let more = leaves.within.frees u in
         let made = stay (listed_slot p class u) w.stock.view closed.last (leaves.stock.lists.made p class u mine) (leaves.within.lists p) in
         let slot = slot_in_run (outcome_of t run_told) closed.last (listed_slot p class u)
-        (is_outcome t run_told went.course closed.last exchanges is_whole)
-        (seen_of_it t run_told went.course closed.last exchanges is_whole) made in
+        (is_outcome Beside t run_told went.course closed.last exchanges is_whole)
+        (seen_of_it Beside t run_told went.course closed.last exchanges is_whole) made in
         let named : name_of u ≡ m.slot = ap (λ (z : Numbered). z.slot) is in
         let title : title_of (sizes_in t run_told) m.slot ≡ u = ap (title_of (sizes_in t run_told)) (sym named) ∙ slot.title in
         subst (λ (z : Title). 0 < free_of closed.last z) (sym title) (omega arith)
 
-    close_says : SlotsStaySeen → CloseSays t run_told closed.last (told_in t went.course) (lists_at t went.course (phases_in t.lines))
+    close_says : SlotsStaySeen → CloseSays t run_told closed.last (told_in t went.course)
     close_says stay = record {
-      unmaps = (workers_have_theirs t went.course limits went.ended.course).unmaps;
+      unmaps = (workers_have_theirs Beside t went.course limits went.ended.course).unmaps;
       rooted = closed.rooted;
-      listed = listed_free stay;
+      waits = layers_tell_all.waits t run_told closed.last (told_in t went.course) all_say lists_all
+          (subst (λ (all : Caches). ListedIsFree t.threads t.partitions (sizes_in t run_told) all closed.last)
+          (sym (lists_say (phases_in t.lines))) (listed_free stay));
       clean = closed.clean;
     }
 
     pub is_held : SlotsStaySeen → IsHeldIn t run_told left.region
     is_held stay =
-        layers_tell_all.held left.region t run_told closed.last (told_in t went.course) all_say
-        (subst (CloseSays t run_told closed.last (told_in t went.course)) (sym (lists_say (phases_in t.lines)))
-        (close_says stay)) closed.ends
+        layers_tell_all.held left.region t run_told closed.last (told_in t went.course) all_say flows (close_says stay) closed.ends

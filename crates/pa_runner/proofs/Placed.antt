@@ -18,6 +18,7 @@ use Rattle.pa_rules.specs.Played.{OpLine}
 use Rattle.pa_totals.specs.Settled.{none_owed}
 use Rattle.pa_op_specs.specs.Workers.{WorkerValue, worker_with_view}
 use Rattle.pa_execution.specs.Courses.{lines_in}
+use Rattle.pa_op_specs.proofs.Following.{some}
 use Rattle.pa_execution.proofs.Playing.{stays, keeps_rules}
 use Rattle.pa_runner.specs.declared.thread_lines.LineOp.{LineOp}
 use Rattle.pa_runner.specs.Playing.{in_phase, AreBefore, RiseFrom, CanPlay, PlaysLines}
@@ -168,11 +169,11 @@ module _ (t : Trace) (i : ℕ) (low : i < length t.lines) where
       ended.owed ≡ none_owed → 0 < stake_of v k → IsAtPlace t (i + 1) k [] (worker_with_view v ended)
   place_next k queue w ended v is at played settled has =
       let (xs, all, of) = played.plays 0 in
-      let (thread, many) = stays w ended xs all in
+      let (thread, many) = stays w ended xs (some w ended xs all) in
       record {
         thread = thread ∙ at.thread;
         partitions = many ∙ at.partitions;
-        rules = keeps_rules w ended xs all ∙ at.rules;
+        rules = keeps_rules w ended xs (some w ended xs all) ∙ at.rules;
         going = played.going;
         stake = subst (λ n. 0 < stake_of v n) (sym (thread ∙ at.thread)) has;
         settled = settled;

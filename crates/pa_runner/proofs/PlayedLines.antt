@@ -25,7 +25,7 @@ use Rattle.pa_op_specs.specs.Workers.{WorkerValue, IsWorker, HasItsStake, CanPla
 use Rattle.pa_op_specs.specs.Plays.{PlaysOp, PlaysAll}
 use Rattle.pa_op_specs.specs.Settling.{SettlingEndsPhase, last_lengthened, settled_worker}
 use Rattle.pa_thread_state.specs.Stopping.{KeepsItsStake}
-use Rattle.pa_op_specs.proofs.Following.{composes}
+use Rattle.pa_op_specs.proofs.Following.{some, composes}
 use Rattle.pa_execution.proofs.Playing.{stays, keeps_rules}
 use Rattle.pa_runner.specs.declared.thread_lines.LineOp.{LineOp}
 use Rattle.pa_runner.specs.Playing.{in_phase, AreBefore, EndsWith, CanPlay, PlaysLines, IsPlayed}
@@ -46,10 +46,10 @@ in_append e (x ∷ xs) ys among P front back = elim (in_cases x e (xs ++ ys) amo
 pub plays_one : (due : LineOp) (answer : Answer) (w v : WorkerValue) → PlaysOp due.line due.op answer w v →
     KeepsOn w v → PlaysLines (due ∷ []) w v
 plays_one due answer w v plays keeps = record {
-  plays = λ phase. let (x, is, one) = plays phase in (x ∷ [], (v, one, refl), ap (λ (p : Played). op_line_of p ∷ []) is);
+  plays = λ phase. let (x, is, one, leads) = plays phase in (x ∷ [], (v, one, leads, refl), ap (λ (p : Played). op_line_of p ∷ []) is);
   going = keeps.going;
   stake = keeps.stake;
-  records = let (x, is, one) = plays 0 in (entry_of x.played ∷ [], one.records, ap (λ (p : Played). p.line ∷ []) is);
+  records = let (x, is, one, leads) = plays 0 in (entry_of x.played ∷ [], one.records, ap (λ (p : Played). p.line ∷ []) is);
   room = keeps.room;
 }
 
@@ -67,11 +67,11 @@ plays_then xs ys u v w first second = record {
   plays = λ phase.
       let (a, played, lines) = first.plays phase in
       let (b, more, rest) = second.plays phase in
-      let (thread, many) = stays u v a played in
+      let (thread, many) = stays u v a (some u v a played) in
       let joined : map op_line_of (played_in (a ++ b)) ≡ map op_line_of (played_in a) ++ map op_line_of (played_in b) =
       ap (map op_line_of) (map-append (λ (x : ToldRecord). x.played) a b) ∙ map-append op_line_of (played_in a) (played_in b) in
       let same : map (in_phase (rules_at v.stock) phase v.stock.thread) ys ≡ map (in_phase (rules_at u.stock) phase u.stock.thread) ys =
-      ap (λ (by : Rules). map (in_phase by phase v.stock.thread) ys) (keeps_rules u v a played) ∙
+      ap (λ (by : Rules). map (in_phase by phase v.stock.thread) ys) (keeps_rules u v a (some u v a played)) ∙
       ap (λ k. map (in_phase (rules_at u.stock) phase k) ys) thread in (
         a ++ b,
         composes u v w a b played more,
@@ -124,7 +124,7 @@ can_rest due rest w v can played = record {
   room = let c = plays_count (due ∷ []) w v played in let r = can.room in let s = played.room in omega arith;
   limits =
       let (xs, all, of) = played.plays 0 in
-      let (thread, many) = stays w v xs all in
+      let (thread, many) = stays w v xs (some w v xs all) in
       subst (λ p. AllByRecursion (λ (d : LineOp). IsOpWithin p d.op) rest) (sym many) can.limits.1;
   rise =
       let (n, before, rises) = can.rise in
@@ -151,12 +151,12 @@ can_rest due rest w v can played = record {
 
 pub one_thread : (line : ℕ) (op : Op) (answer : Answer) (w v : WorkerValue) (k : ℕ) → PlaysOp line op answer w v →
     w.stock.thread ≡ k → v.stock.thread ≡ k
-one_thread line op answer w v k plays own = let (x, is, one) = plays 0 in one.does.same.0 ∙ own
+one_thread line op answer w v k plays own = let (x, is, one, leads) = plays 0 in one.does.same.0 ∙ own
 
 pub one_last : (line : ℕ) (op : Op) (answer : Answer) (w v : WorkerValue) (k : ℕ) → PlaysOp line op answer w v → w.stock.thread ≡ k →
     EndsWith (record { line = line; thread = k; answer = answer }) v.records
 one_last line op answer w v k plays own =
-    let (x, is, one) = plays 0 in (
+    let (x, is, one, leads) = plays 0 in (
       w.records,
       one.records ∙
           (ap (λ (p : Played). w.records ++ entry_of p ∷ []) is ∙
@@ -200,7 +200,7 @@ pub all_lines : (ds : List LineOp) (i : ℕ) (u v : WorkerValue) → length ds �
 all_lines ds i u v past played = subst (λ xs. PlaysLines xs u v) (take_all i ds past) played
 
 pub same_thread : {ds : List LineOp} {w v : WorkerValue} → PlaysLines ds w v → v.stock.thread ≡ w.stock.thread
-same_thread {ds} {w} {v} played = let (xs, all, of) = played.plays 0 in (stays w v xs all).0
+same_thread {ds} {w} {v} played = let (xs, all, of) = played.plays 0 in (stays w v xs (some w v xs all)).0
 
 -- a worker that stopped before it did anything has its stake, and owes nothing
 pub stopped_keeps : (w v : WorkerValue) → HasItsStake w.stock →

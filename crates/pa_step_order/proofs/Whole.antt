@@ -15,7 +15,6 @@ use Rattle.pa_region.proofs.LendBack.{none_poisoned}
 use Rattle.pa_slot.specs.declared.title.Title.{Title}
 use Rattle.pa_slot.specs.declared.word.SlotName.{SlotName}
 use Rattle.pa_trace.specs.declared.script.Trace.{Trace}
-use Rattle.pa_rules.specs.Legal.{IsLegalBy}
 use Rattle.pa_rules.specs.Told.{Told}
 use Rattle.pa_rules.specs.declared.played.Played.{Played}
 use Rattle.pa_rules.specs.Registers.{usable_in}
@@ -23,6 +22,8 @@ use Rattle.pa_rules.specs.Sizes.{usable_of}
 use Rattle.pa_timeline.specs.Timeline.{Moment, outline_parts, IsStepOrder, IsTimeline}
 use Rattle.pa_timeline.proofs.Outlined.{stays}
 use Rattle.pa_logs.specs.Told.{ToldRecord, played_in, log_of}
+use Rattle.pa_legal.specs.Flows.{SlotsFlow}
+use Rattle.pa_legal.specs.Known.{HasClauses}
 use Rattle.pa_logs.specs.Said.{sizes_in, LayersSay}
 use Rattle.pa_logs.specs.Listed.{AreRising}
 use Rattle.pa_logs.specs.Steps.{AreSteps}
@@ -61,7 +62,8 @@ none_stamped k (m ∷ all) high small =
     let low = small.0 in
     rw (ne_eqb m.stake k (λ e. omega arith)) (none_stamped k all high small.1)
 
-module _ (t : Trace) (r : Told) (v : View) (ts : List ToldRecord) (says : LayersSay t r v ts) where
+module _ (t : Trace) (r : Told) (v : View) (ts : List ToldRecord) (says : LayersSay t r v ts)
+    (flows : SlotsFlow t.partitions r.roots (played_in ts)) where
   one_order : HasOneOrder v
   one_order = says.runner.has.aware.one_order says.runner.has.every
 
@@ -87,8 +89,8 @@ module _ (t : Trace) (r : Told) (v : View) (ts : List ToldRecord) (says : Layers
   abbrev moments : List Moment
   moments = by_phases r.roots names
 
-  legal : IsLegalBy t r (played_in ts)
-  legal = subst (λ ps. IsLegalBy t r ps) (sym says.runner.records) (layers_tell_all.legal t r v ts says)
+  has : HasClauses t r (played_in ts)
+  has = subst (λ ps. HasClauses t r ps) (sym says.runner.records) (layers_tell_all.clauses t r v ts says flows)
 
   -- what an entry put into a list is what the list has
   listed : (q : ℕ) → list_of q v ≡ entered_in q (map (λ (n : Named). n.entry) names)
@@ -111,13 +113,13 @@ module _ (t : Trace) (r : Told) (v : View) (ts : List ToldRecord) (says : Layers
         only = only ts all names are_named r.roots;
         in_order = in_order ts all names are_named r.roots up (phases_rise (rules_of t) t.lines (played_in ts) (are_lines t r v ts says));
         found = found (sizes_in t r) ts says.heap.told all names are_named r.roots one_order.ordered.found
-            (in_phases r.cells (played_in ts) legal.seen);
-        journals = λ p. journals_made ts all names are_named r.roots p (kept_journals p) (legal.roots.order p);
+            (in_phases r.cells (played_in ts) has.seen);
+        journals = λ p. journals_made ts all names are_named r.roots p (kept_journals p) (has.roots.order p);
         pool = pool_asked ts all names are_named r.roots (list_of 4 v) r.pools (listed 4) (list_is t r v ts says 4 (omega arith))
-            (are_lists t r v ts says).pool legal.pool.order;
+            (are_lists t r v ts says).pool has.pool.order;
         exchanges = λ k. exchanged ts all names are_named r.roots up (list_of 5 v) r.cells says.swaps (listed 5)
             (list_is t r v ts says 5 (omega arith)) (says.cells.swaps_are)
-            (answered t r v ts says) k (legal.cells.order k);
+            (answered t r v ts says) k (has.cells.order k);
       }
 
   -- ---- with the poisonings
@@ -188,15 +190,15 @@ module _ (t : Trace) (r : Told) (v : View) (ts : List ToldRecord) (says : Layers
         (one_played ts all names are_named r.roots up)
         (whole_due run t.partitions order (usable_in (played_in ts)) fits)
         (phases_rise (rules_of t) t.lines (played_in ts) (are_lines t r v ts says))
-        (in_phases r.cells (played_in ts) legal.seen) legal.contents
+        (in_phases r.cells (played_in ts) has.seen) has.contents
         (issued_again sizes ts says.heap.told histories)
         (lines run)
         (subst (λ zs. IsStepOrder (outline_parts t.partitions r.roots) (played_in ts) r.pools r.roots r.cells (sorted phase_at zs))
         (sym same_moments) (step_order order))
 
 pub timeline_follows : TimelineFollows
-timeline_follows t r v ts says order clean = (
-  sorted phase_at (ms t r v ts says order clean),
-  subst (λ ps. IsTimeline (usable_in ps) t.partitions ps r.pools r.roots r.cells (sorted phase_at (ms t r v ts says order clean)))
-      says.runner.records (is_timeline t r v ts says order clean),
+timeline_follows t r v ts says flows order clean = (
+  sorted phase_at (ms t r v ts says flows order clean),
+  subst (λ ps. IsTimeline (usable_in ps) t.partitions ps r.pools r.roots r.cells (sorted phase_at (ms t r v ts says flows order clean)))
+      says.runner.records (is_timeline t r v ts says flows order clean),
 )

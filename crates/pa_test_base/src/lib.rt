@@ -4,8 +4,6 @@
 #[cfg(test)]
 mod buckets;
 #[cfg(test)]
-mod delay;
-#[cfg(test)]
 mod direct;
 #[cfg(test)]
 mod generator;

@@ -1,4 +1,4 @@
-//! The tests of the crates over the region: its seats, counted steps, chains, caches, the pool and cells.
+//! The tests of the crates over the region: its seats, counted steps, chains, caches, the pool, cells and queues.
 #![tactic(auto)]
 
 #[cfg(test)]
@@ -7,6 +7,8 @@ mod cache;
 mod cells;
 #[cfg(test)]
 mod count;
+#[cfg(test)]
+mod delay;
 #[cfg(test)]
 mod lending;
 #[cfg(test)]

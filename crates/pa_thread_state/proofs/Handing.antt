@@ -22,6 +22,7 @@ use Rattle.pa_rules.specs.Caches.{SameLists}
 use Rattle.pa_cells.specs.Handles.{SlotsStaySeen}
 use Rattle.pa_rules.specs.declared.register.Register.TheVariants.{Empty, Own, Ref, Freed, Cleared}
 use Rattle.pa_op_specs.specs.Stocks.{StockRegister, StockValue, IsStock, HoldsStake, IsForThread, IsMadeFor, titles_in, listed_in, register_in}
+use Rattle.pa_op_specs.specs.Plays.{KeepsApart}
 use Rattle.pa_op_specs.proofs.Quiet.{same_titles}
 use Rattle.pa_op_specs.proofs.Seeing.{made_for_kept, made_kept}
 use Rattle.pa_op_specs.proofs.Stocks.{stock_kept}
@@ -115,6 +116,18 @@ heard_lists law s n is aware other both long p c =
     same_titles s.view (united s.view n) (titles_in s.caches p c) (λ t among.
     let well = is.lists.well p c t among in
     (law s.view n well.0 t aware other both long well.1).0 (is.lists.free p c t among))
+
+-- and what it has free and on no list stays so
+pub heard_apart : FreeNumbersStay → (s : StockValue) (n : View) → IsAware s.view → IsAware n → IsAware (united s.view n) →
+    length s.view.words ≡ length n.words → KeepsApart s (record s { view = united s.view n })
+heard_apart law s n aware other both long t is = (
+  record {
+    free = omega (arith, is.free, sum_by-append (λ (u : Title). one (same_title u t)) s.view.frees n.frees);
+    off = is.off;
+    well = is.well;
+  },
+  (law s.view n is.well.0 t aware other both long is.well.1).0 is.free,
+)
 
 -- the stake of this number goes, and no other
 goes_alone : (r k : ℕ) → ((r == k) ≡ true) × ((stake_parcel r).stakes k ≡ true) ⊎ ((r == k) ≡ false) × ((stake_parcel r).stakes k ≡ false)

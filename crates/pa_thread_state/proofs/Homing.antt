@@ -6,7 +6,7 @@ use Rattle.std.proofs.lemmas.Bool.{cases_eq}
 use Rattle.std.proofs.lemmas.List.{append-nil}
 use Rattle.std.proofs.lemmas.List.Sums.{sum_by-append}
 use Rattle.pa_slot.specs.declared.title.Title.{Title}
-use Rattle.pa_slot.specs.Titles.{same_title}
+use Rattle.pa_slot.specs.Titles.{same_title, IsWellFormed}
 use Rattle.pa_slot.specs.Holdings.{one}
 use Rattle.pa_buckets.specs.Bands.{limit_of}
 use Rattle.pa_buckets.specs.Table.{slot_of}
@@ -23,7 +23,7 @@ use Rattle.pa_region.specs.declared.view.Made.{Made}
 use Rattle.pa_region.specs.declared.view.OwnTitle.{OwnTitle}
 use Rattle.pa_region.specs.declared.view.Stake.{Stake}
 use Rattle.pa_region.specs.declared.view.View.{View}
-use Rattle.pa_region.specs.Views.{free_of, stake_of}
+use Rattle.pa_region.specs.Views.{free_of, seen_of, stake_of}
 use Rattle.pa_region.specs.Waiting.{is_unclean}
 use Rattle.pa_region.specs.Pairs.{log_among}
 use Rattle.pa_region.specs.Lists.{list_of}
@@ -53,6 +53,7 @@ use Rattle.pa_thread_state.specs.Lists.{WorkerCaches, lists_in}
 use Rattle.pa_thread_state.proofs.Staying.{HasThem, kept_has, same_has, after_as}
 use Rattle.pa_op_specs.proofs.Stocks.{stock_kept}
 use Rattle.pa_op_specs.proofs.Entered.{Entering, entering_none}
+use Rattle.pa_root.proofs.Seeing.{free_kept}
 use Rattle.pa_root.proofs.Showing.{all_stakes}
 
 -- ---- a free title is handed over
@@ -198,16 +199,29 @@ pub comes_lends : (class : Option ℕ) (r p line : ℕ) (v w note : View) (t : T
 comes_lends None r p line v w note t comes = (_, comes.enters.lends)
 comes_lends (Some class) r p line v w note t comes = (_, comes.1.lends)
 
--- The lists are as they were, each title at its number.
-pub home_lists : (s : StockValue) (h : Handle) (w : View) (r : ℕ) (es : List Entry) → IsStock s → IsAware s.view → IsBack h s →
-    IsAware (without_title h.title s.view) → IsAware w → Lends r es (without_title h.title s.view) w →
-    SameLists (listed_in (record s { view = w })) (listed_in s)
-home_lists s h w r es is aware back left_aware after_aware lends p class =
-    same_titles s.view w (titles_in s.caches p class)
-    (λ t among.
-    let well = is.lists.well p class t among in
-    kept_number (without_title h.title s.view) w well.0 t left_aware after_aware lends.keeps well.1
-    (left_listed s h is aware back p class t among))
+module _ (s : StockValue) (h : Handle) (w : View) (r : ℕ) (es : List Entry) (aware : IsAware s.view) (back : IsBack h s)
+    (lends : Lends r es (without_title h.title s.view) w) where
+  -- each other title is free as before
+  home_frees : (t : Title) → (h.title ≡ t → ⊥) → free_of w t ≡ free_of s.view t
+  home_frees t other =
+      free_kept (without_title h.title s.view) w t lends.keeps ∙ left_frees h.title s.view aware back.free t other
+
+  -- each title that is free still is at its number
+  home_numbers : IsAware (without_title h.title s.view) → IsAware w → (n : ℕ) (t : Title) → IsWellFormed n t → 0 < free_of w t →
+      seen_of w t ≡ seen_of s.view t
+  home_numbers left_aware after_aware n t well free =
+      kept_number (without_title h.title s.view) w n t left_aware after_aware lends.keeps well
+      (subst (λ k. 0 < k) (free_kept (without_title h.title s.view) w t lends.keeps) free)
+
+  -- The lists are as they were, each title at its number.
+  home_lists : IsStock s → IsAware (without_title h.title s.view) → IsAware w →
+      SameLists (listed_in (record s { view = w })) (listed_in s)
+  home_lists is left_aware after_aware p class =
+      same_titles s.view w (titles_in s.caches p class)
+      (λ t among.
+      let well = is.lists.well p class t among in
+      home_numbers left_aware after_aware well.0 t well.1
+      (subst (λ k. 0 < k) (sym (free_kept (without_title h.title s.view) w t lends.keeps)) (left_listed s h is aware back p class t among)))
 
 -- the seat that lent its stake for it, or kept it, has a sound thread state with its lists
 pub delivered_has : {A E : Type 0} → SlotsStaySeen →
@@ -251,8 +265,10 @@ went_home line h s part after note is aware back part_is note_is part_aware afte
     record {
       comes = came;
       same = whole;
+      frees = home_frees s h after.view s.thread lends.0 aware back lends.1;
+      numbers = home_numbers s h after.view s.thread lends.0 aware back lends.1 left after_aware;
       lists = subst (λ (z : StockValue). SameLists (listed_in z) (listed_in s)) (sym whole)
-          (home_lists s h after.view s.thread lends.0 is aware back left after_aware lends.1);
+          (home_lists s h after.view s.thread lends.0 aware back lends.1 is left after_aware);
     }
 
 -- ---- it comes back

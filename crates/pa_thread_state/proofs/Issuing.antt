@@ -48,6 +48,16 @@ pub issue_leaves : CountLeaves → SealedLeaves → (plain : Bool) (t : Title) (
 issue_leaves counts seals true t word v can = (seals t word v can).0
 issue_leaves counts seals false t word v can = counts steps.Issue t word v can
 
+-- another title that was free is so still
+pub issue_still : CountLeaves → SealedLeaves → (plain : Bool) (t : Title) (word : ℕ) (v : View) → CanCount steps.Issue t (zeroed t v) →
+    (u : Title) → (t ≡ u → ⊥) → 0 < free_of v u → 0 < free_of (issued_view plain v t word) u
+issue_still counts seals plain t word v can u other free =
+    let leaves = issue_leaves counts seals plain t word (zeroed t v) can in
+    elim (title_tells t u) [
+      | inl y ↦ absurd (other y.1)
+      | inr n ↦ (let e = leaves.frees u in let f : one (same_title t u) ≡ 0 = ap one n.0 in omega arith)
+    ]
+
 -- an issue of a free title with a zeroed content can be made
 pub can_issue : (s : StockValue) (t : Title) (z : View) → z ≡ zeroed t s.view → IsStock s → HasItsStake s → 0 < s.view.budget →
     0 < free_of s.view t →
@@ -126,7 +136,8 @@ issued_stock counts seals owns s r word h is can below bare back = record {
     sound = is.lists.sound;
     classes = is.lists.classes;
     few = is.lists.few;
-    free = λ p c u among. still u (not_listed s h back p c u among) (is.lists.free p c u among);
+    free = λ p c u among. issue_still counts seals plain t word s.view can u (not_listed s h back p c u among)
+        (is.lists.free p c u among);
     apart = is.lists.apart;
     made = λ p c u among. made_kept (listed_slot p c u) s.view w leaves.lists (is.lists.made p c u among);
     well = is.lists.well;
@@ -152,12 +163,6 @@ issued_stock counts seals owns s r word h is can below bare back = record {
 
     inside : r < length rs
     inside = let n = is.handles.count in omega arith
-
-    still : (u : Title) → (t ≡ u → ⊥) → 0 < free_of s.view u → 0 < free_of w u
-    still u other free = elim (title_tells t u) [
-      | inl y ↦ absurd (other y.1)
-      | inr n ↦ (let e = leaves.frees u in let f : one (same_title t u) ≡ 0 = ap one n.0 in omega arith)
-    ]
 
 -- ---- by what the calls say
 

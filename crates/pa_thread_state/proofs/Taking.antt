@@ -124,23 +124,31 @@ module _ (s : StockValue) (u n : View) (titles : List Title) (is : IsStock s) (t
   pub took_free : (t : Title) → Contains titles t → 0 < free_of (united u n) t
   took_free t among = let e = free_both u n t in let f = (took.has.frees t).1 among in omega arith
 
-  pub took_new : (q d : ℕ) (t : Title) → Contains (titles_in s.caches q d) t → Contains titles t → ⊥
-  took_new q d t listed among =
+  -- a title that was free before isn't one of them, is free still, and is at its number
+  pub took_other : (t : Title) → 0 < free_of s.view t → Contains titles t → ⊥
+  took_other t free among =
       let e = free_both u n t in
       let f = (took.has.frees t).1 among in
-      let g = is.lists.free q d t listed in
       let h = free_kept s.view u t took.keeps in
       let once = took.awares.3.free_once t in
       omega arith
 
+  pub took_still : (t : Title) → 0 < free_of s.view t → 0 < free_of (united u n) t
+  took_still t free = let e = free_both u n t in let h = free_kept s.view u t took.keeps in omega arith
+
+  pub took_kept : (words : ℕ) (t : Title) → IsWellFormed words t → 0 < free_of s.view t → seen_of (united u n) t ≡ seen_of s.view t
+  took_kept words t well free =
+      let there : 0 < free_of u t = let h = free_kept s.view u t took.keeps in omega arith in
+      left_number u n words t took.awares.1 took.awares.3 took.long well there
+      ∙ kept_number s.view u words t took.awares.0 took.awares.1 took.keeps well free
+
+  pub took_new : (q d : ℕ) (t : Title) → Contains (titles_in s.caches q d) t → Contains titles t → ⊥
+  took_new q d t listed among = took_other t (is.lists.free q d t listed) among
+
   -- a listed title is at its number
   pub took_same : (q d : ℕ) (t : Title) → Contains (titles_in s.caches q d) t → seen_of (united u n) t ≡ seen_of s.view t
   took_same q d t listed =
-      let well = is.lists.well q d t listed in
-      let free = is.lists.free q d t listed in
-      let there : 0 < free_of u t = let h = free_kept s.view u t took.keeps in omega arith in
-      left_number u n well.0 t took.awares.1 took.awares.3 took.long well.1 there
-      ∙ kept_number s.view u well.0 t took.awares.0 took.awares.1 took.keeps well.1 free
+      let well = is.lists.well q d t listed in took_kept well.0 t well.1 (is.lists.free q d t listed)
 
   -- a title that came with the note has in the united view the number that the note has seen
   pub took_number : (words : ℕ) (t : Title) → IsWellFormed words t → Contains titles t → seen_of (united u n) t ≡ seen_of n t

@@ -22,6 +22,10 @@ use Rattle.pa_rules.specs.declared.register.Register.TheVariants.{Ref}
 use Rattle.pa_rules.specs.Lists.{cache_place}
 use Rattle.pa_op_specs.specs.Stocks.{StockRegister, StockValue, WorkerLists, titles_in}
 
+-- each slot that the seat had seen made it has seen made then
+abbrev pub StaysMade : (before after : StockValue) → Type 0
+StaysMade before after = (h : Handle) → HasSeenMade h before.view → HasSeenMade h after.view
+
 -- The seat looked at the handle's slot, and saw this.
 pub record LooksAtSlot (h : Handle) (seen : Seen) (before after : StockValue) : Type 0 where
   pub slot : seen.slot ≡ name_of h.title

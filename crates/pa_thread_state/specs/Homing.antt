@@ -2,8 +2,10 @@
 -- or to the front of its list after the list's tail went back.
 use Rattle.std.specs.Prelude.{◌≡◌, ℕ, ◌-◌, ◌/◌, ◌<◌, ◌⊎◌, [], ◌∷◌, Option, Some, None}
 use Rattle.pa_slot.specs.declared.title.Title.{Title}
+use Rattle.pa_slot.specs.Titles.{IsWellFormed}
 use Rattle.pa_buckets.specs.Bands.{limit_of}
 use Rattle.pa_region.specs.declared.view.View.{View}
+use Rattle.pa_region.specs.Views.{free_of, seen_of}
 use Rattle.pa_region.specs.Hands.{left_after, given_after}
 use Rattle.pa_rules.specs.Caches.{SameLists}
 use Rattle.pa_rules.specs.Sizes.{HasClass}
@@ -27,11 +29,14 @@ without_title t v = left_after (frees_parcel (t ∷ [])) v
 abbrev pub note_of_title : Title → View → View
 note_of_title t v = given_after (frees_parcel (t ∷ [])) v
 
--- The seat handed the slot's title over and lent its stake for what was entered. The lists are as they were, each title at its number.
+-- The seat handed the slot's title over and lent its stake for what was entered. It holds each other title free as before, and has
+-- seen the same number of each that it still holds free. The lists are as they were, each title at its number.
 pub record GoesHome (line : ℕ) (h : Handle) (before after : StockValue) : Type 0 where
   pub comes : ComesHome h.class before.thread h.partition line (without_title h.title before.view) after.view
       (note_of_title h.title before.view) h.title
   pub same : after ≡ record before { view = after.view }
+  pub frees : (t : Title) → (h.title ≡ t → ⊥) → free_of after.view t ≡ free_of before.view t
+  pub numbers : (n : ℕ) (t : Title) → IsWellFormed n t → 0 < free_of after.view t → seen_of after.view t ≡ seen_of before.view t
   pub lists : SameLists (listed_in after) (listed_in before)
 
 -- The tail of the slot's list went back to the root, and then the slot became the front of the list,

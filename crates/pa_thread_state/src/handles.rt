@@ -118,8 +118,8 @@ impl<N: Name> Stock<N> {
         }
     }
 
-    // The step of a reset: the register is cleared, and `Last` says that the step returned the slot.
-    pub(crate) fn let_go(&mut self, region: &Region, handle: &Handle, reg: u32) -> (Seen, Fate)
+    /// The step of a reset: the register is cleared, and `Last` says that the step returned the slot.
+    pub fn let_go(&mut self, region: &Region, handle: &Handle, reg: u32) -> (Seen, Fate)
         requires region { region.now ≡ N.region }
         requires stake { HasItsStake self.old }
         requires budget { 0 < self.old.view.budget }
@@ -143,8 +143,8 @@ impl<N: Name> Stock<N> {
         (seen, fate)
     }
 
-    // Poisons the content of an Own, and frees it in one step. `Last` says that this returned the slot.
-    pub(crate) fn give_up(&mut self, region: &Region, handle: &Handle, reg: u32) -> (Seen, Fate)
+    /// Poisons the content of an Own, and frees it in one step. `Last` says that this returned the slot.
+    pub fn give_up(&mut self, region: &Region, handle: &Handle, reg: u32) -> (Seen, Fate)
         requires region { region.now ≡ N.region }
         requires stake { HasItsStake self.old }
         requires budget { 0 < self.old.view.budget }

@@ -7,6 +7,8 @@ ghost use Rattle.pa_rules.specs.Caches.{SameLists};
 ghost use Rattle.pa_rules.specs.declared.register.Register.TheVariants.{Empty};
 ghost use Rattle.pa_op_specs.specs.Stocks.{IsForThread, IsNewStock, listed_in};
 ghost use Rattle.pa_op_specs.specs.Workers.{HasItsStake};
+ghost use Rattle.pa_op_specs.specs.Plays.{KeepsApart};
+ghost use Rattle.pa_thread_state.specs.Changes.{StaysMade};
 
 use crate::lists::Lists;
 use crate::stock::Stock;
@@ -63,13 +65,16 @@ impl<N: Name> Stock<N> {
         region.hand(&mut self.seat, &[], 0, &[Mark::Stake(thread)])
     }
 
-    /// Takes the stake back, with what the note has seen. The lists are as they were, each title at its number.
+    /// Takes the stake back, with what the note has seen. The lists are as they were, each title at its number, and
+    /// so is what it has free and on no list.
     pub fn hear(&mut self, region: &Region, note: Note)
         requires regions { (region.now ≡ N.region) × (note.region ≡ N.region) }
         requires none { (k : ℕ) → stake_of self.old.view k ≡ 0 }
         requires note { IsForThread self.old.thread note.view }
         ensures heard { self.new ≡ record self.old { view = united self.old.view note.view } }
         ensures lists { SameLists (listed_in self.new) (listed_in self.old) }
+        ensures apart { KeepsApart self.old self.new }
+        ensures made { StaysMade self.old self.new }
     {
         beginnings_join();
         free_numbers_stay();

@@ -88,8 +88,8 @@ impl<N: Name> Stock<N> {
         }
     }
 
-    // Brings a slot that a step returned where it belongs: at the front of its list if that has room, else by its root.
-    fn bring_back<R: Wait>(
+    /// Brings a slot that a step returned where it belongs: at the front of its list if that has room, else by its root.
+    pub fn bring_back<R: Wait>(
         &mut self,
         rt: &R,
         heap: &Heap<N>,

@@ -20,7 +20,7 @@ use Rattle.pa_rules.specs.Caches.{listed_slots}
 use Rattle.pa_rules.specs.declared.played.Played.{Played}
 use Rattle.pa_rules.specs.Played.{mark_of}
 use Rattle.pa_rules.specs.Registers.{Row}
-use Rattle.pa_rules.specs.Report.{until, listed_bytes}
+use Rattle.pa_rules.specs.Report.{until, listed_bytes, cached_slots, cached_bytes}
 use Rattle.pa_slot.specs.Kinds.{issues, frees, enters, leaves}
 use Rattle.pa_examples.specs.Worked.{tally, report_line, seen_at, two_threads_trace, two_threads_journal, two_threads_report, two_threads_census, of_one}
 use Rattle.pa_examples.proofs.worked.Lists.{each}
@@ -32,7 +32,7 @@ use Rattle.pa_logs.specs.Touches.{IsTold, AreTold}
 use Rattle.pa_logs.specs.Reported.{IsLeftBy}
 use Rattle.pa_logs.specs.Seats.{AreOfLines}
 use Rattle.pa_logs.specs.Viewed.{AreViewed}
-use Rattle.pa_logs.specs.Said.{sizes_in, homes_in, plains_in, EndsPhase, RunnerSays, HeapTells, IsLineSaid}
+use Rattle.pa_logs.specs.Said.{sizes_in, homes_in, plains_in, EndsPhase, RunnerSays, HeapTells, IsLineSaid, LayersSay}
 use Rattle.pa_logs.proofs.Through.{by_length}
 use Rattle.pa_logs.proofs.Said.{layers_tell_all}
 use Rattle.pa_examples.specs.told.Worked.{Worked, told_record, told_records}
@@ -208,54 +208,46 @@ module _ (answer : Answer) (word value after : ℕ)
   of_lines = below_six (λ p. AreOfLines p ts) (lines_told 0 ts refl) (lines_told 1 ts refl) (lines_told 2 ts refl) (lines_told 3 ts refl)
       (lines_told 4 ts refl) (lines_told 5 ts refl)
 
-  heap : HeapTells two_threads_trace (told_with so) ts caches_until
+  heap : HeapTells two_threads_trace (told_with so) ts
   heap = record {
     told = told;
     lines = of_lines;
     rows = rows_of plains sizes (size_is so) (ap (nat_le 1) (home_is so)) answer word value after (fits.row plains sizes (size_is so));
     seen = have_seen threads_cells ts fits.viewed;
-    caches = λ n k some_phase few. leads_of answer word value after fits.cached n k (omega arith);
   }
 
   -- ---- the report
 
   abbrev LineSaid : ℕ → ReportLine → Type 0
-  LineSaid n l = IsLineSaid two_threads_trace (told_with so) (seat_last so) ts (caches_until n) (seat_until ts n) l
+  LineSaid n l = IsLineSaid two_threads_trace (told_with so) (seat_last so) ts (seat_until ts n) l
 
   line_1 : LineSaid 1 (report_line 1 (tally 1 16) (tally 0 0) (tally 7 112) two_threads_census)
-  unfolding rows row_of slot_of listed_slots listed_bytes
   line_1 = record {
     live = fits.until_1.lives (homes_in two_threads_trace (told_with so)) sizes (home_is so) (size_is so);
     quarantined = fits.until_1.waits (homes_in two_threads_trace (told_with so)) sizes (home_is so) (size_is so);
-    cached = (refl, refl);
     root = census_said answer word value after 1 refl;
   }
 
   line_2 : LineSaid 2 (report_line 2 (tally 0 0) (tally 1 16) (tally 7 112) two_threads_census)
-  unfolding rows row_of slot_of listed_slots listed_bytes
   line_2 = record {
     live = fits.until_2.lives (homes_in two_threads_trace (told_with so)) sizes (home_is so) (size_is so);
     quarantined = fits.until_2.waits (homes_in two_threads_trace (told_with so)) sizes (home_is so) (size_is so);
-    cached = (refl, refl);
     root = census_said answer word value after 2 refl;
   }
 
   line_3 : LineSaid 3 (report_line 3 (tally 0 0) (tally 0 0) (tally 8 128) two_threads_census)
-  unfolding rows row_of slot_of listed_slots listed_bytes
   line_3 = record {
     live = fits.until_3.lives (homes_in two_threads_trace (told_with so)) sizes (home_is so) (size_is so);
     quarantined = fits.until_3.waits (homes_in two_threads_trace (told_with so)) sizes (home_is so) (size_is so);
-    cached = (refl, refl);
     root = census_said answer word value after 3 refl;
   }
 
   abbrev IsSaid : ReportLine → Type 0
   IsSaid l = LineSaid l.phase l
 
-  pub says : SaysWith so
-  says = record {
+  layers : LayersSay two_threads_trace (told_with so) (seat_last so) ts
+  layers = record {
     seats = seat_until ts;
-    lists = caches_until;
     swaps = threads_swaps;
     runner = runner;
     pool = pool_tells answer word value after;
@@ -265,9 +257,31 @@ module _ (answer : Answer) (word value after : ℕ)
     report = λ l among. each IsSaid two_threads_report (line_1, (line_2, (line_3, tt))) l among;
   }
 
-  pub says_lists : says.lists ≡ caches_until
+  -- ---- the threads' lists
+
+  -- what the lists hold at the end of the phase of a line
+  abbrev CountsLists : ReportLine → Type 0
+  CountsLists l =
+      (l.cached.slots ≡ cached_slots (caches_until l.phase) l.partition 2)
+      × (l.cached.bytes ≡ cached_bytes (caches_until l.phase) l.partition 2)
+
+  counted : (l : ReportLine) → Contains two_threads_report l → CountsLists l
+  unfolding rows row_of slot_of listed_slots listed_bytes
+  counted l among = each CountsLists two_threads_report ((refl, refl), ((refl, refl), ((refl, refl), tt))) l among
+
+  pub says : SaysWith so
+  says = record {
+    layers = layers;
+    lists = record {
+      lists = caches_until;
+      caches = λ n k some_phase few. leads_of answer word value after fits.cached n k (omega arith);
+      cached = counted;
+    };
+  }
+
+  pub lists_are : says.lists.lists ≡ caches_until
   unfolding says
-  says_lists = refl
+  lists_are = refl
 
 -- ---- the three answers
 
@@ -456,8 +470,9 @@ threads_say = record {
 -- the run with each read is legal
 fine : (read : Worked) → SaysWith read → IsFineWith read
 fine read h = record {
-  played = layers_tell_all.played two_threads_trace (told_with read) (seat_last read) (reading_so read) h;
-  legal = layers_tell_all.legal two_threads_trace (told_with read) (seat_last read) (reading_so read) h;
+  played = layers_tell_all.played two_threads_trace (told_with read) (seat_last read) (reading_so read) h.layers
+      (layers_tell_all.flows two_threads_trace (told_with read) (seat_last read) (reading_so read) h.layers h.lists);
+  legal = layers_tell_all.legal two_threads_trace (told_with read) (seat_last read) (reading_so read) h.layers h.lists;
 }
 
 pub other_reads_are_legal : OtherReadsAreLegal

@@ -1,6 +1,5 @@
 -- The worked run of two threads is closed: its seat is as required, so the words at the end hold the run.
 use Rattle.std.proofs.Common.{◌≡◌, ℕ, zero, suc, ◌<◌, List, [], ◌∷◌, map, refl, sym, ◌∙◌, ap, subst, arith, inl, inr}
-use Rattle.std.specs.Prelude.{Contains}
 use Rattle.std.proofs.lemmas.Bool.{cases_eq}
 use Rattle.pa_slot.specs.declared.title.Title.{Title}
 use Rattle.pa_slot.specs.declared.word.SlotName.{SlotName}
@@ -8,7 +7,6 @@ use Rattle.pa_buckets.specs.Table.{rows, row_of, slot_of, pages_of, slots_of}
 use Rattle.pa_buckets.specs.Bands.{fill_of}
 use Rattle.pa_record.specs.declared.entry.Answer.{Answer}
 use Rattle.pa_record.specs.declared.entry.Answer.TheVariants as answers
-use Rattle.pa_record.specs.declared.numbered.Numbered.{Numbered}
 use Rattle.pa_record.specs.declared.root.RootEntry.{RootEntry}
 use Rattle.pa_record.specs.declared.root.RootAct.TheVariants.{Map}
 use Rattle.pa_record.specs.Root.{new_root, root_replayed}
@@ -24,17 +22,17 @@ use Rattle.pa_examples.proofs.worked.OneFill.{roots}
 use Rattle.pa_examples.proofs.worked.ThreadsHeld.{rooted, pooled, after_3, cached_3}
 use Rattle.pa_logs.specs.Told.{ToldRecord}
 use Rattle.pa_logs.specs.Touches.{title_of}
-use Rattle.pa_logs.specs.Said.{sizes_in, CloseSays}
-use Rattle.pa_logs.specs.Standing.{OnlyUnmapsUncut}
+use Rattle.pa_logs.specs.Said.{sizes_in}
+use Rattle.pa_logs.specs.Standing.{OnlyUnmapsUncut, ListedIsFree}
 use Rattle.pa_logs.proofs.Filters.{only_one}
 use Rattle.pa_logs.proofs.Homing.{has_title}
-use Rattle.pa_logs.proofs.Said.{layers_tell_all}
 use Rattle.pa_logs.proofs.Sizing.{lengths_follow}
 use Rattle.pa_examples.specs.told.Worked.{Worked}
 use Rattle.pa_examples.specs.told.Threads.{the_fill}
 use Rattle.pa_examples.specs.told.OtherReads.{reading_so}
 use Rattle.pa_examples.specs.told.AllSaid.{span_slots, last_words, seat_last, told_with, SaysWith, ClosesWith, ThreadsClose}
-use Rattle.pa_examples.proofs.told.AllSaid.{ReadFits, says, says_lists, poison_fits, content_fits, freed_fits}
+use Rattle.pa_examples.proofs.told.AllSaid.{ReadFits, says, lists_are, poison_fits, content_fits, freed_fits}
+use Rattle.pa_examples.proofs.told.ClosedBy.{closed_by}
 use Rattle.pa_examples.proofs.told.ClosingSeat.{KnowsLast, is_end}
 use Rattle.pa_examples.proofs.told.FreeSlots.{times_in, shape_of, made_free}
 use Rattle.pa_examples.proofs.told.Played.{so_read, caches_until}
@@ -100,8 +98,7 @@ module _ (answer : Answer) (word value after : ℕ) (last : KnowsLast (reading_s
     ),
   )
 
-  listed : (k p class : ℕ) (m : Numbered) → k < 2 → p < 1 → class < 170 → Contains (caches_until 3 k p class) m →
-      0 < times_in (span_slots 256) (title_of sizes m.slot)
+  listed : ListedIsFree 2 1 sizes (caches_until 3) (seat_last so)
   listed k p class m few one real among =
       let of = known_at k few p class m among in
       let home : p ≡ 0 = omega arith in
@@ -117,25 +114,15 @@ module _ (answer : Answer) (word value after : ℕ) (last : KnowsLast (reading_s
   made_there zero u made = made_by_root u made
   made_there (suc p) u (s, among, number, below, is) = absurd (not_in_none s among)
 
-  closes : CloseSays two_threads_trace (told_with so) (seat_last so) ts (caches_until 3)
-  closes = record { unmaps = unmaps; rooted = λ p u made stays. made_there p u made; listed = listed; clean = refl }
-
-  pub closes_with : (says : SaysWith so) → says.lists ≡ caches_until → ClosesWith so
-  closes_with says are =
-      let close : CloseSays two_threads_trace (told_with so) (seat_last so) ts (says.lists 3) = subst
-      (λ lists. CloseSays two_threads_trace (told_with so) (seat_last so) ts (lists 3)) (sym are) closes in
-      let end = is_end answer word value after last in
-      record {
-        says = says;
-        closes = close;
-        end = end;
-        held = layers_tell_all.held last_words two_threads_trace (told_with so) (seat_last so) ts says close end;
-      }
+  pub closes_with : (says : SaysWith so) → says.lists.lists ≡ caches_until → ClosesWith so
+  closes_with says are = closed_by two_threads_trace (told_with so) (seat_last so) ts last_words says.layers says.lists
+      (subst (λ lists. ListedIsFree 2 1 sizes (lists 3) (seat_last so)) (sym are) listed) unmaps
+      (λ p u made stays. made_there p u made) refl (is_end answer word value after last)
 
 with_fits : (answer : Answer) (word value after : ℕ)
     (fits : ReadFits answer word value after (reading_so (so_read answer word value after))) → ClosesWith (so_read answer word value after)
 with_fits answer word value after fits =
-    closes_with answer word value after fits.last (says answer word value after fits) (says_lists answer word value after fits)
+    closes_with answer word value after fits.last (says answer word value after fits) (lists_are answer word value after fits)
 
 pub threads_close : ThreadsClose
 threads_close = record {

@@ -14,7 +14,7 @@ use Rattle.pa_lists.proofs.Members.{not_in_none}
 use Rattle.pa_rules.specs.declared.played.Played.{Played}
 use Rattle.pa_rules.specs.Cells.{IsChain}
 use Rattle.pa_rules.specs.Legal.{IsLegalTold}
-use Rattle.pa_legal.specs.Known.{UnmapsNext}
+use Rattle.pa_legal.specs.Flows.{UnmapsNext}
 use Rattle.pa_legal.specs.Numbers.{AreNumbered}
 use Rattle.pa_legal.proofs.Converse.{legal_is_known}
 use Rattle.pa_examples.specs.Worked.{two_threads_trace, two_threads_records, two_threads_journal, two_threads_pool, two_threads_census}

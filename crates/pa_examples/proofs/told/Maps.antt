@@ -227,8 +227,7 @@ module _ (r : Run) (is : IsRunOf r (map entry_of direct_map_records) (direct_map
     registers = known.registers;
     pool = known.pool;
     roots = known.roots;
-    caches = known.caches;
-    report = known.report;
+    flows = known.flows;
     numbers = known.numbers;
     unmaps = known.unmaps;
   }

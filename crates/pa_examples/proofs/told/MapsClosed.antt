@@ -16,21 +16,21 @@ use Rattle.pa_record.specs.Root.{new_root, root_replayed}
 use Rattle.pa_record.specs.Sound.{IsMade}
 use Rattle.pa_record.specs.Worked.{map_gone, direct_map_again_pool, direct_map_again_journal}
 use Rattle.pa_lists.proofs.Members.{not_in_none}
-use Rattle.pa_rules.specs.Caches.{Caches}
 use Rattle.pa_examples.specs.Worked.{direct_map_trace}
 use Rattle.pa_examples.proofs.worked.MapsHeld.{at_end}
 use Rattle.pa_examples.proofs.worked.MapsPlaced.{roots}
 use Rattle.pa_logs.specs.Told.{told_of}
 use Rattle.pa_logs.specs.Reads.{KnowsAll}
-use Rattle.pa_logs.specs.Said.{CloseSays, HasLogs}
+use Rattle.pa_logs.specs.Said.{HasLogs}
+use Rattle.pa_logs.specs.Standing.{OnlyUnmapsUncut, ListedIsFree}
 use Rattle.pa_logs.specs.Worked.{view_of}
-use Rattle.pa_logs.proofs.Said.{layers_tell_all}
 use Rattle.pa_examples.specs.told.Entered.{in_root}
 use Rattle.pa_examples.specs.told.Maps.{map_title, maps_told}
 use Rattle.pa_examples.specs.told.OneThread.{told_maps, maps_lists, maps_words, maps_holding, seat_maps, DirectMapIsClosed}
+use Rattle.pa_examples.proofs.told.ClosedBy.{closed_by}
 use Rattle.pa_examples.proofs.told.FreeSlots.{words_at, words_long}
 use Rattle.pa_examples.proofs.told.Maps.{last, last_history, by_name}
-use Rattle.pa_examples.proofs.told.MapsSaid.{notes, alone, alone_knows, says, says_lists}
+use Rattle.pa_examples.proofs.told.MapsSaid.{sizes, notes, alone, alone_knows, says, lists, lists_are}
 use Rattle.pa_examples.proofs.told.OneThread.{fits_seat, fits_knows}
 use Rattle.pa_examples.proofs.told.Seats.{FitsSeat, FitsHolding, weighed, all_logs, history_is, has_logs}
 use Rattle.pa_examples.proofs.told.Uncuts.{unmaps_none, unmaps_one, only_unmaps}
@@ -119,26 +119,24 @@ none_listed : (k p class : ℕ) (m : Numbered) → k < 1 → Contains (at_end k 
 none_listed zero p class m few among = not_in_none m among
 none_listed (suc k) p class m few among = absurd (omega arith)
 
-abbrev Closes : Caches → Type 0
-Closes all = CloseSays direct_map_trace told_maps seat_maps maps_told all
-
-closes : Closes at_end
-closes = record {
-  unmaps = only_unmaps maps_told (
-    unmaps_none _ refl,
+unmaps : OnlyUnmapsUncut maps_told
+unmaps = only_unmaps maps_told (
+  unmaps_none _ refl,
+  (
+    unmaps_one _ (map_title 0) refl (record {
+      partition = 0;
+      small = lit< tt;
+      made = in_root (map_gone 3 1 16384 0 2);
+      entry = map_gone 3 1 16384 0 2;
+      asked = 1;
+      slot = _;
+      entered = (0, lit< tt, refl);
+      says = refl;
+      act = refl;
+      names = refl;
+    }),
     (
-      unmaps_one _ (map_title 0) refl (record {
-        partition = 0;
-        small = lit< tt;
-        made = in_root (map_gone 3 1 16384 0 2);
-        entry = map_gone 3 1 16384 0 2;
-        asked = 1;
-        slot = _;
-        entered = (0, lit< tt, refl);
-        says = refl;
-        act = refl;
-        names = refl;
-      }),
+      unmaps_none _ refl,
       (
         unmaps_none _ refl,
         (
@@ -146,40 +144,29 @@ closes = record {
           (
             unmaps_none _ refl,
             (
-              unmaps_none _ refl,
-              (
-                unmaps_one _ (map_title 2) refl (record {
-                  partition = 0;
-                  small = lit< tt;
-                  made = in_root (map_gone 8 4 16384 2 4);
-                  entry = map_gone 8 4 16384 2 4;
-                  asked = 4;
-                  slot = _;
-                  entered = (0, lit< tt, refl);
-                  says = refl;
-                  act = refl;
-                  names = refl;
-                }),
-                (unmaps_none _ refl, tt),
-              ),
+              unmaps_one _ (map_title 2) refl (record {
+                partition = 0;
+                small = lit< tt;
+                made = in_root (map_gone 8 4 16384 2 4);
+                entry = map_gone 8 4 16384 2 4;
+                asked = 4;
+                slot = _;
+                entered = (0, lit< tt, refl);
+                says = refl;
+                act = refl;
+                names = refl;
+              }),
+              (unmaps_none _ refl, tt),
             ),
           ),
         ),
       ),
     ),
-  );
-  rooted = λ p u made stays. absurd (none_made p u made);
-  listed = λ k p class m few one real among. absurd (none_listed k p class m few among);
-  clean = refl;
-}
+  ),
+)
 
 pub direct_map_closes : DirectMapIsClosed
-direct_map_closes =
-    let all = says logs in
-    let close : Closes (all.lists 1) = subst (λ lists. Closes (lists 1)) (sym (says_lists logs)) closes in
-    record {
-      says = all;
-      closes = close;
-      end = is_end;
-      held = layers_tell_all.held maps_words direct_map_trace told_maps seat_maps maps_told all close is_end;
-    }
+direct_map_closes = closed_by direct_map_trace told_maps seat_maps maps_told maps_words (says logs) lists
+    (subst (λ at. ListedIsFree 1 1 sizes (at 1) seat_maps) (sym lists_are)
+    (λ k p class m few one real among. absurd (none_listed k p class m few among)))
+    unmaps (λ p u made stays. absurd (none_made p u made)) refl is_end

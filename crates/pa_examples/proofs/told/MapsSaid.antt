@@ -21,7 +21,7 @@ use Rattle.pa_rules.specs.declared.register.Register.TheVariants.{Own, Ref, Free
 use Rattle.pa_rules.specs.Registers.{Regs, Facts, Row, PointRow, with, no_regs}
 use Rattle.pa_rules.specs.Cells.{history_at}
 use Rattle.pa_rules.specs.Caches.{no_caches, listed_slots}
-use Rattle.pa_rules.specs.Report.{HasSize, until, listed_bytes}
+use Rattle.pa_rules.specs.Report.{HasSize, until, listed_bytes, cached_slots, cached_bytes}
 use Rattle.pa_rules.specs.Sizes.{slot_size_for}
 use Rattle.pa_rules.specs.Legal.{IsLegalTold}
 use Rattle.pa_legal.specs.Known.{IsKnown}
@@ -41,7 +41,7 @@ use Rattle.pa_logs.specs.Listed.{IsJournalOf}
 use Rattle.pa_logs.specs.Reported.{IsLeftBy, CacheLeadsTo}
 use Rattle.pa_logs.specs.Rows.{records_by}
 use Rattle.pa_logs.specs.Seats.{AreOfLines}
-use Rattle.pa_logs.specs.Said.{sizes_in, homes_in, facts_in, HasToldRows, EndsPhase, RunnerSays, PoolTells, RootsTell, CellsTell, HeapTells, IsLineSaid, LayersSay, HasLogs}
+use Rattle.pa_logs.specs.Said.{sizes_in, homes_in, facts_in, HasToldRows, EndsPhase, RunnerSays, PoolTells, RootsTell, CellsTell, HeapTells, IsLineSaid, LayersSay, ListsSay, HasLogs}
 use Rattle.pa_logs.proofs.Homing.{homes_follow}
 use Rattle.pa_logs.proofs.Sizing.{lengths_follow}
 use Rattle.pa_examples.specs.told.Entered.{in_root}
@@ -56,7 +56,7 @@ use Rattle.pa_examples.proofs.told.Played.{not_uncounted}
 use Rattle.pa_examples.proofs.told.Seats.{append_none}
 use Rattle.pa_examples.proofs.told.Seen.{heard_by, have_seen}
 
-abbrev sizes : SlotName → ℕ
+abbrev pub sizes : SlotName → ℕ
 sizes = sizes_in direct_map_trace told_maps
 
 abbrev homes : SlotName → ℕ
@@ -361,27 +361,21 @@ of_lines : (q : ℕ) → q < 6 → AreOfLines q maps_told
 of_lines = below_six (λ p. AreOfLines p maps_told) (lines_told 0 maps_told refl) (lines_told 1 maps_told refl)
     (lines_told 2 maps_told refl) (lines_told 3 maps_told refl) (lines_told 4 maps_told refl) (lines_told 5 maps_told refl)
 
-heap : HeapTells direct_map_trace told_maps maps_told (λ n. at_end)
+heap : HeapTells direct_map_trace told_maps maps_told
 heap = record {
   told = told;
   lines = of_lines;
   rows = by_one RowsOf first_rows (λ k other. rw (ne_eqb 0 k other) tt);
   seen = have_seen (history_at []) maps_told seen_so;
-  caches = λ n k low high.
-      let one : 1 ≡ n = omega arith in
-      subst (λ m. CacheLeadsTo 1 roots (no_caches k) (records_by k (until m direct_map_records)) (at_end k)) one
-      (leads_of 1 roots no_caches direct_map_records at_end cached_to k);
 }
 
 -- ---- the report
 
-line : IsLineSaid direct_map_trace told_maps seat_maps maps_told at_end seat_maps
+line : IsLineSaid direct_map_trace told_maps seat_maps maps_told seat_maps
     (report_line 1 (tally 1 2002944) (tally 0 0) (tally 0 0) direct_map_again_census)
-unfolding rows row_of slot_of listed_slots listed_bytes
 line = record {
   live = lives homes sizes first.home second.home third.home first.long second.long third.long;
   quarantined = waits homes sizes second.home second.long;
-  cached = (refl, refl);
   root = record {
     journal = direct_map_again_journal;
     journal_is = refl;
@@ -406,18 +400,36 @@ line = record {
 pub says : HasLogs seat_maps maps_told → LayersSay direct_map_trace told_maps seat_maps maps_told
 says has = record {
   seats = λ n. seat_maps;
-  lists = λ n. at_end;
   swaps = [];
   runner = runner has;
   pool = pool_tells;
   roots = roots_tell;
   cells = cells_tell;
   heap = heap;
-  report = λ l among. each
-      (λ (k : ReportLine). IsLineSaid direct_map_trace told_maps seat_maps maps_told at_end seat_maps k) direct_map_report
+  report = λ l among. each (λ (k : ReportLine). IsLineSaid direct_map_trace told_maps seat_maps maps_told seat_maps k) direct_map_report
       (line, tt) l among;
 }
 
-pub says_lists : (has : HasLogs seat_maps maps_told) → (says has).lists ≡ (λ n. at_end)
-unfolding says
-says_lists has = refl
+-- ---- the threads' lists
+
+-- what the lists hold at the end
+abbrev CountsLists : ReportLine → Type 0
+CountsLists l = (l.cached.slots ≡ cached_slots at_end l.partition 1) × (l.cached.bytes ≡ cached_bytes at_end l.partition 1)
+
+counted : (l : ReportLine) → Contains direct_map_report l → CountsLists l
+unfolding rows row_of slot_of listed_slots listed_bytes
+counted l among = each CountsLists direct_map_report ((refl, refl), tt) l among
+
+pub lists : ListsSay direct_map_trace told_maps maps_told
+lists = record {
+  lists = λ n. at_end;
+  caches = λ n k low high.
+      let one : 1 ≡ n = omega arith in
+      subst (λ m. CacheLeadsTo 1 roots (no_caches k) (records_by k (until m direct_map_records)) (at_end k)) one
+      (leads_of 1 roots no_caches direct_map_records at_end cached_to k);
+  cached = counted;
+}
+
+pub lists_are : lists.lists ≡ (λ n. at_end)
+unfolding lists
+lists_are = refl

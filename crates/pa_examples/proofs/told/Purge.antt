@@ -118,8 +118,7 @@ module _ (r : Run) (is : IsRunOf r (map entry_of purge_records) (purge_journal â
     registers = known.registers;
     pool = known.pool;
     roots = known.roots;
-    caches = known.caches;
-    report = known.report;
+    flows = known.flows;
     numbers = known.numbers;
     unmaps = known.unmaps;
   }

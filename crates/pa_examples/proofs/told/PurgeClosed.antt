@@ -23,7 +23,7 @@ use Rattle.pa_record.specs.Worked.{purge_pool, purge_journal}
 use Rattle.pa_record.proofs.Leaving.{out_is_left}
 use Rattle.pa_lists.proofs.Members.{not_in_none}
 use Rattle.pa_record.proofs.Worked.{purge}
-use Rattle.pa_rules.specs.Caches.{Caches, IsOfClass}
+use Rattle.pa_rules.specs.Caches.{IsOfClass}
 use Rattle.pa_examples.specs.WorkedPurge.{purge_trace}
 use Rattle.pa_examples.proofs.worked.Lists.{each}
 use Rattle.pa_examples.proofs.worked.OneFill.{filled, rest}
@@ -31,17 +31,18 @@ use Rattle.pa_examples.proofs.worked.Purge as worked
 use Rattle.pa_logs.specs.Told.{told_of}
 use Rattle.pa_logs.specs.Reads.{KnowsAll}
 use Rattle.pa_logs.specs.Touches.{title_of}
-use Rattle.pa_logs.specs.Said.{CloseSays, HasLogs}
+use Rattle.pa_logs.specs.Said.{HasLogs}
+use Rattle.pa_logs.specs.Standing.{ListedIsFree}
 use Rattle.pa_logs.specs.Worked.{its_title, view_of}
-use Rattle.pa_logs.proofs.Said.{layers_tell_all}
 use Rattle.pa_examples.specs.told.AllSaid.{title_number, span_slots}
 use Rattle.pa_examples.specs.told.OneThread.{told_purge, purge_lists, later_slots, purge_words, purge_holding, seat_purge, PurgeIsClosed}
 use Rattle.pa_examples.specs.told.Purge.{purge_told}
 use Rattle.pa_examples.specs.told.Threads.{seen_number}
+use Rattle.pa_examples.proofs.told.ClosedBy.{closed_by}
 use Rattle.pa_examples.proofs.told.FreeSlots.{times_in, stands_in, slots_once, slot_has, none_raw, slots_apart, shape_of, made_free, words_at, words_long, first_word, by_slot}
 use Rattle.pa_examples.proofs.told.OneThread.{fits_seat, fits_knows}
 use Rattle.pa_examples.proofs.told.Purge.{last, last_history, last_other}
-use Rattle.pa_examples.proofs.told.PurgeSaid.{roots, sizes, size_is, in_class_0, alone, alone_knows, says, says_lists}
+use Rattle.pa_examples.proofs.told.PurgeSaid.{roots, sizes, size_is, in_class_0, alone, alone_knows, says, lists, lists_are}
 use Rattle.pa_examples.proofs.told.Seats.{FitsSeat, FitsHolding, weighed, all_logs, history_is, has_logs}
 use Rattle.pa_examples.proofs.told.Uncuts.{unmaps_none, only_unmaps}
 
@@ -177,8 +178,7 @@ slot_free n some_number few of =
       | inr n ↦ n.0
     ]
 
-listed : (k p class : ℕ) (m : Numbered) → k < 1 → p < 1 → class < 170 → Contains (worked.at_end k p class) m →
-    0 < times_in (later_slots 255) (title_of sizes m.slot)
+listed : ListedIsFree 1 1 sizes worked.at_end seat_purge
 listed k p class m few alone real among =
     let first : 0 ≡ k = omega arith in
     let home : 0 ≡ p = omega arith in
@@ -212,24 +212,7 @@ listed k p class m few alone real among =
       | inr other ↦ absurd (not_in_none m (rw (ne_eqb c 0 other) at there))
     ]
 
-abbrev Closes : Caches → Type 0
-Closes all = CloseSays purge_trace told_purge seat_purge purge_told all
-
-closes : Closes worked.at_end
-closes = record {
-  unmaps = only_unmaps purge_told (unmaps_none _ refl, (unmaps_none _ refl, (unmaps_none _ refl, (unmaps_none _ refl, tt))));
-  rooted = rooted;
-  listed = listed;
-  clean = refl;
-}
-
 pub purge_closes : PurgeIsClosed
-purge_closes =
-    let all = says logs in
-    let close : Closes (all.lists 1) = subst (λ lists. Closes (lists 1)) (sym (says_lists logs)) closes in
-    record {
-      says = all;
-      closes = close;
-      end = is_end;
-      held = layers_tell_all.held purge_words purge_trace told_purge seat_purge purge_told all close is_end;
-    }
+purge_closes = closed_by purge_trace told_purge seat_purge purge_told purge_words (says logs) lists
+    (subst (λ at. ListedIsFree 1 1 sizes (at 1) seat_purge) (sym lists_are) listed)
+    (only_unmaps purge_told (unmaps_none _ refl, (unmaps_none _ refl, (unmaps_none _ refl, (unmaps_none _ refl, tt))))) rooted refl is_end

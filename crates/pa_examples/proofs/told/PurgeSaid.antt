@@ -20,7 +20,7 @@ use Rattle.pa_rules.specs.Registers.{Regs, with, no_regs}
 use Rattle.pa_rules.specs.Roots.{Journals, journal_at}
 use Rattle.pa_rules.specs.Cells.{history_at}
 use Rattle.pa_rules.specs.Caches.{IsOfClass, no_caches, listed_slots}
-use Rattle.pa_rules.specs.Report.{HasSize, until, listed_bytes}
+use Rattle.pa_rules.specs.Report.{HasSize, until, listed_bytes, cached_slots, cached_bytes}
 use Rattle.pa_rules.specs.Sizes.{slot_size_for}
 use Rattle.pa_rules.specs.Legal.{IsLegalTold}
 use Rattle.pa_rules.specs.Worked.{first_slot, purge_records}
@@ -39,7 +39,7 @@ use Rattle.pa_logs.specs.Listed.{IsJournalOf}
 use Rattle.pa_logs.specs.Reported.{IsLeftBy, CacheLeadsTo}
 use Rattle.pa_logs.specs.Rows.{records_by}
 use Rattle.pa_logs.specs.Seats.{AreOfLines}
-use Rattle.pa_logs.specs.Said.{sizes_in, homes_in, facts_in, HasToldRows, EndsPhase, RunnerSays, PoolTells, RootsTell, CellsTell, HeapTells, IsLineSaid, LayersSay, HasLogs}
+use Rattle.pa_logs.specs.Said.{sizes_in, homes_in, facts_in, HasToldRows, EndsPhase, RunnerSays, PoolTells, RootsTell, CellsTell, HeapTells, IsLineSaid, LayersSay, ListsSay, HasLogs}
 use Rattle.pa_logs.specs.Worked.{its_title}
 use Rattle.pa_logs.proofs.Homing.{homes_follow}
 use Rattle.pa_logs.proofs.Sizing.{lengths_follow}
@@ -235,27 +235,21 @@ of_lines : (q : ℕ) → q < 6 → AreOfLines q purge_told
 of_lines = below_six (λ p. AreOfLines p purge_told) (lines_told 0 purge_told refl) (lines_told 1 purge_told refl)
     (lines_told 2 purge_told refl) (lines_told 3 purge_told refl) (lines_told 4 purge_told refl) (lines_told 5 purge_told refl)
 
-heap : HeapTells purge_trace told_purge purge_told (λ n. worked.at_end)
+heap : HeapTells purge_trace told_purge purge_told
 heap = record {
   told = told;
   lines = of_lines;
   rows = by_one RowsOf first_rows (λ k other. rw (ne_eqb 0 k other) tt);
   seen = have_seen (history_at []) purge_told seen_so;
-  caches = λ n k low high.
-      let one : 1 ≡ n = omega arith in
-      subst (λ m. CacheLeadsTo 1 roots (no_caches k) (records_by k (until m purge_records)) (worked.at_end k)) one
-      (leads_of 1 roots no_caches purge_records worked.at_end worked.cached_to k);
 }
 
 -- ---- the report
 
-line : IsLineSaid purge_trace told_purge seat_purge purge_told worked.at_end seat_purge
+line : IsLineSaid purge_trace told_purge seat_purge purge_told seat_purge
     (report_line 1 (tally 1 16) (tally 0 0) (tally 7 112) purge_census)
-unfolding rows row_of slot_of listed_slots listed_bytes
 line = record {
   live = counted homes sizes home long;
   quarantined = record { slots = refl; bytes = refl };
-  cached = (refl, refl);
   root = record {
     journal = purge_journal;
     journal_is = refl;
@@ -274,18 +268,36 @@ line = record {
 pub says : HasLogs seat_purge purge_told → LayersSay purge_trace told_purge seat_purge purge_told
 says has = record {
   seats = λ n. seat_purge;
-  lists = λ n. worked.at_end;
   swaps = [];
   runner = runner has;
   pool = pool_tells;
   roots = roots_tell;
   cells = cells_tell;
   heap = heap;
-  report = λ l among. each
-      (λ (k : ReportLine). IsLineSaid purge_trace told_purge seat_purge purge_told worked.at_end seat_purge k) purge_report
+  report = λ l among. each (λ (k : ReportLine). IsLineSaid purge_trace told_purge seat_purge purge_told seat_purge k) purge_report
       (line, tt) l among;
 }
 
-pub says_lists : (has : HasLogs seat_purge purge_told) → (says has).lists ≡ (λ n. worked.at_end)
-unfolding says
-says_lists has = refl
+-- ---- the threads' lists
+
+-- what the lists hold at the end
+abbrev CountsLists : ReportLine → Type 0
+CountsLists l = (l.cached.slots ≡ cached_slots worked.at_end l.partition 1) × (l.cached.bytes ≡ cached_bytes worked.at_end l.partition 1)
+
+counted : (l : ReportLine) → Contains purge_report l → CountsLists l
+unfolding rows row_of slot_of listed_slots listed_bytes
+counted l among = each CountsLists purge_report ((refl, refl), tt) l among
+
+pub lists : ListsSay purge_trace told_purge purge_told
+lists = record {
+  lists = λ n. worked.at_end;
+  caches = λ n k low high.
+      let one : 1 ≡ n = omega arith in
+      subst (λ m. CacheLeadsTo 1 roots (no_caches k) (records_by k (until m purge_records)) (worked.at_end k)) one
+      (leads_of 1 roots no_caches purge_records worked.at_end worked.cached_to k);
+  cached = counted;
+}
+
+pub lists_are : lists.lists ≡ (λ n. worked.at_end)
+unfolding lists
+lists_are = refl

@@ -381,8 +381,7 @@ module _ (r : Run) (is : IsRunOf r (map entry_of two_threads_records) (two_threa
     registers = known.registers;
     pool = known.pool;
     roots = known.roots;
-    caches = known.caches;
-    report = known.report;
+    flows = known.flows;
     numbers = known.numbers;
     unmaps = known.unmaps;
   }

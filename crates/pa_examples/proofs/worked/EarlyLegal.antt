@@ -1,5 +1,5 @@
 -- The worked run with an early read is legal, clause by clause, and there is such a run.
-use Rattle.std.proofs.Common.{arith, [], ◌∷◌, map, lit<, rules, Global, refl}
+use Rattle.std.proofs.Common.{arith, [], ◌∷◌, map, lit<, rules, Global}
 use Rattle.pa_trace.specs.Limits.{IsWithinLimits}
 use Rattle.pa_record.specs.Bits.{RunInBits}
 use Rattle.pa_rules.specs.Played.{entry_of}

@@ -1,5 +1,5 @@
 -- There are runs with the lists that were worked out, of traces within the limits.
-use Rattle.std.proofs.Common.{arith, [], ◌∷◌, map, lit<, rules, Global, refl}
+use Rattle.std.proofs.Common.{arith, [], ◌∷◌, map, lit<, rules, Global}
 use Rattle.pa_trace.specs.Limits.{IsWithinLimits}
 use Rattle.pa_record.specs.Bits.{RunInBits}
 use Rattle.pa_record.specs.Worked.{direct_map_again_pool, direct_map_again_journal}

@@ -18,7 +18,8 @@ use Rattle.pa_examples.specs.Worked.{two_threads_trace, two_threads_journal, two
 use Rattle.pa_logs.specs.Told.{ToldRecord, told_until}
 use Rattle.pa_logs.specs.Swaps.{SwapMade, place_of}
 use Rattle.pa_logs.specs.Whole.{IsPlayedOut}
-use Rattle.pa_logs.specs.Said.{sizes_in, LayersSay, CloseSays}
+use Rattle.pa_logs.specs.Said.{sizes_in, LayersSay, ListsSay, CloseSays}
+use Rattle.pa_logs.specs.Standing.{ListedIsFree}
 use Rattle.pa_logs.specs.Worked.{with_log}
 use Rattle.pa_examples.specs.told.Worked.{Worked}
 use Rattle.pa_examples.specs.told.Threads.{seen_number, the_read, threads_worked}
@@ -107,9 +108,10 @@ told_with read = record {
   report = two_threads_report;
 }
 
--- all layers meet their obligations, if the read is so
-abbrev pub SaysWith : Worked → Type 0
-SaysWith read = LayersSay two_threads_trace (told_with read) (seat_last read) (reading_so read)
+-- all layers meet their obligations, and those of the threads' lists too, if the read is so
+pub record SaysWith (read : Worked) : Type 0 where
+  pub layers : LayersSay two_threads_trace (told_with read) (seat_last read) (reading_so read)
+  pub lists : ListsSay two_threads_trace (told_with read) (reading_so read)
 
 -- all layers meet their obligations with each of the three reads: poison while the free is under way,
 -- the content, and that the slot was freed
@@ -130,11 +132,13 @@ pub record OtherReadsAreLegal : Type 0 where
   pub content : IsFineWith content_read
   pub freed : IsFineWith freed_read
 
--- A run with these records, closed by the seat v: all layers meet their obligations, and the seat meets its own. So
--- the words, by what the close ensures for it, hold the run.
+-- A run with these records, closed by the seat v: all layers meet their obligations, and the seat meets its own, of which one follows
+-- from what it has free on the threads' lists. So the words, by what the close ensures for it, hold the run.
 pub record IsClosed (t : Trace) (r : Told) (v : View) (ts : List ToldRecord) (words : List ℕ) : Type 0 where
   pub says : LayersSay t r v ts
-  pub closes : CloseSays t r v ts (says.lists (phases_in t.lines))
+  pub lists : ListsSay t r ts
+  pub listed : ListedIsFree t.threads t.partitions (sizes_in t r) (lists.lists (phases_in t.lines)) v
+  pub closes : CloseSays t r v ts
   pub end : IsEnd words v
   pub held : IsHeldIn t r words
 

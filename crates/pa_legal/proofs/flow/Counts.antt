@@ -1,52 +1,27 @@
 -- How often a slot is in lists at a number, and how often entries take it out of the root and give it back there.
-use Rattle.std.proofs.Common.{◌≡◌, ℕ, zero, suc, ◌+◌, ◌<◌, ◌≤◌, Bool, not, ◌&&◌, cond, List, [], ◌∷◌, ◌++◌, take, drop, length, refl, sym, ◌∙◌, ap, arith, inl, inr}
-use Rattle.std.specs.Prelude.{count_by, nat_lt, ◌==◌}
+use Rattle.std.proofs.Common.{◌≡◌, ℕ, zero, suc, ◌+◌, ◌<◌, ◌≤◌, Bool, cond, List, [], ◌∷◌, ◌++◌, take, drop, length, refl, sym, ◌∙◌, ap, arith, inl, inr}
+use Rattle.std.specs.Prelude.{nat_lt}
 use Rattle.std.proofs.lemmas.Bool.{cases_Bool, cases_eq}
 use Rattle.std.proofs.lemmas.List.{take-append-drop, length-drop}
 use Rattle.std.proofs.lemmas.List.Sums.{sum_by-cons, sum_by-append}
 use Rattle.pa_slot.specs.declared.word.SlotName.{SlotName}
-use Rattle.pa_slot.specs.Run.{same_slot}
 use Rattle.pa_slot.proofs.Runs.{same_slot_no}
 use Rattle.pa_buckets.specs.Bands.{limit_of}
 use Rattle.pa_record.specs.declared.numbered.Numbered.{Numbered}
 use Rattle.pa_record.specs.declared.root.RootAct.{RootAct}
-use Rattle.pa_record.specs.declared.root.RootAct.TheVariants.{Fill, Map, Full, Give, Unmap, Purge}
-use Rattle.pa_rules.specs.Holders.{Way, Out, Back}
+use Rattle.pa_rules.specs.Holders.{Way}
 use Rattle.pa_rules.specs.Caches.{Cache, with_list, batches, gives, kept, spilled, purge_acts}
 use Rattle.pa_rules.proofs.Counted.{list_changed, list_of_another_class}
 use Rattle.pa_legal.specs.Turns.{is_out}
-
--- ways back
-abbrev pub is_back : Way → Bool
-is_back w = not (is_out w)
-
--- the slot and the number are those of the numbered slot
-abbrev pub hits : SlotName → ℕ → Numbered → Bool
-hits s k n = same_slot s n.slot && (n.number == k)
+use Rattle.pa_legal.specs.Flows.{is_back, hits, at_in, moved_in}
 
 abbrev pub hit_once : SlotName → ℕ → Numbered → ℕ
 hit_once s k n = cond (hits s k n) 1 0
 
--- how often the slot is in a list at the number, and in the lists of `n` classes from one on
-abbrev pub at_in : SlotName → ℕ → List Numbered → ℕ
-at_in s k xs = count_by (hits s k) xs
-
+-- how often the slot is at the number in the lists of `n` classes from one on
 unfoldable pub listed : SlotName → ℕ → (ℕ → List Numbered) → ℕ → ℕ → ℕ
 listed s k lists class zero = 0
 listed s k lists class (suc n) = at_in s k (lists class) + listed s k lists (class + 1) n
-
--- how often an entry moves it in such ways, and how often some entries do
-abbrev pub moved : (Way → Bool) → SlotName → ℕ → RootAct → ℕ
-moved w s k (Fill class asked slots) = cond (w Out) (at_in s k slots) 0
-moved w s k (Map asked slot len) = cond (w Out) (at_in s k (record { slot = slot; number = 0 } ∷ [])) 0
-moved w s k (Full class asked) = 0
-moved w s k (Give slots) = cond (w Back) (at_in s k slots) 0
-moved w s k (Unmap asked slot) = cond (w Back) (at_in s k (slot ∷ [])) 0
-moved w s k Purge = 0
-
-abbrev pub moved_in : (Way → Bool) → SlotName → ℕ → List RootAct → ℕ
-moved_in w s k [] = 0
-moved_in w s k (a ∷ acts) = moved w s k a + moved_in w s k acts
 
 pub at_cons : (s : SlotName) (k : ℕ) (n : Numbered) (ns : List Numbered) → at_in s k (n ∷ ns) ≡ hit_once s k n + at_in s k ns
 at_cons s k n ns = sum_by-cons (λ m. cond (hits s k m) 1 0) n ns

@@ -23,26 +23,14 @@ use Rattle.pa_rules.specs.declared.played.Played.{Played}
 use Rattle.pa_rules.specs.Played.{mark_of, mark_of_answer, mark_at, look_at, step_of}
 use Rattle.pa_rules.specs.Roots.{Journals}
 use Rattle.pa_rules.specs.Caches.{Cache, with_list, SameLists, acts_of, OnlyActs, NoActs, IsDirect, FilledFirst, MadeRow, FullRow, ReturnRow, DoneRow, PurgedRow, CacheRow, gives, kept, spilled}
-use Rattle.pa_rules.specs.Flow.{returns_at, is_issue, is_issue_of, is_return_of, IsOnlyOf}
+use Rattle.pa_rules.specs.Flow.{returns_at, is_issue, IsOnlyOf}
 use Rattle.pa_rules.proofs.Versions.{real_in}
 use Rattle.pa_rules.proofs.Known.{IsKnown, first_keeps}
 use Rattle.pa_rules.proofs.Counted.{list_of_another}
 use Rattle.pa_rules.proofs.Flowing.{class_leaves, map_leaves, class_real, returns_yes, returns_no, no_issue}
 use Rattle.pa_legal.specs.Turns.{is_out}
-use Rattle.pa_legal.specs.Known.{IsNewMap, UnmapsNext}
-use Rattle.pa_legal.proofs.flow.Counts.{is_back, hit_once, at_in, listed, moved_in, at_cons, hit_none, at_kept, back_gives, out_gives, back_purge, out_purge, listed_agree, listed_none, listed_changed}
-
--- a mark that issues the slot at the number, and one that returns it and leaves the number
-abbrev pub is_issue_at : SlotName → ℕ → Mark → Bool
-is_issue_at s k m = is_issue_of s m && (number_of m.found == k)
-
-abbrev pub is_return_at : SlotName → ℕ → Mark → Bool
-is_return_at s k m = is_return_of s m && (number_of m.found + 1 == k)
-
--- 1 if there is a mark that passes
-abbrev pub marked : (Mark → Bool) → Option Mark → ℕ
-marked test None = 0
-marked test (Some m) = cond (test m) 1 0
+use Rattle.pa_legal.specs.Flows.{IsNewMap, UnmapsNext, is_back, at_in, moved_in, is_issue_at, is_return_at, marked}
+use Rattle.pa_legal.proofs.flow.Counts.{hit_once, listed, at_cons, hit_none, at_kept, back_gives, out_gives, back_purge, out_purge, listed_agree, listed_none, listed_changed}
 
 -- the only entry of a line
 pub line_entry : (roots : Journals) (line q : ℕ) (act : RootAct) → acts_of roots line q ≡ act ∷ [] → (e : RootEntry) ×
@@ -53,7 +41,8 @@ line_entry roots line q act only =
     let (there, here) = filter_cases (λ (e : RootEntry). e.line == line) (roots q) e member in
     (e, there, eqb-true e.line line here, same)
 
-off : (a b c : Bool) → b ≡ false → cond {A = ℕ} ((a && b) && c) 1 0 ≡ 0
+-- a mark that fails one of its tests
+pub off : (a b c : Bool) → b ≡ false → cond {A = ℕ} ((a && b) && c) 1 0 ≡ 0
 off true b c e = rw e refl
 off false b c e = refl
 
@@ -75,7 +64,7 @@ module _ (s : SlotName) (k p : ℕ) (roots : Journals) where
 
   module _ (own : IsOnlyOf roots p s) where
     -- a slot of another partition isn't s
-    not_of : (n : Numbered) (q : ℕ) → (q ≡ p → ⊥) → ((e : RootEntry) × Contains (roots q) e × Contains (leaves_by e.act) n.slot) →
+    pub not_of : (n : Numbered) (q : ℕ) → (q ≡ p → ⊥) → ((e : RootEntry) × Contains (roots q) e × Contains (leaves_by e.act) n.slot) →
         hit_once s k n ≡ 0
     not_of n q ne (e, among, leaves) =
         hit_none s k n (λ same. ne (own q e among (subst (λ z. Contains (leaves_by e.act) z) (sym same) leaves)))
@@ -86,7 +75,7 @@ module _ (s : SlotName) (k p : ℕ) (roots : Journals) where
         (record { slot = seen.slot; number = number_of seen.found.0 })
     issue_marked line seen = elim (cases_Bool (same_slot s seen.slot)) [ inl hit ↦ rw hit refl | inr miss ↦ rw miss refl ]
 
-    return_marked : (line : ℕ) (seen : Seen) (step : Step) → returns_at step seen.found.0 ≡ true →
+    pub return_marked : (line : ℕ) (seen : Seen) (step : Step) → returns_at step seen.found.0 ≡ true →
         marked (is_return_at s k) (Some (mark_at line seen (Some step))) ≡ hit_once s k
         (record { slot = seen.slot; number = number_of seen.found.0 + 1 })
     return_marked line seen step passes =

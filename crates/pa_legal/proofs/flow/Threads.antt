@@ -15,7 +15,6 @@ use Rattle.pa_record.specs.Root.{IsJournal}
 use Rattle.pa_lists.proofs.Members.{not_in_none, first_in, later_in, in_cases}
 use Rattle.pa_lists.proofs.Pairs.{pairs_head, pairs_tail}
 use Rattle.pa_rules.specs.declared.played.Played.{Played}
-use Rattle.pa_rules.specs.Played.{mark_of}
 use Rattle.pa_rules.specs.Roots.{Journals}
 use Rattle.pa_rules.specs.Holders.{Way, Out, Back, Move, move_of, moves_by, is_move_of, moves_at}
 use Rattle.pa_rules.specs.Caches.{Cache, Caches, acts_of, CachesTo, with_cache}
@@ -23,29 +22,48 @@ use Rattle.pa_rules.specs.Flow.{IsOnlyOf}
 use Rattle.pa_rules.proofs.Known.{IsKnown, known_with, row_known}
 use Rattle.pa_rules.proofs.Running.{OtherRecord}
 use Rattle.pa_legal.specs.Turns.{is_out}
-use Rattle.pa_legal.specs.Known.{IsNewMap, UnmapsNext}
-use Rattle.pa_legal.proofs.flow.Counts.{is_back, hits, at_in, listed, moved, moved_in, at_cons}
-use Rattle.pa_legal.proofs.flow.Rows.{is_issue_at, is_return_at, marked, row_flows}
-
--- a sum over the records of a thread
-abbrev pub over : ℕ → (Played → ℕ) → List Played → ℕ
-over t g [] = 0
-over t g (x ∷ xs) = cond (x.thread == t) (g x) 0 + over t g xs
-
-abbrev pub issues_at : SlotName → ℕ → Played → ℕ
-issues_at s k x = marked (is_issue_at s k) (mark_of x)
-
-abbrev pub returns_at : SlotName → ℕ → Played → ℕ
-returns_at s k x = marked (is_return_at s k) (mark_of x)
+use Rattle.pa_legal.specs.Flows.{IsNewMap, UnmapsNext, is_back, hits, at_in, moved, moved_in, issues_at, returns_at, moves_on, over}
+use Rattle.pa_legal.proofs.flow.Counts.{listed, at_cons}
+use Rattle.pa_legal.proofs.flow.Rows.{row_flows}
 
 -- ---- along some records
+
+-- The sums over thread t's records with one record more. If the record is the thread's, what the thread has changes by what the
+-- record does, and else it stays.
+pub one_more : (t : ℕ) (x : Played) (xs : List Played) (i b o r : Played → ℕ) (had has last : ℕ) →
+    (x.thread ≡ t → has + i x + b x ≡ had + o x + r x) → ((x.thread ≡ t → ⊥) → has ≡ had) →
+    last + over t i xs + over t b xs ≡ has + over t o xs + over t r xs →
+    last + over t i (x ∷ xs) + over t b (x ∷ xs) ≡ had + over t o (x ∷ xs) + over t r (x ∷ xs)
+one_more t x xs i b o r had has last own stays rest = elim (cases_eq x.thread t) [
+  | inl e ↦
+      let flow = own e in
+      let here = λ (g : Played → ℕ). this_one g e in
+      omega (arith, here i, here b, here o, here r)
+  | inr other ↦
+      let same = stays other in
+      let none = λ (g : Played → ℕ). not_this g other in
+      omega (arith, none i, none b, none o, none r)
+]
+  where
+    this_one : (g : Played → ℕ) → x.thread ≡ t → over t g (x ∷ xs) ≡ g x + over t g xs
+    this_one g e = rw (eq-eqb x.thread t e) refl
+
+    not_this : (g : Played → ℕ) → (x.thread ≡ t → ⊥) → over t g (x ∷ xs) ≡ over t g xs
+    not_this g other = rw (ne_eqb x.thread t other) (omega arith)
+
+-- the lists of a thread whose lists were replaced, and those of another thread
+pub with_here : (all : Caches) (thread : ℕ) (next : Cache) (t : ℕ) → t ≡ thread → with_cache all thread next t ≡ next
+with_here all thread next t e = rw (eq-eqb t thread e) refl
+
+pub with_other : (all : Caches) (thread : ℕ) (next : Cache) (t : ℕ) → (t ≡ thread → ⊥) → with_cache all thread next t ≡ all t
+with_other all thread next t other = rw (ne_eqb t thread other) refl
 
 module _ (partitions : ℕ) (pools : List PoolEntry) (roots : Journals) (s : SlotName) (k p t : ℕ)
     (journals : (q : ℕ) → IsJournal pools (roots q)) (own : IsOnlyOf roots p s) (below : p < partitions) where
   pub all_flow : (xs : List Played) (all after : Caches) → ((x : Played) → Contains xs x → IsNewMap roots x × UnmapsNext roots x)
       → ((u : ℕ) → IsKnown roots (all u)) → CachesTo partitions roots all xs after →
-      listed s k (after t p) 0 170 + over t (issues_at s k) xs + over t (λ x. moved_in is_back s k (acts_of roots x.line p)) xs
-      ≡ listed s k (all t p) 0 170 + over t (λ x. moved_in is_out s k (acts_of roots x.line p)) xs + over t (returns_at s k) xs
+      listed s k (after t p) 0 170 + over t (issues_at s k) xs + over t (moves_on is_back s k roots p) xs
+      ≡ listed s k (all t p) 0 170 + over t (moves_on is_out s k roots p) xs + over t (returns_at s k) xs
   all_flow [] all after each known e =
       let same : listed s k (after t p) 0 170 ≡ listed s k (all t p) 0 170 = ap (λ (c : Caches). listed s k (c t p) 0 170) e in
       omega arith
@@ -54,35 +72,14 @@ module _ (partitions : ℕ) (pools : List PoolEntry) (roots : Journals) (s : Slo
       let flow = row_flows s k p roots partitions pools x (all x.thread) next journals own below (known x.thread) new unmaps row in
       let ih = all_flow xs (with_cache all x.thread next) after (λ y among. each y (later_in x y xs among))
       (known_with roots all x.thread next known (row_known partitions roots x x.answer (all x.thread) next (known x.thread) row)) rest in
-      elim (cases_eq x.thread t) [
-        | inl e ↦
-            let is = eq-eqb x.thread t e in
-            let i : cond {A = ℕ} (x.thread == t) (issues_at s k x) 0 ≡ issues_at s k x = rw is refl in
-            let o : cond {A = ℕ} (x.thread == t) (returns_at s k x) 0 ≡ returns_at s k x = rw is refl in
-            let b : cond {A = ℕ} (x.thread == t) (moved_in is_back s k (acts_of roots x.line p)) 0 ≡ moved_in is_back s k
-            (acts_of roots x.line p) = rw is refl in
-            let u : cond {A = ℕ} (x.thread == t) (moved_in is_out s k (acts_of roots x.line p)) 0 ≡ moved_in is_out s k
-            (acts_of roots x.line p) = rw is refl in
-            let here : listed s k (with_cache all x.thread next t p) 0 170 ≡ listed s k (next p) 0 170 =
-            ap (λ (c : Cache). listed s k (c p) 0 170) (with_here all x.thread next t (sym e)) in
-            let old : listed s k (all x.thread p) 0 170 ≡ listed s k (all t p) 0 170 = ap (λ z. listed s k (all z p) 0 170) e in
-            omega arith
-        | inr other ↦
-            let is = ne_eqb x.thread t other in
-            let i : cond {A = ℕ} (x.thread == t) (issues_at s k x) 0 ≡ 0 = rw is refl in
-            let o : cond {A = ℕ} (x.thread == t) (returns_at s k x) 0 ≡ 0 = rw is refl in
-            let b : cond {A = ℕ} (x.thread == t) (moved_in is_back s k (acts_of roots x.line p)) 0 ≡ 0 = rw is refl in
-            let u : cond {A = ℕ} (x.thread == t) (moved_in is_out s k (acts_of roots x.line p)) 0 ≡ 0 = rw is refl in
-            let here : listed s k (with_cache all x.thread next t p) 0 170 ≡ listed s k (all t p) 0 170 = ap
-            (λ (c : Cache). listed s k (c p) 0 170) (with_other all x.thread next t (λ e. other (sym e))) in
-            omega arith
-      ]
-    where
-      with_here : (all : Caches) (thread : ℕ) (next : Cache) (t : ℕ) → t ≡ thread → with_cache all thread next t ≡ next
-      with_here all thread next t e = rw (eq-eqb t thread e) refl
-
-      with_other : (all : Caches) (thread : ℕ) (next : Cache) (t : ℕ) → (t ≡ thread → ⊥) → with_cache all thread next t ≡ all t
-      with_other all thread next t other = rw (ne_eqb t thread other) refl
+      one_more t x xs (issues_at s k) (moves_on is_back s k roots p) (moves_on is_out s k roots p) (returns_at s k)
+      (listed s k (all t p) 0 170) (listed s k (with_cache all x.thread next t p) 0 170) (listed s k (after t p) 0 170)
+      (λ e.
+      let here : listed s k (with_cache all x.thread next t p) 0 170 ≡ listed s k (next p) 0 170 =
+      ap (λ (c : Cache). listed s k (c p) 0 170) (with_here all x.thread next t (sym e)) in
+      let old : listed s k (all x.thread p) 0 170 ≡ listed s k (all t p) 0 170 = ap (λ z. listed s k (all z p) 0 170) e in
+      omega arith)
+      (λ other. ap (λ (c : Cache). listed s k (c p) 0 170) (with_other all x.thread next t (λ e. other (sym e)))) ih
 
 -- ---- the moves of a line
 

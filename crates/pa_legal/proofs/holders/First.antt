@@ -17,9 +17,8 @@ use Rattle.pa_rules.specs.Flow.{returns_at, is_return, is_return_of}
 use Rattle.pa_rules.proofs.Flowing.{returns_yes}
 use Rattle.pa_rules.proofs.Running.{OtherRecord}
 use Rattle.pa_legal.specs.Turns.{has}
+use Rattle.pa_legal.specs.Flows.{is_return_at, marked, over, returns_at as returned_at}
 use Rattle.pa_legal.proofs.Words.{Steps, one_stepper}
-use Rattle.pa_legal.proofs.flow.Rows.{is_return_at, marked}
-use Rattle.pa_legal.proofs.flow.Threads.{over, returns_at as returned_at}
 
 returning_by : (p : Step) (w : ℕ) → returns_at p w ≡ true → IsReturning p w
 returning_by Issue w passes = absurd (false≢true passes)

@@ -18,16 +18,17 @@ use Rattle.pa_lists.proofs.Members.{not_in_none}
 use Rattle.pa_rules.specs.declared.played.Played.{Played}
 use Rattle.pa_rules.specs.Played.{mark_of, mark_of_answer, mark_at, marks_of}
 use Rattle.pa_rules.specs.Roots.{Journals, IsEntry, AreRoots, IsPoolOf}
-use Rattle.pa_rules.specs.Caches.{IsDirect, AreCaches}
+use Rattle.pa_rules.specs.Caches.{IsDirect}
 use Rattle.pa_rules.specs.Holders.{IsOfSlot, NamesSlot}
 use Rattle.pa_rules.proofs.Numbering.{rising_differ}
 use Rattle.pa_rules.proofs.Running.{OtherRecord, marks_differ, mark_from, same_word}
 use Rattle.pa_rules.proofs.Phases.{mark_in}
+use Rattle.pa_legal.specs.Flows.{ReturnsMap, SlotsFlow}
 use Rattle.pa_legal.specs.Known.{AreKnown, FindsInUse}
 use Rattle.pa_legal.proofs.Naming.{unnamed}
 use Rattle.pa_legal.proofs.Words.{goes_on, goes_past, leaves_free, only_issue}
 use Rattle.pa_legal.proofs.holders.Maps.{new_map}
-use Rattle.pa_legal.proofs.holders.Records.{ReturnsMap, unmap_returns, issue_makes}
+use Rattle.pa_legal.proofs.holders.Records.{issue_makes}
 use Rattle.pa_lists.proofs.Indexed.{at_in}
 
 -- an entry, and those after it
@@ -46,14 +47,14 @@ behind (x ∷ xs) (suc i) (suc j) e f at at' less = let (before, rest, parts, me
 -- A direct map that a record returned.
 module _ (supers partitions : ℕ) (ps : List Played) (pools : List PoolEntry) (roots : Journals) (j : AreRoots partitions ps pools roots)
     (h : IsPoolOf supers ps pools roots) (unlike : AllPairs OtherRecord ps) (slots : Slots (marks_of ps))
-    (caches : AreCaches partitions roots ps) where
+    (flows : SlotsFlow partitions roots ps) where
   -- it is issued at 0 alone
   issued_at_0 : (s : SlotName) (y : Played) (r : ReturnsMap roots y s) → (x : Mark) → Contains (marks_of ps) x → x.slot ≡ s →
       x.step ≡ Some Issue → number_of x.found ≡ 0
   issued_at_0 s y r x among slot issue =
       let (q, member, mark) = mark_from ps x among in
       let made = issue_makes q x issue mark in
-      let new = new_map supers partitions ps pools roots j h unlike slots caches q member made.seen made.usable r.partition made.answer
+      let new = new_map supers partitions ps pools roots j h unlike slots flows q member made.seen made.usable r.partition made.answer
       (subst (λ n. IsDirect roots n r.partition) (sym slot ∙ made.slot) r.direct) in
       ap number_of made.found ∙ new
 
@@ -122,9 +123,9 @@ module _ (supers partitions : ℕ) (ps : List Played) (pools : List PoolEntry) (
       let unlike = rising_differ ps a.rising in
       let there = at_in (roots p) i e at in
       let (y, here, makes) = a.journals.lines p i e at in
-      let r = unmap_returns partitions roots ps y e p asked slot a.caches
-      (below supers partitions ps pools roots a.journals a.pool unlike a.slots a.caches p e there) here.0 there (sym here.1) is in
+      let r = a.flows.maps y e p asked slot
+      (below supers partitions ps pools roots a.journals a.pool unlike a.slots a.flows p e there) here.0 there (sym here.1) is in
       let number = a.unmaps y here.0 r.seen p asked slot e r.answer there (sym here.1) is in
-      let less = gone_from supers partitions ps pools roots a.journals a.pool unlike a.slots a.caches a.used slot.slot y r here.0 x n among
+      let less = gone_from supers partitions ps pools roots a.journals a.pool unlike a.slots a.flows a.used slot.slot y r here.0 x n among
       of in
       omega arith

@@ -15,10 +15,10 @@ use Rattle.pa_rules.proofs.Running.{OtherRecord}
 use Rattle.pa_rules.proofs.FourPlaces.{HasLeft}
 use Rattle.pa_legal.specs.Turns.{Turn, is_out, is_with, needs, makes, Alternate, TurnsFit, holder_after, has, takes_of, backs_of, NoneLoses}
 use Rattle.pa_legal.specs.Numbers.{all_moves}
+use Rattle.pa_legal.specs.Flows.{is_back, issues_at}
 use Rattle.pa_legal.specs.Known.{AreKnown}
 use Rattle.pa_legal.proofs.Balance.{holders_balance}
-use Rattle.pa_legal.proofs.flow.Counts.{is_back}
-use Rattle.pa_legal.proofs.flow.Threads.{issues_at, weigh}
+use Rattle.pa_legal.proofs.flow.Threads.{weigh}
 use Rattle.pa_legal.proofs.holders.Order.{move_made}
 use Rattle.pa_legal.proofs.holders.First.{IsFirst, IsNever, first_holder}
 use Rattle.pa_legal.proofs.holders.Alternating.{turn_of, away_at, alternate, moved_left}

@@ -11,7 +11,6 @@ use Rattle.pa_lists.proofs.Pairs.{pairs_none, pairs_cons, pairs_head, pairs_tail
 use Rattle.pa_rules.specs.declared.played.Played.{Played}
 use Rattle.pa_rules.specs.Roots.{Journals}
 use Rattle.pa_rules.specs.Order.{IsOfLine}
-use Rattle.pa_rules.specs.Caches.{CachesTo, no_caches}
 use Rattle.pa_rules.specs.Holders.{Way, Out, Back, Move, moves_at}
 use Rattle.pa_rules.specs.Flow.{IsOnlyOf}
 use Rattle.pa_rules.proofs.Numbering.{rising_differ}
@@ -19,10 +18,9 @@ use Rattle.pa_rules.proofs.Owned.{only_of}
 use Rattle.pa_rules.proofs.Running.{OtherRecord}
 use Rattle.pa_rules.proofs.FourPlaces.{HasLeft}
 use Rattle.pa_legal.specs.Turns.{Turn, is_out}
+use Rattle.pa_legal.specs.Flows.{is_back, issues_at, returns_at, over}
 use Rattle.pa_legal.specs.Known.{AreKnown}
-use Rattle.pa_legal.proofs.flow.Counts.{is_back, listed_none}
-use Rattle.pa_legal.proofs.flow.Cuts.{caches_cut}
-use Rattle.pa_legal.proofs.flow.Threads.{over, issues_at, returns_at, all_flow, mine, weigh, weigh_cons, weigh_append, weigh_parts, weigh_zero, over_lines, mine_one}
+use Rattle.pa_legal.proofs.flow.Threads.{mine, weigh, weigh_cons, weigh_append, weigh_parts, weigh_zero, over_lines, mine_one}
 use Rattle.pa_lists.proofs.Parts.{pairs_across, pairs_after, parts_at}
 use Rattle.pa_legal.proofs.holders.Maps.{new_map}
 use Rattle.pa_legal.proofs.holders.Order.{InOrder, one_way, move_made, moves_order}
@@ -114,17 +112,12 @@ module _ (supers partitions : ℕ) (ps : List Played) (pools : List PoolEntry) (
         → over t (issues_at s k) xs + weigh is_back t xs (moves_at (roots p) s k) ≤ weigh is_out t xs (moves_at (roots p) s k) + over t
         (returns_at s k) xs
     flow t xs rest parts =
-        let (last, to) = a.caches in
-        let (mid, front, back) =
-        caches_cut partitions roots no_caches xs rest last (subst (λ zs. CachesTo partitions roots no_caches zs last) parts to) in
-        let all = all_flow partitions pools roots s k p t a.journals.journals own below xs no_caches mid
-        (λ x among. (
-          new_map supers partitions ps pools roots a.journals a.pool lines a.slots a.caches x (inside xs rest x parts among),
+        let all = a.flows.flow t p k s xs rest parts below own (λ x among. (
+          new_map supers partitions ps pools roots a.journals a.pool lines a.slots a.flows x (inside xs rest x parts among),
           a.unmaps x (inside xs rest x parts among),
-        )) (λ u q c n among. absurd (not_in_none n among)) front in
+        )) in
         let out = over_lines is_out t roots s k p xs in
         let back' = over_lines is_back t roots s k p xs in
-        let start = listed_none s k (no_caches t p) 0 170 (λ c. refl) in
         omega arith
 
     -- before a move back its thread got the slot once more than it gave it back

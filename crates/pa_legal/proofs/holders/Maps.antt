@@ -1,5 +1,5 @@
 -- A direct map is made once: by the only entry that maps it. So the issue of its slot finds the number 0.
-use Rattle.std.proofs.Common.{◌≡◌, ℕ, List, [], ◌∷◌, Option, Some, None, refl, sym, ◌∙◌, ap, subst, arith, inl, inr}
+use Rattle.std.proofs.Common.{◌≡◌, ℕ, ◌⊎◌, List, [], ◌∷◌, Option, Some, None, refl, sym, ◌∙◌, ap, subst, arith, inl, inr}
 use Rattle.std.specs.Prelude.{Contains, AllPairs, slice_get, option_map}
 use Rattle.std.proofs.lemmas.Bool.{cases_eq}
 use Rattle.std.proofs.lemmas.Option.{slice_get-get_or}
@@ -9,7 +9,6 @@ use Rattle.pa_slot.specs.Count.{number_of}
 use Rattle.pa_slot.specs.Run.{Mark, Slots}
 use Rattle.pa_record.specs.declared.entry.Seen.{Seen}
 use Rattle.pa_record.specs.declared.entry.Answer.TheVariants.{Made}
-use Rattle.pa_record.specs.declared.numbered.Numbered.{Numbered}
 use Rattle.pa_record.specs.declared.pool.PoolEntry.{PoolEntry}
 use Rattle.pa_record.specs.declared.pool.PoolAct.{PoolAct}
 use Rattle.pa_record.specs.declared.root.RootEntry.{RootEntry}
@@ -19,16 +18,15 @@ use Rattle.pa_lists.proofs.Members.{not_in_none, first_in, in_cases, of_some, no
 use Rattle.pa_rules.specs.declared.played.Played.{Played}
 use Rattle.pa_rules.specs.Played.{mark_of, mark_of_answer, mark_at, marks_of}
 use Rattle.pa_rules.specs.Roots.{Journals, AreRoots, IsPoolOf}
-use Rattle.pa_rules.specs.Caches.{Cache, IsDirect, MadeRow, CacheRow, AreCaches}
-use Rattle.pa_rules.proofs.Known.{IsKnown, first_keeps}
+use Rattle.pa_rules.specs.Caches.{IsOfClass, IsDirect}
 use Rattle.pa_rules.proofs.Running.{OtherRecord, mark_from}
 use Rattle.pa_rules.proofs.Phases.{mark_in}
 use Rattle.pa_rules.proofs.ByLines.{same_record}
-use Rattle.pa_legal.specs.Known.{IsNewMap, NewMaps}
+use Rattle.pa_legal.specs.Flows.{IsNewMap, SlotsFlow}
+use Rattle.pa_legal.specs.Known.{NewMaps}
 use Rattle.pa_legal.proofs.Titling.{class_or_direct}
 use Rattle.pa_legal.proofs.Words.{goes_past, only_issue}
-use Rattle.pa_legal.proofs.flow.Rows.{line_entry}
-use Rattle.pa_legal.proofs.holders.Records.{row_of, issue_makes}
+use Rattle.pa_legal.proofs.holders.Records.{issue_makes}
 
 -- a map names an entry of the pool that is there, by which its slot is born
 map_asked : (pools : List PoolEntry) (es : List RootEntry) (r : Root) (e : RootEntry) (asked len : ℕ) (s : SlotName) →
@@ -49,7 +47,7 @@ map_asked pools (f ∷ es) r e asked len s fits among is = elim (in_cases f e es
 
 module _ (supers partitions : ℕ) (ps : List Played) (pools : List PoolEntry) (roots : Journals) (r : AreRoots partitions ps pools roots)
     (h : IsPoolOf supers ps pools roots) (lines : AllPairs OtherRecord ps) (slots : Slots (marks_of ps))
-    (caches : AreCaches partitions roots ps) where
+    (flows : SlotsFlow partitions roots ps) where
   -- entries that map one slot are of one line
   one_mapper : (s : SlotName) (p q asked asked' len len' : ℕ) (e f : RootEntry) → Contains (roots p) e → Contains (roots q) f →
       e.act ≡ Map asked s len → f.act ≡ Map asked' s len' → e.line ≡ f.line
@@ -65,20 +63,23 @@ module _ (supers partitions : ℕ) (ps : List Played) (pools : List PoolEntry) (
   -- a record that made a direct map has an entry that maps it
   maps_it : (x : Played) (seen : Seen) (usable p : ℕ) → Contains ps x → x.answer ≡ Made seen usable → IsDirect roots seen.slot p →
       (q asked len : ℕ) × (e : RootEntry) × Contains (roots q) e × (e.line ≡ x.line) × (e.act ≡ Map asked seen.slot len)
-  maps_it x seen usable p among is direct =
-      let (cache, after, known, row) = row_of partitions roots ps x caches among in
-      by_row cache after known (subst (λ a. CacheRow partitions roots x a cache after) is row)
+  maps_it x seen usable p among is direct = let made = flows.made x seen usable among is in by_kind made.partition made.from
     where
-      by_row : (cache after : Cache) → IsKnown roots cache → MadeRow roots x seen cache after → (q asked len : ℕ) × (e : RootEntry)
-          × Contains (roots q) e × (e.line ≡ x.line) × (e.act ≡ Map asked seen.slot len)
-      by_row cache after known (inl (q, class, xs, rest, asks, filled, front, becomes)) =
-          let head : Numbered = record { slot = seen.slot; number = number_of seen.found.0 } in
-          let f = first_keeps seen.slot roots x.line q class (cache q class) xs (λ n. known q class n) filled in
-          absurd (class_or_direct supers partitions ps pools roots r h seen.slot q p class
-          (f.known head (subst (λ zs. Contains zs head) (sym front) (first_in head rest))) direct)
-      by_row cache after known (inr (q, size, asked, len, asks, only, becomes)) =
-          let (e, member, line, act) = line_entry roots x.line q (Map asked seen.slot len) only.0 in
-          (q, asked, len, e, member, line, act)
+      by_kind : (q : ℕ) → ((class : ℕ) × IsOfClass roots seen.slot q class)
+          ⊎ ((asked len : ℕ) × (e : RootEntry) × Contains (roots q) e × (e.line ≡ x.line) × (e.act ≡ Map asked seen.slot len)) →
+          (q asked len : ℕ) × (e : RootEntry) × Contains (roots q) e × (e.line ≡ x.line) × (e.act ≡ Map asked seen.slot len)
+      by_kind q (inl (class, of)) = absurd (class_or_direct supers partitions ps pools roots r h seen.slot q p class of direct)
+      by_kind q (inr (asked, len, e, member, line, act)) = (q, asked, len, e, member, line, act)
+
+  -- records that made one direct map are one
+  one_maker : (x y : Played) (seen seen' : Seen) (usable usable' p : ℕ) → Contains ps x → Contains ps y → x.answer ≡ Made seen usable →
+      y.answer ≡ Made seen' usable' → seen'.slot ≡ seen.slot → IsDirect roots seen.slot p → x ≡ y
+  one_maker x y seen seen' usable usable' p among member is is' slot direct =
+      let (u, asked, len, e, stands, line, act) = maps_it x seen usable p among is direct in
+      let (v, asked', len', f, stands', line', act') =
+      maps_it y seen' usable' p member is' (subst (λ z. IsDirect roots z p) (sym slot) direct) in
+      let same = one_mapper seen.slot u v asked asked' len len' e f stands stands' act (act' ∙ ap (λ z. Map asked' z len') slot) in
+      same_record ps x y lines among member (sym line ∙ same ∙ line')
 
   pub new_map : (x : Played) → Contains ps x → IsNewMap roots x
   new_map x among seen usable p is direct =
@@ -96,11 +97,7 @@ module _ (supers partitions : ℕ) (ps : List Played) (pools : List PoolEntry) (
             let (y, member, marked) = mark_from ps m first.among in
             let made = issue_makes y m (first.step ∙ ap Some issue) marked in
             let slot : made.seen.slot ≡ s = sym made.slot ∙ first.slot in
-            let (u, asked, len, e, stands, line, act) = maps_it x seen usable p among is direct in
-            let (v, asked', len', f, stands', line', act') =
-            maps_it y made.seen made.usable p member made.answer (subst (λ z. IsDirect roots z p) (sym slot) direct) in
-            let same = one_mapper s u v asked asked' len len' e f stands stands' act (act' ∙ ap (λ z. Map asked' z len') slot) in
-            let both = same_record ps x y lines among member (sym line ∙ same ∙ line') in
+            let both = one_maker x y seen made.seen usable made.usable p among member is made.answer slot direct in
             let again : mark_at x.line seen (Some Issue) ≡ m = of_some _ m (sym mark ∙ ap mark_of both ∙ marked) in
             let found : seen.found.0 ≡ 0 = ap (λ (z : Mark). z.found) again ∙ first.found in
             let same : number_of seen.found.0 ≡ number_of 0 = ap number_of found in
@@ -108,5 +105,5 @@ module _ (supers partitions : ℕ) (ps : List Played) (pools : List PoolEntry) (
       ]
 
 pub new_maps : NewMaps
-new_maps supers partitions ps pools roots x r h lines slots caches among =
-    new_map supers partitions ps pools roots r h lines slots caches x among
+new_maps supers partitions ps pools roots x r h lines slots flows among =
+    new_map supers partitions ps pools roots r h lines slots flows x among

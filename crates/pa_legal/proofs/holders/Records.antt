@@ -1,4 +1,5 @@
--- What the caches say of a record: the slot that it made left a root, and what takes a direct map back is a step that returned it.
+-- What the caches say of a record: the slot that it made left the root from which it was asked for, and what takes a direct map back
+-- is a step that returned it.
 use Rattle.std.proofs.Common.{◌≡◌, ℕ, zero, suc, ◌+◌, ◌<◌, ◌⊎◌, false, List, [], ◌∷◌, take, drop, length, filter, Option, Some, None, refl, sym, ◌∙◌, ap, subst, inl, inr}
 use Rattle.std.specs.Prelude.{Contains, ◌==◌}
 use Rattle.std.proofs.lemmas.Bool.{cases_eq, eq-eqb, true≢false}
@@ -20,12 +21,14 @@ use Rattle.pa_lists.proofs.Joined.{map_in, filter_in}
 use Rattle.pa_rules.specs.declared.played.Played.{Played}
 use Rattle.pa_rules.specs.Played.{mark_of, mark_of_answer, mark_at, look_at, step_of}
 use Rattle.pa_rules.specs.Roots.{Journals}
-use Rattle.pa_rules.specs.Caches.{Cache, acts_of, OnlyActs, IsDirect, FilledFirst, MadeRow, FullRow, ReturnRow, DoneRow, PurgedRow, CacheRow, CachesTo, no_caches, AreCaches, batches, gives, purge_acts}
+use Rattle.pa_rules.specs.Caches.{Cache, acts_of, OnlyActs, IsOfClass, IsDirect, FilledFirst, MadeRow, FullRow, ReturnRow, DoneRow, PurgedRow, CacheRow, CachesTo, no_caches, AreCaches, batches, gives, purge_acts}
 use Rattle.pa_rules.specs.Flow.{is_issue}
 use Rattle.pa_rules.proofs.Flowing.{class_leaves, map_leaves, no_issue}
-use Rattle.pa_rules.proofs.Known.{IsKnown, first_keeps, entry_of_act, all_known}
+use Rattle.pa_rules.proofs.Known.{IsKnown, first_keeps, all_known}
 use Rattle.pa_rules.proofs.FourPlaces.{HasLeft}
+use Rattle.pa_legal.specs.Flows.{IsMadeFor, ReturnsMap}
 use Rattle.pa_legal.proofs.flow.Cuts.{caches_cut}
+use Rattle.pa_legal.proofs.flow.Rows.{line_entry}
 use Rattle.pa_lists.proofs.Parts.{parts_at}
 
 -- the row of a record, with what its thread's lists were
@@ -38,37 +41,40 @@ row_of partitions roots ps x (last, to) among =
     (subst (λ zs. CachesTo partitions roots no_caches zs last) parts to) in
     (mid x.thread, next, all_known partitions roots before no_caches mid (λ t q c n none. absurd (not_in_none n none)) front x.thread, row)
 
--- ---- what was made left a root
+-- ---- what was made left the root of the partition from which it was asked for
 
-made_left_by : (roots : Journals) (x : Played) (seen : Seen) (cache after : Cache) → IsKnown roots cache →
-    MadeRow roots x seen cache after → (p : ℕ) × HasLeft roots p seen.slot
-made_left_by roots x seen cache after known (inl (p, class, xs, rest, asks, filled, front, becomes)) =
+pub made_by_row : (roots : Journals) (x : Played) (seen : Seen) (cache after : Cache) → IsKnown roots cache →
+    MadeRow roots x seen cache after → IsMadeFor roots x seen.slot
+made_by_row roots x seen cache after known (inl (p, class, xs, rest, asks, filled, front, becomes)) =
     let head : Numbered = record { slot = seen.slot; number = number_of seen.found.0 } in
     let f = first_keeps seen.slot roots x.line p class (cache p class) xs (λ n. known p class n) filled in
-    (p, class_leaves roots seen.slot p class (f.known head (subst (λ zs. Contains zs head) (sym front) (first_in head rest))))
-made_left_by roots x seen cache after known (inr (p, size, asked, len, asks, only, becomes)) =
-    let (e, among, act) = entry_of_act roots x.line p (Map asked seen.slot len) only.0 in
-    (p, map_leaves roots seen.slot p (e, asked, len, among, act))
+    record {
+      reg = asks.0;
+      partition = p;
+      size = asks.1;
+      op = asks.2;
+      from = inl (class, f.known head (subst (λ zs. Contains zs head) (sym front) (first_in head rest)));
+    }
+made_by_row roots x seen cache after known (inr (p, size, asked, len, asks, only, becomes)) =
+    let (e, among, line, act) = line_entry roots x.line p (Map asked seen.slot len) only.0 in
+    record { reg = asks.0; partition = p; size = size; op = asks.1; from = inr (asked, len, e, among, line, act) }
 
-pub made_left : (partitions : ℕ) (roots : Journals) (ps : List Played) (x : Played) (seen : Seen) (usable : ℕ) →
-    AreCaches partitions roots ps → Contains ps x → x.answer ≡ answers.Made seen usable →
-    (p : ℕ) × HasLeft roots p seen.slot
-made_left partitions roots ps x seen usable caches among is =
+pub made_for : (partitions : ℕ) (roots : Journals) (ps : List Played) (x : Played) (seen : Seen) (usable : ℕ) →
+    AreCaches partitions roots ps → Contains ps x → x.answer ≡ answers.Made seen usable → IsMadeFor roots x seen.slot
+made_for partitions roots ps x seen usable caches among is =
     let (cache, after, known, row) = row_of partitions roots ps x caches among in
-    made_left_by roots x seen cache after known (subst (λ a. CacheRow partitions roots x a cache after) is row)
+    made_by_row roots x seen cache after known (subst (λ a. CacheRow partitions roots x a cache after) is row)
+
+pub made_left : (roots : Journals) (x : Played) (s : SlotName) → IsMadeFor roots x s → (p : ℕ) × HasLeft roots p s
+made_left roots x s made = (made.partition, by_kind made.from)
+  where
+    by_kind : ((class : ℕ) × IsOfClass roots s made.partition class)
+        ⊎ ((asked len : ℕ) × (e : RootEntry) × Contains (roots made.partition) e × (e.line ≡ x.line) × (e.act ≡ Map asked s len))
+        → HasLeft roots made.partition s
+    by_kind (inl (class, of)) = class_leaves roots s made.partition class of
+    by_kind (inr (asked, len, e, among, line, act)) = map_leaves roots s made.partition (e, asked, len, among, act)
 
 -- ---- a direct map that goes back
-
--- the record returned this slot, a direct map
-pub record ReturnsMap (roots : Journals) (x : Played) (s : SlotName) : Type 0 where
-  pub seen : Seen
-  pub answer : x.answer ≡ answers.Done seen
-  pub slot : seen.slot ≡ s
-  pub step : Step
-  pub steps : step_of x.op ≡ Some step
-  pub returning : IsReturning step seen.found.0
-  pub partition : ℕ
-  pub direct : IsDirect roots s partition
 
 pub in_batches : (n : ℕ) (xs : List Numbered) (act : RootAct) → Contains (batches n xs) act → (ys : List Numbered) × (act ≡ Give ys)
 in_batches zero xs act among = absurd (not_in_none act among)
@@ -78,7 +84,7 @@ in_batches (suc n) (x ∷ xs) act among = elim (in_cases (Give (take 16 (x ∷ x
   | inr rest ↦ in_batches n (drop 16 (x ∷ xs)) act rest
 ]
 
-in_purge : (lists : ℕ → List Numbered) (class n : ℕ) (act : RootAct) → Contains (purge_acts lists class n) act →
+pub in_purge : (lists : ℕ → List Numbered) (class n : ℕ) (act : RootAct) → Contains (purge_acts lists class n) act →
     ((ys : List Numbered) × (act ≡ Give ys)) ⊎ (act ≡ Purge)
 in_purge lists class zero act among = elim (in_cases Purge act [] among) [ inl e ↦ inr (sym e) | inr none ↦ absurd (not_in_none act none) ]
 in_purge lists class (suc n) act among = elim (Contains-append_cases (gives (lists class)) (purge_acts lists (class + 1) n) act among) [
@@ -86,7 +92,7 @@ in_purge lists class (suc n) act among = elim (Contains-append_cases (gives (lis
   | inr rest ↦ in_purge lists (class + 1) n act rest
 ]
 
-give_no_unmap : (asked : ℕ) (slot : Numbered) (ys : List Numbered) → ◌≡◌ {A = RootAct} (Unmap asked slot) (Give ys) → ⊥
+pub give_no_unmap : (asked : ℕ) (slot : Numbered) (ys : List Numbered) → ◌≡◌ {A = RootAct} (Unmap asked slot) (Give ys) → ⊥
 give_no_unmap asked slot ys e = absurd cc
 
 module _ (partitions : ℕ) (roots : Journals) (x : Played) (p asked : ℕ) (slot : Numbered)
@@ -157,7 +163,7 @@ module _ (partitions : ℕ) (roots : Journals) (x : Played) (p asked : ℕ) (slo
         | inr purge ↦ absurd cc
       ]
 
-  returns_map : (answer : Answer) (cache after : Cache) → p < partitions → x.answer ≡ answer →
+  pub returns_map : (answer : Answer) (cache after : Cache) → p < partitions → x.answer ≡ answer →
       CacheRow partitions roots x answer cache after → ReturnsMap roots x slot.slot
   returns_map (answers.Made seen usable) cache after below is row = absurd (by_made seen cache after row)
   returns_map (answers.Done seen) cache after below is row = by_done seen (step_of x.op) cache after is refl row
@@ -165,16 +171,21 @@ module _ (partitions : ℕ) (roots : Journals) (x : Played) (p asked : ℕ) (slo
   returns_map (answers.Purged slots) cache after below is row = absurd (by_purged slots cache after below row)
   returns_map answer cache after below is row = absurd (not_none (row.0 p))
 
+-- the act of an entry is one of its line's
+pub act_in : (roots : Journals) (line p : ℕ) (e : RootEntry) (act : RootAct) → Contains (roots p) e → e.line ≡ line → e.act ≡ act →
+    Contains (acts_of roots line p) act
+act_in roots line p e act member here is =
+    subst (λ a. Contains (acts_of roots line p) a) is
+    (map_in (λ (f : RootEntry). f.act) (filter (λ (f : RootEntry). f.line == line) (roots p)) e
+    (filter_in (λ (f : RootEntry). f.line == line) (roots p) e member (eq-eqb e.line line here)))
+
 pub unmap_returns : (partitions : ℕ) (roots : Journals) (ps : List Played) (x : Played) (e : RootEntry) (p asked : ℕ) (slot : Numbered)
     → AreCaches partitions roots ps → p < partitions → Contains ps x → Contains (roots p) e →
     e.line ≡ x.line → e.act ≡ Unmap asked slot → ReturnsMap roots x slot.slot
 unmap_returns partitions roots ps x e p asked slot caches below among member line is =
     let (cache, after, known, row) = row_of partitions roots ps x caches among in
-    let here : Contains (acts_of roots x.line p) e.act =
-    map_in (λ (f : RootEntry). f.act) (filter (λ (f : RootEntry). f.line == x.line) (roots p)) e
-    (filter_in (λ (f : RootEntry). f.line == x.line) (roots p) e member (eq-eqb e.line x.line line)) in
-    returns_map partitions roots x p asked slot
-    (subst (λ a. Contains (acts_of roots x.line p) a) is here) x.answer cache after below refl row
+    returns_map partitions roots x p asked slot (act_in roots x.line p e (Unmap asked slot) member line is) x.answer cache after below
+    refl row
 
 -- ---- only what was made is an issue
 

@@ -1,6 +1,7 @@
 use Rattle.std.proofs.Common.{◌≡◌, ◌<◌, refl, ◌∙◌, subst, arith}
 use Rattle.pa_slot.proofs.Outcomes.{any_err}
-use Rattle.pa_heap.proofs.Purged.{Purging, purging_none, purging_stake, purging_thread, purging_more, purge_does}
+use Rattle.pa_heap.proofs.Purging.{Purging, purging_none, purging_stake, purging_thread, purging_more}
+use Rattle.pa_heap.proofs.Purged.{purge_does}
 use Rattle.pa_heap.proofs.Stopped.{purges_one_more}
 use Rattle.pa_heap.proofs.purges.purge.Goals as goal
 

@@ -1,6 +1,6 @@
 use Rattle.std.proofs.Common.{◌≡◌, ◌*◌, ◌≤◌}
 use Rattle.pa_heap.specs.Stopping.{PurgesFirst}
-use Rattle.pa_heap.proofs.Purged.{Purging}
+use Rattle.pa_heap.proofs.Purging.{Purging}
 use Rattle.pa_heap.proofs.purges.purge.Given as goal
 
 -- this many partitions were purged

@@ -1,19 +1,39 @@
-use pa_buckets::Class;
-use pa_delay::{Delay, Freed};
-use pa_record::Numbered;
-use pa_slot::SlotName;
+//! A queue within a limit in bytes.
+ghost use Rattle.pa_delay.specs.Queue.{IsClassed};
+
+use pa_buckets::{Class, slot_size};
+use pa_cells::Handle;
+use pa_delay::Delay;
+use pa_slot::Title;
 use std::test::Fail;
 
-fn freed(start: u32, class: Class) -> Freed {
-    let slot = SlotName { start, born: 0 };
-    Freed {
-        slot: Numbered { slot, number: 2 },
-        class,
+// The handle of a slot of this class at this byte.
+fn waiting(start: u32, class: Class) -> Handle
+    ensures { IsClassed result }
+{
+    let len = slot_size(class);
+    Handle {
+        title: Title {
+            start,
+            len,
+            born: 0,
+        },
+        partition: 0,
+        class: Some(class),
     }
 }
 
-fn start_of(front: Option<Freed>) -> Option<u32> {
-    front.map(|s| s.slot.slot.start)
+fn start_of(front: Option<Handle>) -> Option<u32> {
+    match front {
+        Some(
+            Handle {
+                title,
+                class: Some(_),
+                ..
+            },
+        ) => Some(title.start),
+        _ => None,
+    }
 }
 
 // At the bound all stay. One slot more, and slots leave from the front until at most the bound is left. A slot that is larger than the
@@ -24,11 +44,11 @@ fn slots_leave_past_the_bound(rt: HostRuntime) -> Result<(), Fail> {
     let large = Class::of(1).unwrap();
     let mut queue = Delay::new(rt.alloc(), 32, 4)?;
     assert!(rt; queue.evict() == None);
-    queue.push(freed(0x4000, small));
-    queue.push(freed(0x4010, small));
+    queue.push(waiting(0x4000, small));
+    queue.push(waiting(0x4010, small));
     assert_eq!(rt; queue.bytes(), 32);
     assert!(rt; queue.evict() == None);
-    queue.push(freed(0x8000, large));
+    queue.push(waiting(0x8000, large));
     assert_eq!(rt; queue.bytes(), 64);
     assert_eq!(rt; start_of(queue.evict()), Some(0x4000));
     assert_eq!(rt; start_of(queue.evict()), Some(0x4010));
@@ -44,7 +64,7 @@ fn slots_leave_past_the_bound(rt: HostRuntime) -> Result<(), Fail> {
 fn nothing_waits_within_no_bytes(rt: HostRuntime) -> Result<(), Fail> {
     let mut queue = Delay::new(rt.alloc(), 0, 1)?;
     assert!(rt; !queue.is_full());
-    queue.push(freed(0x4000, Class::of(2).unwrap()));
+    queue.push(waiting(0x4000, Class::of(2).unwrap()));
     assert!(rt; queue.is_full());
     assert_eq!(rt; start_of(queue.evict()), Some(0x4000));
     assert!(rt; queue.evict() == None);

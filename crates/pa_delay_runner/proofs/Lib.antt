@@ -1,0 +1,4 @@
+pub mod Leading
+pub mod Reporting
+pub mod Telling
+pub mod Resting
