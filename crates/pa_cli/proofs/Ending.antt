@@ -1,10 +1,11 @@
 -- What a status and its cause imply if the input is good, if it is faulty, and if nothing is read.
-use Rattle.std.proofs.Common.{◌≡◌, ◌∙◌, ℕ, List, Option, Some, None, IfSome, inl, inr, refl, sym, ap, subst}
+use Rattle.std.proofs.Common.{arith, ◌≡◌, ◌∙◌, ◌≤◌, ℕ, List, Option, Some, None, IfSome, inl, inr, refl, sym, ap, subst}
 use Rattle.pa_io.specs.Moves.{IsAllOf}
 use Rattle.pa_trace.specs.declared.fault.TraceFault.{TraceFault}
 use Rattle.pa_trace.specs.declared.fault.TraceFault.TheVariants as faults
-use Rattle.pa_trace.specs.Limits.{IsInput}
+use Rattle.pa_trace.specs.declared.script.Trace.{Trace}
 use Rattle.pa_trace.specs.Grammar.{last_version}
+use Rattle.pa_trace.specs.Limits.{IsInput}
 use Rattle.pa_trace.proofs.Firsts.{one_fault, no_fault_of_input}
 use Rattle.pa_script.specs.Limits.{IsScriptInput}
 use Rattle.pa_rules.specs.declared.verdict.Clause.{Clause}
@@ -15,13 +16,13 @@ use Rattle.pa_audit_input.specs.Judged.{IsLegalInput, IsRefutedInput, IsVerdictO
 use Rattle.pa_audit_input.proofs.Parting.{no_audit_fault, one_audit_fault}
 use Rattle.pa_audit_input.proofs.Together.{legal_input}
 use Rattle.pa_cli.specs.declared.command.Command.{Command}
-use Rattle.pa_cli.specs.declared.command.Command.TheVariants.{Replay, Model, Audit, Dangling, Layout, Gen, Help, Version, Resize, Verdicts}
+use Rattle.pa_cli.specs.declared.command.Command.TheVariants.{Replay, Model, Delay, Audit, Dangling, Layout, Gen, Help, Version, Resize, Verdicts}
 use Rattle.pa_cli.specs.declared.command.Command.TheVariants as commands
 use Rattle.pa_cli.specs.declared.status.Status.{Status}
 use Rattle.pa_cli.specs.declared.status.Status.TheVariants.{Done, BadCommand, BadLine, Limit, ReadFault, WriteFault, OutOfMemory, NotLegal}
 use Rattle.pa_cli.specs.Call.{Stream, Call}
 use Rattle.pa_cli.specs.Command.{AsksFor, Reading, ReadsNothing, ReadsTrace, ReadsRun, ReadsSome, Needs, needs_of, ReadsScript}
-use Rattle.pa_cli.specs.Output.{Output, output_with, IsOutputOf, IsOutput}
+use Rattle.pa_cli.specs.Output.{Output, output_with, IsTraceRead, IsOutputOf, IsOutput}
 use Rattle.pa_cli.specs.Cause.{IsFaulty, HasFault, IsRefuted, IsInputFor, Caused, Answers, Completes, Judges, Refuses}
 use Rattle.pa_cli.specs.StatusText.{status_of_trace, status_of_verdict}
 use Rattle.pa_cli.proofs.Commands.{one_needs}
@@ -41,7 +42,7 @@ read_these (Some left) bytes read e h = let same : left ≡ bytes = cc in sym h 
 -- an input has no fault
 clean : (reads : Reading) (bytes : List ℕ) (fault : TraceFault) → IsInputFor reads bytes → IsFaulty reads fault bytes → ⊥
 clean ReadsNothing bytes fault input h = input
-clean ReadsTrace bytes fault input h = no_fault_of_input last_version input.0 bytes fault input.1.limits.version.1 input.1 h
+clean (ReadsTrace known) bytes fault input h = no_fault_of_input known input.0 bytes fault input.2 input.1 h
 clean ReadsScript bytes fault input h = no_script_fault input.0 bytes fault input.1 h
 clean ReadsRun bytes fault input h = no_audit_fault input.0 input.1 input.2 bytes fault input.3 h
 
@@ -49,14 +50,14 @@ clean ReadsRun bytes fault input h = no_audit_fault input.0 input.1 input.2 byte
 one_of : (reads : Reading) (bytes : List ℕ) (fault other : TraceFault) → IsFaulty reads fault bytes →
     IsFaulty reads other bytes → fault ≡ other
 one_of ReadsNothing bytes fault other h k = absurd h
-one_of ReadsTrace bytes fault other h k = one_fault last_version fault other bytes h k
+one_of (ReadsTrace known) bytes fault other h k = one_fault known fault other bytes h k
 one_of ReadsScript bytes fault other h k = one_script_fault fault other bytes h k
 one_of ReadsRun bytes fault other h k = one_audit_fault fault other bytes h k
 
 -- what has a fault is read
 fault_read : (reads : Reading) (bytes : List ℕ) (fault : TraceFault) → IsFaulty reads fault bytes → ReadsSome reads
 fault_read ReadsNothing bytes fault h = h
-fault_read ReadsTrace bytes fault h = tt
+fault_read (ReadsTrace known) bytes fault h = tt
 fault_read ReadsScript bytes fault h = tt
 fault_read ReadsRun bytes fault h = tt
 
@@ -111,14 +112,22 @@ caused_answers (NotLegal clause n) c h = λ command words none quiet.
     let read : ReadsSome (needs_of h.0.0).reads = subst ReadsSome (sym h.0.2.0) tt in
     absurd (never_read (needs_of command) (needs_of h.0.0) (one_needs command h.0.0 c.words words h.0.1) none read)
 
+-- a trace that was read, of a version up to this one, is an input
+read_input : (t : Trace) (known : ℕ) (bytes : List ℕ) (before after : Stream) → before.told ≡ Some bytes → IsTraceRead t before after
+    → t.version ≤ known → IsInputFor (ReadsTrace known) bytes
+read_input t known bytes before after told h recent =
+    (t, subst (IsInput t) (read_these before.told bytes h.bytes told h.read.all) h.input, recent)
+
 -- a command with an output had an input
 output_input : (command : Command) (bytes : List ℕ) (before after : Stream) (out : Output) →
     ReadsSome (needs_of command).reads → before.told ≡ Some bytes
     → IsOutputOf command before after out → IsInputFor (needs_of command).reads bytes
 output_input Replay bytes before after out reads told h =
-    (h.trace, subst (IsInput h.trace) (read_these before.told bytes h.read.bytes told h.read.read.all) h.read.input)
+    read_input h.trace last_version bytes before after told h.read h.read.input.limits.version.1
 output_input Model bytes before after out reads told h =
-    (h.0.trace, subst (IsInput h.0.trace) (read_these before.told bytes h.0.read.bytes told h.0.read.read.all) h.0.read.input)
+    read_input h.0.trace last_version bytes before after told h.0.read h.0.read.input.limits.version.1
+output_input (Delay most) bytes before after out reads told h =
+    let recent : h.trace.version ≤ 1 = omega (arith, h.version) in read_input h.trace 1 bytes before after told h.read recent
 output_input Audit bytes before after out reads told h =
     let input = h.0.legal in (
       input.trace,
@@ -203,6 +212,7 @@ output_legal : (command : Command) (bytes : List ℕ) (before after : Stream) (o
     → IsOutputOf command before after out → IsLegalInput bytes
 output_legal Replay bytes before after out reads told h = absurd cc
 output_legal Model bytes before after out reads told h = absurd cc
+output_legal (Delay most) bytes before after out reads told h = absurd cc
 output_legal Audit bytes before after out reads told h =
     subst IsLegalInput (read_these before.told bytes h.0.bytes told h.0.read.all) h.0.legal
 output_legal Dangling bytes before after out reads told h =

@@ -1,7 +1,7 @@
 -- What the answers say of each other: who is told of a broken clause, and that a fault of the source comes first.
 use Rattle.std.proofs.Common.{arith, ◌≡◌, ◌∙◌, ◌<◌, ◌⊎◌, ℕ, List, inl, inr, refl, ap, sym, subst}
 use Rattle.pa_cli.specs.declared.command.Command.{Command}
-use Rattle.pa_cli.specs.declared.command.Command.TheVariants.{Replay, Model, Audit, Dangling, Layout, Trace, Gen, Help, Version, Resize, Verdicts}
+use Rattle.pa_cli.specs.declared.command.Command.TheVariants.{Replay, Model, Delay, Audit, Dangling, Layout, Trace, Gen, Help, Version, Resize, Verdicts}
 use Rattle.pa_cli.specs.declared.status.Status.{Status}
 use Rattle.pa_cli.specs.declared.status.Status.TheVariants.{Done, BadCommand, BadLine, Limit, ReadFault, WriteFault, OutOfMemory, NotLegal}
 use Rattle.pa_cli.specs.Call.{Stream, Call}
@@ -16,6 +16,7 @@ use Rattle.pa_cli.proofs.Refusing.{read_stopped}
 read_runs : (command : Command) → (needs_of command).reads ≡ ReadsRun → (command ≡ Audit) ⊎ (command ≡ Dangling)
 read_runs Replay h = absurd cc
 read_runs Model h = absurd cc
+read_runs (Delay bytes) h = absurd cc
 read_runs Audit h = inl refl
 read_runs Dangling h = inr refl
 read_runs Resize h = absurd cc
@@ -50,6 +51,7 @@ output_calm : (command : Command) (c : Call) (out : Output) → AsksFor command 
     → c.source_after.faults ≡ c.source.faults
 output_calm Replay c out asked h reads = h.read.read.calm
 output_calm Model c out asked h reads = h.0.read.read.calm
+output_calm (Delay bytes) c out asked h reads = h.read.read.calm
 output_calm Audit c out asked h reads = h.0.read.calm
 output_calm Dangling c out asked h reads = h.0.read.calm
 output_calm Resize c out asked h reads = h.0.read.read.calm

@@ -1,5 +1,5 @@
--- What `replay`, `model`, `gen`, `resize`, `verdicts` and `dangling` print.
-use Rattle.std.proofs.Common.{◌≡◌, ◌∙◌, ℕ, List, Some, refl, ap, ◌++◌, codes}
+-- What `replay`, `delay`, `model`, `gen`, `resize`, `verdicts` and `dangling` print.
+use Rattle.std.proofs.Common.{◌≡◌, ◌∙◌, ℕ, List, Some, refl, ap, subst, ◌++◌, codes}
 use Rattle.pa_trace.specs.declared.script.Trace.{Trace}
 use Rattle.std.specs.List.{flat_map}
 use Rattle.pa_trace.specs.Limits.{IsWithinLimits, most_bytes}
@@ -20,9 +20,12 @@ use Rattle.pa_script.specs.declared.script.Script.{Script}
 use Rattle.pa_resize.specs.declared.verdict.Verdict.{Verdict}
 use Rattle.pa_resize.specs.Expansion.{IsExpanded, IsInputExpanded}
 use Rattle.pa_runner.specs.Whole.{IsHeldRun}
+use Rattle.pa_delay.specs.Laws.{NoBytesNoDelay}
+use Rattle.pa_delay.specs.Runs.{IsDelayedRun}
+use Rattle.pa_delay_runner.specs.Played.{IsHeldDelayed}
 use Rattle.pa_model.specs.Played.{IsInputPlayed}
 use Rattle.pa_cli.specs.Call.{Stream, IsRead}
-use Rattle.pa_cli.specs.Output.{output_with, IsReplayedAs, IsModelOutput, IsGenOutput, IsPairsText, IsResizeOutput, IsVerdictsText}
+use Rattle.pa_cli.specs.Output.{output_with, IsReplayedAs, IsDelayedAs, IsModelOutput, IsGenOutput, IsPairsText, IsResizeOutput, IsVerdictsText}
 use Rattle.pa_cli.specs.VerdictsText.{verdict_line}
 use Rattle.pa_cli.proofs.Refusing.{read_whole}
 
@@ -55,6 +58,24 @@ run_replayed t r words text limits one_thread played printed = record {
     long = played.long;
     printed = printed;
     alone = λ one. one_thread t r limits one played.legal;
+  };
+}
+
+-- what is written of a delayed run is the output of `delay`
+pub run_delayed : (bytes : ℕ) (t : Trace) (r : Run) (words text : List ℕ) → NoBytesNoDelay → IsHeldDelayed bytes t r words
+    → IsRunText r text → IsDelayedAs bytes t (output_with text (Some r) (Some words))
+run_delayed bytes t r words text no_delay played printed = record {
+  run = r;
+  words = words;
+  has_run = refl;
+  has_region = refl;
+  delayed = record {
+    delayed = played.delayed;
+    held = played.held;
+    spans = played.spans;
+    long = played.long;
+    printed = printed;
+    nothing = λ none. no_delay t r (subst (λ (n : ℕ). IsDelayedRun n t r) none played.delayed);
   };
 }
 

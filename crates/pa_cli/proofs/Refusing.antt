@@ -2,7 +2,6 @@
 use Rattle.std.proofs.Common.{rules, arith, ◌≡◌, ◌+◌, ◌≤◌, ℕ, List, ◌++◌, Option, Some, None, IfSome, inl, inr, length, refl, sym, subst, Bool, true, false}
 use Rattle.std.specs.Io.KnownBytes.{Consumes}
 use Rattle.pa_io.specs.Moves.{IsAllOf}
-use Rattle.pa_trace.specs.Grammar.{last_version}
 use Rattle.pa_trace.specs.declared.script.Trace.{Trace}
 use Rattle.pa_trace.specs.declared.fault.TraceFault.{TraceFault}
 use Rattle.pa_trace.specs.declared.fault.TraceFault.TheVariants.{BadLine, Limit, OutOfMemory}
@@ -68,19 +67,19 @@ pub trace_stopped : (t : Trace) (before after : Stream) → IsTraceRead t before
 trace_stopped t before after h = read_stopped most_bytes h.bytes before after (inl h.read)
 
 -- the fault of what was read is why a command that reads a trace has no output
-pub trace_refused : (threads : Bool) (fault : TraceFault) (bytes : List ℕ) (before after : Stream) → IsRead most_bytes before after bytes
-    → IsFault last_version fault bytes → IsRefusal (status_of_trace fault) (needing ReadsTrace threads true) before after
-trace_refused threads (BadLine n) bytes before after read first = (
+pub trace_refused : (known : ℕ) (region : Bool) (fault : TraceFault) (bytes : List ℕ) (before after : Stream) →
+    IsRead most_bytes before after bytes
+    → IsFault known fault bytes → IsRefusal (status_of_trace fault) (needing (ReadsTrace known) region true) before after
+trace_refused known region (BadLine n) bytes before after read first = (
   tt,
-  has_fault ReadsTrace (BadLine n) bytes before after read first
-      (λ past more. fault_early last_version (BadLine n) bytes more past first),
+  has_fault (ReadsTrace known) (BadLine n) bytes before after read first
+      (λ past more. fault_early known (BadLine n) bytes more past first),
 )
-trace_refused threads (Limit n) bytes before after read first = (
+trace_refused known region (Limit n) bytes before after read first = (
   tt,
-  has_fault ReadsTrace (Limit n) bytes before after read first
-      (λ past more. fault_early last_version (Limit n) bytes more past first),
+  has_fault (ReadsTrace known) (Limit n) bytes before after read first (λ past more. fault_early known (Limit n) bytes more past first),
 )
-trace_refused threads OutOfMemory bytes before after read first = (refl, read_stopped most_bytes bytes before after read)
+trace_refused known region OutOfMemory bytes before after read first = (refl, read_stopped most_bytes bytes before after read)
 
 -- a call that stops after it read a script whole had no fault of the source
 pub script_stopped : (s : Script) (before after : Stream) → IsScriptRead s before after → IsStopped most_bytes before after

@@ -1,9 +1,8 @@
 -- The causes of the statuses, and what each leaves.
-use Rattle.std.specs.Prelude.{◌≡◌, ◌↔◌, ℕ, ◌⊎◌, true, List, Some, IfSome, IsSome}
+use Rattle.std.specs.Prelude.{◌≡◌, ◌↔◌, ℕ, ◌≤◌, ◌⊎◌, true, List, Some, IfSome, IsSome}
 use Rattle.std.specs.Io.KnownBytes.{Appends}
 use Rattle.pa_io.specs.Moves.{HasRisen, HasWrittenPart}
 use Rattle.pa_trace.specs.declared.script.Trace.{Trace}
-use Rattle.pa_trace.specs.Grammar.{last_version}
 use Rattle.pa_trace.specs.Limits.{IsInput}
 use Rattle.pa_trace.specs.Faults.{IsFirstFault}
 use Rattle.pa_trace.specs.declared.fault.TraceFault.{TraceFault}
@@ -21,14 +20,14 @@ use Rattle.pa_cli.specs.declared.status.Status.TheVariants.{Done, BadCommand, Ba
 use Rattle.pa_cli.specs.Call.{Stream, Call, KeepsSource, KeepsSink, HasGiven, IsReadWhole, IsRead}
 use Rattle.pa_cli.specs.declared.command.Command.{Command}
 use Rattle.pa_cli.specs.Command.{Reading, ReadsNothing, ReadsTrace, ReadsRun, ReadsSome, most_read, Needs, needs_of, ReadsScript}
-use Rattle.pa_cli.specs.Command.{AsksFor, AsksToRead, AsksForThreads, IsCommand}
+use Rattle.pa_cli.specs.Command.{AsksFor, AsksToRead, AsksForRegion, IsCommand}
 use Rattle.pa_cli.specs.Output.{HasNoRun, IsOutput}
 use Rattle.pa_cli.specs.StatusText.{status_of_trace, status_of_verdict}
 
 -- the bytes have this fault as such an input: it is that of the first faulty line
 abbrev pub IsFaulty : Reading → TraceFault → List ℕ → Type 0
 IsFaulty ReadsNothing fault bytes = ⊥
-IsFaulty ReadsTrace fault bytes = IsFirstFault last_version fault bytes
+IsFaulty (ReadsTrace known) fault bytes = IsFirstFault known fault bytes
 IsFaulty ReadsScript fault bytes = IsFirstScriptFault fault bytes
 IsFaulty ReadsRun fault bytes = IsFirstAuditFault fault bytes
 
@@ -107,7 +106,7 @@ HasNoWriteFault c = HasRisen c.sink.faults c.sink_after.faults → ⊥
 -- the bytes are such an input, in its grammar and its limits
 abbrev pub IsInputFor : Reading → List ℕ → Type 0
 IsInputFor ReadsNothing bytes = ⊥
-IsInputFor ReadsTrace bytes = (trace : Trace) × IsInput trace bytes
+IsInputFor (ReadsTrace known) bytes = (trace : Trace) × IsInput trace bytes × (trace.version ≤ known)
 IsInputFor ReadsScript bytes = (script : Script) × IsScriptInput script bytes
 IsInputFor ReadsRun bytes = (trace : Trace) × (run : Run) × (lines : ℕ) × IsAudited trace run lines bytes
 
@@ -156,13 +155,13 @@ IsWritten status = (status ≡ Done) ⊎ (status ≡ WriteFault)
 abbrev pub TellsNoRun : Status → Call → Type 0
 TellsNoRun status c = (IsWritten status → ⊥) → HasNoRun c.run c.region
 
--- the call returns a run and a region exactly if the words are those of a command that plays threads and the output was written
+-- the call returns a run and a region exactly if the words are those of a command that plays in a region and the output was written
 pub record TellsRun (status : Status) (c : Call) : Type 0 where
-  pub run : IsSome c.run ↔ (AsksForThreads c.words × IsWritten status)
-  pub region : IsSome c.region ↔ (AsksForThreads c.words × IsWritten status)
+  pub run : IsSome c.run ↔ (AsksForRegion c.words × IsWritten status)
+  pub region : IsSome c.region ↔ (AsksForRegion c.words × IsWritten status)
 
 -- the call is right: its status has its cause, nothing is read but for a command that reads, the others answer, a good input
--- completes, a run is judged, a faulty input is refused, and a command that plays threads has its run
+-- completes, a run is judged, a faulty input is refused, and a command that plays in a region has its run
 pub record IsRightCall (status : Status) (c : Call) : Type 0 where
   pub cause : Caused status c
   pub reads : ReadsForInput c

@@ -1,10 +1,11 @@
 -- The words of a command, and what each command needs.
 use Rattle.std.specs.Prelude.{◌≡◌, ℕ, ◌≤◌, Bool, true, false, List, [], ◌∷◌, codes}
 use Rattle.pa_text.specs.Numeral.{IsNumeral}
+use Rattle.pa_trace.specs.Grammar.{last_version}
 use Rattle.pa_trace.specs.Limits.{most_bytes}
 use Rattle.pa_audit_input.specs.Input.{most_audited}
 use Rattle.pa_cli.specs.declared.command.Command.{Command}
-use Rattle.pa_cli.specs.declared.command.Command.TheVariants.{Replay, Model, Audit, Dangling, Layout, Trace, Gen, Help, Version, Resize, Verdicts}
+use Rattle.pa_cli.specs.declared.command.Command.TheVariants.{Replay, Model, Delay, Audit, Dangling, Layout, Trace, Gen, Help, Version, Resize, Verdicts}
 
 -- the one word `replay`
 abbrev pub IsReplay : List (List ℕ) → Type 0
@@ -13,6 +14,15 @@ IsReplay words = words ≡ codes "replay" ∷ []
 -- the one word `model`
 abbrev pub IsModel : List (List ℕ) → Type 0
 IsModel words = words ≡ codes "model" ∷ []
+
+-- the most bytes that may wait in a thread's queue
+abbrev pub most_delayed : ℕ
+most_delayed = 33554432
+
+-- the word `delay` and how many bytes may wait in a thread's queue, in decimal
+abbrev pub IsDelay : ℕ → List (List ℕ) → Type 0
+IsDelay bytes words =
+    (number : List ℕ) × (words ≡ codes "delay" ∷ number ∷ []) × IsNumeral bytes number × (bytes ≤ most_delayed)
 
 -- the one word `audit`
 abbrev pub IsAudit : List (List ℕ) → Type 0
@@ -61,6 +71,7 @@ IsVersion words = words ≡ codes "--version" ∷ []
 abbrev pub AsksFor : Command → List (List ℕ) → Type 0
 AsksFor Replay words = IsReplay words
 AsksFor Model words = IsModel words
+AsksFor (Delay bytes) words = IsDelay bytes words
 AsksFor Audit words = IsAudit words
 AsksFor Dangling words = IsDangling words
 AsksFor Resize words = IsResize words
@@ -79,44 +90,46 @@ IsAsked command = (words : List (List ℕ)) × AsksFor command words
 abbrev pub IsCommand : List (List ℕ) → Type 0
 IsCommand words = (command : Command) × AsksFor command words
 
--- What a command reads: nothing, the text of a trace, that of a script, or the text of a trace and after it that of a run.
+-- What a command reads: nothing, the text of a trace of a version up to this one, that of a script, or the text of a trace and after it
+-- that of a run.
 pub data Reading : Type 0 where
   ReadsNothing : Reading
-  ReadsTrace : Reading
+  ReadsTrace : ℕ → Reading
   ReadsScript : Reading
   ReadsRun : Reading
 
 -- the command reads an input
 abbrev pub ReadsSome : Reading → Type 0
 ReadsSome ReadsNothing = ⊥
-ReadsSome ReadsTrace = Unit {0}
+ReadsSome (ReadsTrace known) = Unit {0}
 ReadsSome ReadsScript = Unit {0}
 ReadsSome ReadsRun = Unit {0}
 
 -- the most bytes that such an input may have
 abbrev pub most_read : Reading → ℕ
 most_read ReadsNothing = 0
-most_read ReadsTrace = most_bytes
+most_read (ReadsTrace known) = most_bytes
 most_read ReadsScript = most_bytes
 most_read ReadsRun = most_audited
 
 -- What a command needs.
 --   reads: what it reads
---   threads: it plays threads over a region, so its call may wait,
--- and has a run and a region if its output is written   memory: it takes memory
+--   region: it plays in a region, so its call may wait, and has a run and a region if its output is written
+--   memory: it takes memory
 pub record Needs : Type 0 where
   pub reads : Reading
-  pub threads : Bool
+  pub region : Bool
   pub memory : Bool
 
--- a command's needs: what it reads, whether it plays threads over a region, and whether it takes memory
+-- a command's needs: what it reads, whether it plays in a region, and whether it takes memory
 abbrev pub needing : Reading → Bool → Bool → Needs
-needing reads threads memory = record { reads = reads; threads = threads; memory = memory }
+needing reads region memory = record { reads = reads; region = region; memory = memory }
 
 -- the needs of each command
 abbrev pub needs_of : Command → Needs
-needs_of Replay = needing ReadsTrace true true
-needs_of Model = needing ReadsTrace false true
+needs_of Replay = needing (ReadsTrace last_version) true true
+needs_of Model = needing (ReadsTrace last_version) false true
+needs_of (Delay bytes) = needing (ReadsTrace 1) true true
 needs_of Audit = needing ReadsRun false true
 needs_of Dangling = needing ReadsRun false true
 needs_of Resize = needing ReadsScript false true
@@ -131,6 +144,6 @@ needs_of Version = needing ReadsNothing false false
 abbrev pub AsksToRead : List (List ℕ) → Type 0
 AsksToRead words = (command : Command) × AsksFor command words × ReadsSome (needs_of command).reads
 
--- the words are those of a command that plays threads
-abbrev pub AsksForThreads : List (List ℕ) → Type 0
-AsksForThreads words = (command : Command) × AsksFor command words × ((needs_of command).threads ≡ true)
+-- the words are those of a command that plays in a region
+abbrev pub AsksForRegion : List (List ℕ) → Type 0
+AsksForRegion words = (command : Command) × AsksFor command words × ((needs_of command).region ≡ true)

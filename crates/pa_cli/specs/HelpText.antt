@@ -14,6 +14,7 @@ help_text =
     ∷ codes "commands"
     ∷ codes "  replay            read a trace from standard input, play each thread's lines on its own thread, print the run: answers, heap, exchanges, report"
     ∷ codes "  model             the same, but play all lines in their order, on one thread"
+    ∷ codes "  delay BYTES       the same for version 1, but freed slots wait in their thread's queue of BYTES, 0 to 33554432; audit knows no queue"
     ∷ codes "  audit             read a trace and its run from standard input, print whether the run is legal"
     ∷ codes "  dangling          read the same, print each use of what was freed while raw_ptrs pointed to it: lines of allocation, free, use and copy"
     ∷ codes "  resize            read a script from standard input, which is a trace with lines that resize an object, print the trace that it comes to and its run"

@@ -1,4 +1,4 @@
--- What is proved of the texts of `replay`, `model` and `resize`, and of the answers.
+-- What is proved of the texts of `replay`, `model`, `delay` and `resize`, and of the answers.
 use Rattle.std.specs.Prelude.{◌≡◌, ℕ, ◌<◌, ◌≤◌, ◌⊎◌, List, ◌++◌, length}
 use Rattle.pa_trace.specs.declared.script.Trace.{Trace}
 use Rattle.pa_trace.specs.Limits.{IsInput, IsWithinLimits}
@@ -13,7 +13,7 @@ use Rattle.pa_cli.specs.declared.status.Status.{Status}
 use Rattle.pa_cli.specs.declared.status.Status.TheVariants.{ReadFault, NotLegal}
 use Rattle.pa_cli.specs.Call.{Call}
 use Rattle.pa_cli.specs.Command.{AsksFor}
-use Rattle.pa_cli.specs.Output.{IsReplayText, IsModelText, IsResizeText}
+use Rattle.pa_cli.specs.Output.{IsReplayText, IsModelText, IsDelayedText, IsResizeText}
 use Rattle.pa_cli.specs.Cause.{IsRightCall}
 
 -- what `replay` prints of a trace of one thread is what `model` prints of it
@@ -21,6 +21,12 @@ abbrev pub OneThreadPrintsAsModel : Type 0
 OneThreadPrintsAsModel =
     (t : Trace) (run : Run) (words replayed modelled : List ℕ) → IsWithinLimits t → t.threads ≡ 1
     → IsReplayText t run words replayed → IsModelText t modelled → replayed ≡ modelled
+
+-- what `delay 0` prints of a trace is what `model` prints of it
+abbrev pub DelayOfNothingPrintsAsModel : Type 0
+DelayOfNothingPrintsAsModel =
+    (t : Trace) (run : Run) (words delayed modelled : List ℕ) → IsWithinLimits t → IsDelayedText 0 t run words delayed
+    → IsModelText t modelled → delayed ≡ modelled
 
 -- what `resize` prints is an input that `audit` calls legal, if it isn't too long for one
 abbrev pub ResizedIsLegalInput : Type 0

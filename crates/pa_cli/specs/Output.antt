@@ -15,6 +15,7 @@ use Rattle.pa_rules.specs.Told.{told_by}
 use Rattle.pa_rules.specs.Legal.{IsLegal, IsFileRun}
 use Rattle.pa_rules.specs.Held.{IsHeldIn}
 use Rattle.pa_timeline.specs.Timeline.{HasTimeline}
+use Rattle.pa_delay.specs.Runs.{IsDelayedRun}
 use Rattle.pa_runner.specs.Linked.{HasLinkedLists}
 use Rattle.pa_runner.specs.Recorded.{HasSpanRecords}
 use Rattle.pa_core_run.specs.Playing.{HasCoreRun}
@@ -28,14 +29,14 @@ use Rattle.pa_audit_input.specs.Input.{most_audited}
 use Rattle.pa_audit_input.specs.Judged.{IsLegalInput, IsLegalOf}
 use Rattle.pa_cli.specs.Call.{Stream, Call, IsReadWhole}
 use Rattle.pa_cli.specs.declared.command.Command.{Command}
-use Rattle.pa_cli.specs.declared.command.Command.TheVariants.{Replay, Model, Audit, Dangling, Layout, Gen, Help, Version, Resize, Verdicts}
+use Rattle.pa_cli.specs.declared.command.Command.TheVariants.{Replay, Model, Delay, Audit, Dangling, Layout, Gen, Help, Version, Resize, Verdicts}
 use Rattle.pa_cli.specs.declared.command.Command.TheVariants as commands
 use Rattle.pa_cli.specs.Command.{AsksFor}
 use Rattle.pa_cli.specs.LayoutText.{IsLayoutText}
 use Rattle.pa_cli.specs.VerdictsText.{verdicts_text}
 use Rattle.pa_cli.specs.HelpText.{help_text, version_text}
 
--- What a command produces: the text to be written, and if it played on threads, the run and the words of the closed region.
+-- What a command produces: the text to be written, and if it played in a region, the run and the words of the closed region.
 pub record Output : Type 0 where
   pub text : List ℕ
   pub run : Option Run
@@ -96,6 +97,33 @@ pub record IsModelOutput (before after : Stream) (text : List ℕ) : Type 0 wher
   pub trace : Trace
   pub read : IsTraceRead trace before after
   pub played : IsModelText trace text
+
+-- The run is the delayed run of the trace for that many bytes: each slot that a step returned waited in a queue of its thread, first in
+-- and first out, and as little left the front as leaves at most that many bytes. The closed region holds it, whose words are those of its
+-- super pages, and have each partition's spans as its journal replays. The text is that of this run. For 0 bytes it is the trace's run in
+-- the order of its lines.
+pub record IsDelayedText (bytes : ℕ) (trace : Trace) (run : Run) (words text : List ℕ) : Type 0 where
+  pub delayed : IsDelayedRun bytes trace run
+  pub held : IsHeldIn trace (told_by run) words
+  pub spans : HasSpanRecords (told_by run) words
+  pub long : length words ≡ 262144 * trace.region
+  pub printed : IsRunText run text
+  pub nothing : bytes ≡ 0 → IsFileRun trace run
+
+-- the output is the delayed run of this trace for that many bytes, and the region that was closed after it
+pub record IsDelayedAs (bytes : ℕ) (trace : Trace) (out : Output) : Type 0 where
+  pub run : Run
+  pub words : List ℕ
+  pub has_run : out.run ≡ Some run
+  pub has_region : out.region ≡ Some words
+  pub delayed : IsDelayedText bytes trace run words out.text
+
+-- the output of `delay`: it is the delayed run of the trace that was read, which is of version 1
+pub record IsDelayOutput (bytes : ℕ) (before after : Stream) (out : Output) : Type 0 where
+  pub trace : Trace
+  pub read : IsTraceRead trace before after
+  pub version : trace.version ≡ 1
+  pub played : IsDelayedAs bytes trace out
 
 -- `legal` and an LF
 abbrev pub legal_text : List ℕ
@@ -195,6 +223,7 @@ pub record IsGenOutput (rounds key : ℕ) (out : Output) : Type 0 where
 abbrev pub IsOutputOf : Command → Stream → Stream → Output → Type 0
 IsOutputOf Replay before after out = IsReplayOutput before after out
 IsOutputOf Model before after out = IsModelOutput before after out.text × HasNoRun out.run out.region
+IsOutputOf (Delay bytes) before after out = IsDelayOutput bytes before after out
 IsOutputOf Audit before after out = IsAuditOutput before after out.text × HasNoRun out.run out.region
 IsOutputOf Dangling before after out = IsDanglingOutput before after out.text × HasNoRun out.run out.region
 IsOutputOf Resize before after out = IsResizeOutput before after out.text × HasNoRun out.run out.region

@@ -1,11 +1,12 @@
-//! The commands that play no threads: no call here can wait.
+//! The commands that play in no region: no call here can wait.
 ghost use Rattle.std.specs.Prelude.{◌≡◌, ◌↔◌, true, false, map, string_bytes, None, IfOk, IfErr};
 ghost use Rattle.pa_cli.specs.Call.{call_of, stream_of};
-ghost use Rattle.pa_cli.specs.Command.{IsCommand, IsAsked, AsksForThreads, ReadsTrace, ReadsRun, ReadsSome, needing, needs_of};
+ghost use Rattle.pa_cli.specs.Command.{IsCommand, IsAsked, AsksForRegion, ReadsTrace, ReadsRun, ReadsSome, needing, needs_of};
 ghost use Rattle.pa_cli.specs.Cause.{Caused, ReadsForInput, IsRightCall, IsRefusal};
 ghost use Rattle.pa_cli.specs.Output.{output_with, IsOutputOf, IsModelOutput, IsAuditOutput, IsDanglingOutput, IsPairsText};
 ghost use Rattle.pa_cli.specs.PrintedText.{printed_bytes};
 ghost use Rattle.pa_rules.specs.Legal.{IsLegal};
+ghost use Rattle.pa_trace.specs.Grammar.{last_version};
 ghost use Rattle.pa_trace.specs.Limits.{IsWithinLimits};
 
 use crate::answers::{LEGAL, VERSION, help, layout_line, write_generated};
@@ -26,9 +27,9 @@ use pa_summary::ends_of;
 use pa_trace::{MOST_BYTES, Trace};
 use std::alloc::Global;
 
-/// Does what the words ask for, if they ask for no threads. It waits for nobody, so a call returns. `model` reads a trace, plays all
-/// lines in their order and writes the text of that run. `audit` reads a trace and after it a run, and writes `legal` if that is a legal
-/// run of the trace. `dangling` reads the same, and writes each use in such a run of what was freed while `raw_ptr`s pointed to it.
+/// Does what the words ask for, if they ask for no region to play in. It waits for nobody, so a call returns. `model` reads a trace, plays
+/// all lines in their order and writes the text of that run. `audit` reads a trace and after it a run, and writes `legal` if that is a
+/// legal run of the trace. `dangling` reads the same, and writes each use in such a run of what was freed while `raw_ptr`s pointed to it.
 /// `resize` reads a script and writes the trace that it comes to and that trace's run, and `verdicts` what each resize came to. `layout
 /// SIZE` writes where a request of SIZE bytes is placed, `trace ROUNDS KEY` a generated trace, and `--help` and `--version` their texts.
 /// The input is read to its end, or to one byte past the most that it may have.
@@ -38,7 +39,7 @@ pub fn run_alone<S: Source, K: Sink>(
     source: &mut S,
     sink: &mut K,
 ) -> Status
-    requires alone { AsksForThreads (map string_bytes words.now) → ⊥ }
+    requires alone { AsksForRegion (map string_bytes words.now) → ⊥ }
     // The words alone decide on the command.
     ensures command { result ≡ Status.BadCommand ↔ ¬ IsCommand (map string_bytes words.now) }
 
@@ -51,14 +52,14 @@ pub fn run_alone<S: Source, K: Sink>(
     answer(alloc, words, source, sink)
 }
 
-// Does what the words ask for, if they ask for no threads. The status has its cause.
+// Does what the words ask for, if they ask for no region to play in. The status has its cause.
 fn answer<S: Source, K: Sink>(
     alloc: Global,
     words: &[String],
     source: &mut S,
     sink: &mut K,
 ) -> Status
-    requires alone { AsksForThreads (map string_bytes words.now) → ⊥ }
+    requires alone { AsksForRegion (map string_bytes words.now) → ⊥ }
     ensures command { result ≡ Status.BadCommand ↔ ¬ IsCommand (map string_bytes words.now) }
     ensures cause { Caused result (call_of (map string_bytes words.now)
         (stream_of (S.left source.old) (S.faults source.old)) (stream_of (S.left source.new) (S.faults source.new))
@@ -82,10 +83,10 @@ fn answer<S: Source, K: Sink>(
     }
 }
 
-// What a command prints that plays no threads.
+// What a command prints that plays in no region.
 fn text_of<S: Source>(alloc: Global, command: Command, source: &mut S) -> Result<Printed, Status>
     requires asked { IsAsked command }
-    requires alone { (needs_of command).threads ≡ true → ⊥ }
+    requires alone { (needs_of command).region ≡ true → ⊥ }
     ensures output { IfOk result (λ text. IsOutputOf command
         (stream_of (S.left source.old) (S.faults source.old))
         (stream_of (S.left source.new) (S.faults source.new)) (output_with (printed_bytes text) None None)) }
@@ -105,7 +106,9 @@ fn text_of<S: Source>(alloc: Global, command: Command, source: &mut S) -> Result
         Command::Trace { rounds, key } => Ok(Printed::Made(write_generated(alloc, rounds, key)?)),
         Command::Help => Ok(Printed::Fixed(help())),
         Command::Version => Ok(Printed::Fixed(VERSION)),
-        Command::Replay | Command::Gen { rounds: _, key: _ } => unreachable!(),
+        Command::Replay | Command::Delay { bytes: _ } | Command::Gen { rounds: _, key: _ } => {
+            unreachable!()
+        }
     }
 }
 
@@ -115,7 +118,7 @@ fn model<S: Source>(alloc: Global, source: &mut S) -> Result<Vec<u8>, Status>
     ensures text { IfOk result (λ text. IsModelOutput
         (stream_of (S.left source.old) (S.faults source.old))
         (stream_of (S.left source.new) (S.faults source.new)) text.items) }
-    ensures refusal { IfErr result (λ status. IsRefusal status (needing ReadsTrace false true)
+    ensures refusal { IfErr result (λ status. IsRefusal status (needing (ReadsTrace last_version) false true)
         (stream_of (S.left source.old) (S.faults source.old))
         (stream_of (S.left source.new) (S.faults source.new))) }
 {

@@ -1,8 +1,11 @@
 ghost use Rattle.std.specs.Prelude.{◌≡◌, ℕ, ◌≤◌, true, false, [], ◌∷◌, map, string_bytes, IfSome, IfNone};
 ghost use Rattle.pa_text.specs.Numeral.{IsNumeral};
-ghost use Rattle.pa_cli.specs.Command.{AsksFor, AsksForThreads, IsCommand, needs_of};
+ghost use Rattle.pa_cli.specs.Command.{AsksFor, AsksForRegion, IsCommand, most_delayed, needs_of};
 
 use pa_text::number_at;
+
+// The most bytes that may wait in a thread's queue.
+const MOST_DELAYED: u32 = 33_554_432;
 
 // The most rounds of a generated trace.
 const MOST_ROUNDS: u32 = 800;
@@ -14,6 +17,9 @@ pub enum Command {
     Replay,
     /// Reads a trace, plays its lines in their order on one thread, and prints the run.
     Model,
+    /// Reads a trace of version 1, plays its lines in their order, where what was freed waits in a queue of its thread in which at most
+    /// this many bytes stay, and prints the run.
+    Delay { bytes: u32 },
     /// Reads a trace and then a run, and prints whether that is a legal run of the trace.
     Audit,
     /// Reads a trace and then a run, and prints each use of what was freed while `raw_ptr`s pointed to it.
@@ -49,12 +55,14 @@ impl Command {
         }
     }
 
-    // Whether the command plays threads.
-    fn plays_threads(&self) -> bool
-        ensures { result ≡ (needs_of self.now).threads }
+    // Whether the command plays in a region.
+    fn plays_in_region(&self) -> bool
+        ensures { result ≡ (needs_of self.now).region }
     {
         match self {
-            Command::Replay | Command::Gen { rounds: _, key: _ } => true,
+            Command::Replay | Command::Delay { bytes: _ } | Command::Gen { rounds: _, key: _ } => {
+                true
+            }
             Command::Model
             | Command::Audit
             | Command::Dangling
@@ -85,15 +93,17 @@ impl Command {
         }
     }
 
-    // The command that two words ask for: `layout` and a size.
-    fn of_two(word: &String, size: &String) -> Option<Command>
-        ensures asked { IfSome result (λ command. AsksFor command (string_bytes word.now ∷ string_bytes size.now ∷ [])) }
-        ensures none { IfNone result (IsCommand (string_bytes word.now ∷ string_bytes size.now ∷ []) → ⊥) }
+    // The command that two words ask for: `layout` and a size, or `delay` and a number of bytes.
+    fn of_two(word: &String, number: &String) -> Option<Command>
+        ensures asked { IfSome result (λ command. AsksFor command (string_bytes word.now ∷ string_bytes number.now ∷ [])) }
+        ensures none { IfNone result (IsCommand (string_bytes word.now ∷ string_bytes number.now ∷ []) → ⊥) }
     {
-        if word.as_str() == "layout" {
-            Some(Command::Layout(whole_number(size)?))
-        } else {
-            None
+        match word.as_str() {
+            "layout" => Some(Command::Layout(whole_number(number)?)),
+            "delay" => Some(Command::Delay {
+                bytes: bytes_in(number)?,
+            }),
+            _ => None,
         }
     }
 
@@ -117,16 +127,27 @@ impl Command {
     }
 }
 
-/// Whether the words are those of a command that plays threads, so that its call may wait: `replay` or `gen`.
+/// Whether the words are those of a command that plays in a region, so that its call may wait: `replay`, `delay` or `gen`.
 /// All other words are answered by `run_alone`.
-#[tactic(auto, using(crate::proofs::Commands::threads_asked, crate::proofs::Commands::alone_asked))]
-pub fn plays_threads(words: &[String]) -> bool
-    ensures threads { result ≡ true → AsksForThreads (map string_bytes words.now) }
-    ensures alone { result ≡ false → AsksForThreads (map string_bytes words.now) → ⊥ }
+#[tactic(auto, using(crate::proofs::Commands::region_asked, crate::proofs::Commands::alone_asked))]
+pub fn plays_in_region(words: &[String]) -> bool
+    ensures region { result ≡ true → AsksForRegion (map string_bytes words.now) }
+    ensures alone { result ≡ false → AsksForRegion (map string_bytes words.now) → ⊥ }
 {
     match Command::of(words) {
-        Some(command) => command.plays_threads(),
+        Some(command) => command.plays_in_region(),
         None => false,
+    }
+}
+
+// The bytes that the word spells. `None` exactly if it spells no number from 0 to 33554432.
+fn bytes_in(word: &String) -> Option<u32>
+    ensures found { IfSome result (λ n. IsNumeral n (string_bytes word.now) × (n ≤ most_delayed)) }
+    ensures none { IfNone result ((n : ℕ) → IsNumeral n (string_bytes word.now) → n ≤ most_delayed → ⊥) }
+{
+    match whole_number(word) {
+        Some(bytes) if bytes <= MOST_DELAYED => Some(bytes),
+        _ => None,
     }
 }
 

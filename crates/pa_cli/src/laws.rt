@@ -1,5 +1,5 @@
 ghost use Rattle.pa_cli.specs.Laws.{OneThreadPrintsAsModel, ResizedIsLegalInput, ModelledIsLegalInput, ReplayedIsLegalInput};
-ghost use Rattle.pa_cli.specs.Laws.{OnlyAuditRefutes, AReadFaultComesFirst};
+ghost use Rattle.pa_cli.specs.Laws.{DelayOfNothingPrintsAsModel, OnlyAuditRefutes, AReadFaultComesFirst};
 
 use pa_one_run::one_file_run;
 use pa_record::one_run_for_a_text;
@@ -7,6 +7,14 @@ use pa_record::one_run_for_a_text;
 /// For a trace of one thread `replay` prints what `model` prints, byte for byte.
 pub fn one_thread_prints_as_model()
     ensures { OneThreadPrintsAsModel }
+{
+    one_file_run();
+    one_run_for_a_text();
+}
+
+/// What `delay 0` prints of a trace is what `model` prints of it, byte for byte.
+pub fn delay_of_nothing_prints_as_model()
+    ensures { DelayOfNothingPrintsAsModel }
 {
     one_file_run();
     one_run_for_a_text();

@@ -10,7 +10,7 @@ use pa_region::Closed;
 pub struct Outcome {
     /// How the call ended.
     pub status: Status,
-    /// The run whose text the output is. It is there exactly for a command that plays threads,
+    /// The run whose text the output is. It is there exactly for a command that plays in a region,
     /// if its output was written, whole or a first part of it.
     pub run: Option<Run>,
     /// The words of the region in which that run was played, when it was closed. It is there if the run is.
@@ -31,7 +31,7 @@ impl Outcome {
     }
 }
 
-// What comes of a command that plays threads: the text that is to be written, the run and the closed region.
+// What comes of a command that plays in a region: the text that is to be written, the run and the closed region.
 #[derive(Drop)]
 pub struct Output {
     pub text: Vec<u8>,

@@ -1,11 +1,11 @@
-mod Queueing
+pub mod Queueing
 mod Zero
 mod Fits
 mod Same
 mod Worked
 mod Weighing
-mod RowKinds
-mod Listed
+pub mod RowKinds
+pub mod Listed
 mod Rows
 pub mod Flowing
 mod Passing

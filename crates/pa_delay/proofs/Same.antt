@@ -5,15 +5,15 @@ use Rattle.pa_record.specs.declared.pool.PoolEntry.{PoolEntry}
 use Rattle.pa_record.specs.declared.report.ReportLine.{ReportLine}
 use Rattle.pa_record.specs.declared.report.Tally.{Tally}
 use Rattle.pa_record.specs.Root.{IsJournal}
-use Rattle.pa_trace.specs.declared.script.Trace.{Trace}
 use Rattle.pa_rules.specs.declared.played.Played.{Played}
 use Rattle.pa_rules.specs.Roots.{Journals}
 use Rattle.pa_rules.specs.Caches.{no_caches, AreCaches}
 use Rattle.pa_rules.specs.Report.{until, IsCached, IsReportLine, IsReport}
-use Rattle.pa_rules.specs.Told.{Told, told_by, records_of}
-use Rattle.pa_rules.specs.Legal.{IsLegalBy}
+use Rattle.pa_rules.specs.Told.{told_by, records_of}
+use Rattle.pa_rules.specs.Legal.{phases_in}
+use Rattle.pa_legal.proofs.Whole.{legal_follows}
 use Rattle.pa_delay.specs.Delayed.{Queues, no_queues}
-use Rattle.pa_delay.specs.Runs.{QueuedOf, AllQueued, IsDelayedTally, IsDelayedLine, IsDelayedReport, AreDelayed, IsDelayedBy}
+use Rattle.pa_delay.specs.Runs.{QueuedOf, AllQueued, IsDelayedTally, IsDelayedLine, IsDelayedReport, AreDelayed}
 use Rattle.pa_delay.specs.Laws.{NoBytesNoDelay}
 use Rattle.pa_delay.proofs.Zero.{walk_zero}
 
@@ -56,21 +56,12 @@ module _ (pools : List PoolEntry) (roots : Journals) (journals : (p : ℕ) → I
         (line_zero partitions threads ps) report is.right;
   }
 
-legal_zero : (t : Trace) (r : Told) (ps : List Played) → IsDelayedBy 0 t r ps → IsLegalBy t r ps
-legal_zero t r ps is = record {
-  lines = is.lines;
-  cells = is.cells;
-  registers = is.registers;
-  slots = is.slots;
-  contents = is.contents;
-  pool = is.pool;
-  roots = is.roots;
-  titles = is.titles;
-  holders = is.holders;
-  caches = caches_zero r.pools r.roots is.roots.journals t.partitions ps is.caches;
-  seen = is.seen;
-  report = report_zero r.pools r.roots is.roots.journals _ t.partitions t.threads ps r.report is.report;
-}
-
 pub no_bytes_no_delay : NoBytesNoDelay
-no_bytes_no_delay t r (is, order) = (legal_zero t (told_by r) (records_of t (told_by r)) is, order)
+no_bytes_no_delay t r (is, order) =
+    let u = told_by r in
+    let ps = records_of t u in
+    let journals = is.clauses.roots.journals in (
+      legal_follows t u is.clauses (caches_zero u.pools u.roots journals t.partitions ps is.caches)
+          (report_zero u.pools u.roots journals (phases_in t.lines) t.partitions t.threads ps u.report is.report),
+      order,
+    )

@@ -202,10 +202,10 @@ made_apart bytes supers partitions pools roots cells xs ys x seen usable all aft
 told_in_order : (bytes : ℕ) (t : Trace) (r : Told) → IsDelayedTold bytes t r →
     IsPlayedInOrder t.region t.partitions (records_of t r) r.pools r.roots r.cells
 told_in_order bytes t r (is, order) = record {
-  rising = lines_rise (rules_of t) t.lines (records_of t r) (records_are_lines.lines (rules_of t) t.lines r.entries is.lines);
-  slots = is.slots;
-  are_pool = is.pool;
-  are_roots = is.roots;
+  rising = lines_rise (rules_of t) t.lines (records_of t r) (records_are_lines.lines (rules_of t) t.lines r.entries is.clauses.lines);
+  slots = is.clauses.slots;
+  are_pool = is.clauses.pool;
+  are_roots = is.clauses.roots;
   order = order;
 }
 

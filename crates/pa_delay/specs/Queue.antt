@@ -1,7 +1,10 @@
 -- A thread's queue of slots that were returned: first in, first out, within a limit in bytes.
-use Rattle.std.specs.Prelude.{◌≡◌, ℕ, ◌+◌, ◌<◌, ◌≤◌, List, [], ◌∷◌, ◌++◌, Option, Some, None, All}
+use Rattle.std.specs.Prelude.{◌≡◌, ℕ, ◌+◌, ◌==◌, ◌<◌, ◌≤◌, if◌then◌else◌, List, [], ◌∷◌, ◌++◌, length, slice_index_or, Option, Some, None, All}
 use Rattle.pa_buckets.specs.Limits.{class_count}
 use Rattle.pa_buckets.specs.Table.{slot_of}
+use Rattle.pa_trace.specs.Limits.{most_partitions}
+use Rattle.pa_record.specs.declared.report.Tally.{Tally}
+use Rattle.pa_rules.specs.Lists.{no_tally}
 use Rattle.pa_cells.specs.declared.handle.Handle.{Handle}
 
 -- The front of a queue goes, as little of it as leaves at most as many bytes as the limit says. `Have` says how many bytes slots have.
@@ -24,6 +27,16 @@ waiting_bytes (h ∷ hs) = size_of_class h.class + waiting_bytes hs
 abbrev pub AreBytes : List Handle → ℕ → Type 0
 AreBytes handles n = n ≡ waiting_bytes handles
 
+-- how many slots of a queue are partition p's
+abbrev pub queued_slots : ℕ → List Handle → ℕ
+queued_slots p [] = 0
+queued_slots p (h ∷ hs) = (if h.partition == p then 1 else 0) + queued_slots p hs
+
+-- and how many bytes these have
+abbrev pub queued_bytes : ℕ → List Handle → ℕ
+queued_bytes p [] = 0
+queued_bytes p (h ∷ hs) = (if h.partition == p then size_of_class h.class else 0) + queued_bytes p hs
+
 -- the handle's slot is of one of the classes
 abbrev pub IsClassed : Handle → Type 0
 IsClassed h = (class : ℕ) × (h.class ≡ Some class) × (class < class_count)
@@ -31,6 +44,13 @@ IsClassed h = (class : ℕ) × (h.class ≡ Some class) × (class < class_count)
 -- the slot of each of these handles is of one of the classes
 abbrev pub AreClassed : List Handle → Type 0
 AreClassed = All IsClassed
+
+-- The slots are of the partitions of a run, and these are the tallies of them, one for each partition.
+pub record AreTallied (slots : List Handle) (tallies : List Tally) : Type 0 where
+  pub placed : All (λ (h : Handle). h.partition < most_partitions) slots
+  pub four : length tallies ≡ most_partitions
+  pub each : (p : ℕ) → p < most_partitions →
+      slice_index_or tallies p no_tally ≡ record { slots = queued_slots p slots; bytes = queued_bytes p slots }
 
 -- a queue: the most bytes that stay in it, how many slots it has room for, and the handles of its slots, front first
 pub record QueueList : Type 0 where

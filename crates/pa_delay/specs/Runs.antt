@@ -1,28 +1,21 @@
 -- The delayed run of a trace: a legal run, but for its caches and what its report counts as cached.
 use Rattle.std.specs.Prelude.{◌≡◌, ℕ, zero, suc, ◌+◌, ◌==◌, if◌then◌else◌, List, [], ◌∷◌, map, All}
-use Rattle.pa_slot.specs.Run.{Slots, IsLive, IsQuarantined}
+use Rattle.pa_slot.specs.Run.{IsLive, IsQuarantined}
 use Rattle.pa_buckets.specs.Table.{slot_of}
 use Rattle.pa_trace.specs.declared.script.Trace.{Trace}
-use Rattle.pa_trace.specs.Rules.{rules_of}
 use Rattle.pa_record.specs.declared.run.Run.{Run}
 use Rattle.pa_record.specs.declared.pool.PoolEntry.{PoolEntry}
 use Rattle.pa_record.specs.declared.numbered.Numbered.{Numbered}
 use Rattle.pa_record.specs.declared.report.ReportLine.{ReportLine}
 use Rattle.pa_record.specs.declared.report.Tally.{Tally}
 use Rattle.pa_rules.specs.declared.played.Played.{Played}
-use Rattle.pa_rules.specs.Played.{AreDue, marks_of}
 use Rattle.pa_rules.specs.Told.{Told, told_by, records_of}
-use Rattle.pa_rules.specs.Cells.{AreCells}
-use Rattle.pa_rules.specs.Registers.{AreRegisters}
-use Rattle.pa_rules.specs.Contents.{AreContents}
-use Rattle.pa_rules.specs.Roots.{Journals, IsPoolOf, AreRoots, AreAllTitles}
-use Rattle.pa_rules.specs.Holders.{AreHolders}
+use Rattle.pa_rules.specs.Roots.{Journals}
 use Rattle.pa_rules.specs.Caches.{Caches, no_caches, IsOfClass}
-use Rattle.pa_rules.specs.Seen.{IsSeenInOrder}
 use Rattle.pa_rules.specs.Report.{until, IsTally, HasCensus, census_of, phases_of, cached_slots, cached_bytes}
-use Rattle.pa_rules.specs.Sizes.{usable_of}
 use Rattle.pa_rules.specs.FileOrder.{IsInFileOrder}
 use Rattle.pa_rules.specs.Legal.{phases_in}
+use Rattle.pa_legal.specs.Known.{HasClauses}
 use Rattle.pa_delay.specs.Delayed.{Queues, no_queues, DelayedTo}
 
 -- n of these slots of a queue are partition p's, and have b bytes
@@ -64,19 +57,10 @@ abbrev pub AreDelayed : ℕ → ℕ → Journals → List Played → Type 0
 AreDelayed bytes partitions roots ps =
     (after : Caches) × (left : Queues) × DelayedTo bytes partitions roots no_caches no_queues ps after left
 
--- The clauses of a legal run, with delayed rows in place of those of the caches.
+-- The clauses of a legal run, with delayed rows in place of those of the caches, and with the report of a run with queues.
 pub record IsDelayedBy (bytes : ℕ) (t : Trace) (r : Told) (ps : List Played) : Type 0 where
-  pub lines : AreDue (rules_of t) t.lines r.entries
-  pub cells : AreCells r.cells ps
-  pub registers : AreRegisters (usable_of t.version) r.cells ps
-  pub slots : Slots (marks_of ps)
-  pub contents : AreContents (usable_of t.version) r.cells ps
-  pub pool : IsPoolOf t.region ps r.pools r.roots
-  pub roots : AreRoots t.partitions ps r.pools r.roots
-  pub titles : AreAllTitles r.pools r.roots
-  pub holders : AreHolders ps r.roots
+  pub clauses : HasClauses t r ps
   pub caches : AreDelayed bytes t.partitions r.roots ps
-  pub seen : IsSeenInOrder r.cells ps
   pub report : IsDelayedReport bytes (phases_in t.lines) t.partitions t.threads ps r.pools r.roots r.report
 
 -- the delayed run of the trace for this limit in bytes: with these clauses, and in the order of the trace's lines

@@ -1,5 +1,5 @@
 //! Slots that were returned wait in a queue of their thread before its lists see them: first in, first out, within a limit in
-//! bytes. No command uses this yet.
+//! bytes. What a run is then, laws of such runs, and the queue.
 #![tactic(auto)]
 
 mod laws;

@@ -1,9 +1,13 @@
-ghost use Rattle.std.specs.Prelude.{◌≡◌, ◌↔◌, ◌<◌, ◌≤◌, [], ◌∷◌, ◌++◌, length, IfNone, IfOk, IfSome, IsNone, IsTrue, option_to_list};
-ghost use Rattle.pa_delay.specs.Queue.{GoesPast, AreBytes, GoesFirst, IsClassed, size_of_class, waiting_bytes, with_waiting};
+ghost use Rattle.std.specs.Prelude.{◌≡◌, ◌↔◌, ◌<◌, ◌≤◌, [], ◌∷◌, ◌++◌, ◌*◌, length, IfNone, IfOk, IfSome, IsNone, IsTrue, option_to_list};
+ghost use Rattle.pa_delay.specs.Queue.{GoesPast, AreBytes, GoesFirst, IsClassed, queued_bytes, queued_slots, size_of_class, waiting_bytes, with_waiting};
+ghost use Rattle.pa_trace.specs.Limits.{most_partitions};
 
 use pa_buckets::{Class, rows_have_bounds, slot_size};
 use pa_cells::Handle;
+use pa_record::Tally;
+use pa_rules::no_sums;
 use pa_slot::OutOfMemory;
+use pa_trace::MOST_PARTITIONS;
 use std::alloc::Global;
 use std::collections::VecDeque;
 use std::marker::Model;
@@ -16,13 +20,14 @@ pub struct Delay {
     limit: u32,
     room: u32,
     bytes: u64,
+    tallies: [Tally; MOST_PARTITIONS as usize],
     slots: VecDeque<Handle>,
 }
 
 impl Model for Delay {
     ghost use Rattle.std.specs.Prelude.{◌≡◌, ◌≤◌, length};
     ghost use Rattle.std.specs.VecDeque.{deque_capacity};
-    ghost use Rattle.pa_delay.specs.Queue.{QueueList, AreClassed, waiting_bytes};
+    ghost use Rattle.pa_delay.specs.Queue.{QueueList, AreClassed, AreTallied, waiting_bytes};
 
     ghost Value = { QueueList };
 
@@ -30,7 +35,7 @@ impl Model for Delay {
 
     ghost invariant = { λ d.
         (d.bytes ≡ waiting_bytes d.slots.items) × (length d.slots.items ≤ d.room) × (d.room ≤ deque_capacity d.slots)
-        × AreClassed d.slots.items };
+        × AreClassed d.slots.items × AreTallied d.slots.items d.tallies };
 }
 
 impl Delay {
@@ -44,6 +49,7 @@ impl Delay {
             limit,
             room,
             bytes: 0,
+            tallies: no_sums(),
             slots,
         })
     }
@@ -53,6 +59,16 @@ impl Delay {
         ensures { result ≡ waiting_bytes self.now.slots }
     {
         self.bytes
+    }
+
+    /// How many of its slots are a partition's, and how many bytes these have. It is counted slot by slot as they come and go.
+    pub fn queued(&self, partition: u32) -> Tally
+        requires partition { partition < most_partitions }
+        ensures slots { result.slots ≡ queued_slots partition self.now.slots }
+        ensures bytes { result.bytes ≡ queued_bytes partition self.now.slots }
+        ensures small { result.bytes ≤ 983040 * result.slots }
+    {
+        self.tallies[partition as usize]
     }
 
     /// How many slots it has.
@@ -76,10 +92,18 @@ impl Delay {
     pub fn push(&mut self, handle: Handle)
         requires room { length self.old.slots < self.old.room }
         requires class { IsClassed handle }
+        requires partition { handle.partition < most_partitions }
         ensures back { self.new ≡ with_waiting self.old (self.old.slots ++ handle ∷ []) }
     {
         rows_have_bounds();
-        self.bytes += size_of(handle.class);
+        let one = Tally {
+            slots: 1,
+            bytes: size_of(handle.class),
+        };
+        let at = handle.partition as usize;
+        let sum = self.tallies[at].and(one);
+        self.tallies[at] = sum;
+        self.bytes += one.bytes;
         self.slots.push_back_reserved(handle);
     }
 
@@ -106,7 +130,14 @@ impl Delay {
         ensures rest { self.new ≡ with_waiting self.old self.new.slots }
     {
         let front = self.slots.pop_front()?;
-        self.bytes -= size_of(front.class);
+        let size = size_of(front.class);
+        let at = front.partition as usize;
+        let tally = self.tallies[at];
+        self.tallies[at] = Tally {
+            slots: tally.slots - 1,
+            bytes: tally.bytes - size,
+        };
+        self.bytes -= size;
         Some(front)
     }
 }

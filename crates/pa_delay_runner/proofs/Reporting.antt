@@ -17,7 +17,7 @@ use Rattle.pa_cells.specs.declared.handle.Handle.{Handle}
 use Rattle.pa_cells.specs.Cells.{Exchange}
 use Rattle.pa_cells.specs.Handles.{HasSeenMade}
 use Rattle.pa_delay.specs.Delayed.{no_queues, DelayedTo}
-use Rattle.pa_delay.specs.Queue.{size_of_class}
+use Rattle.pa_delay.specs.Queue.{queued_slots, queued_bytes, size_of_class}
 use Rattle.pa_delay.specs.Runs.{QueuedOf, AllQueued, IsDelayedTally}
 use Rattle.pa_op_specs.specs.Stocks.{StockValue, listed_in}
 use Rattle.pa_op_specs.proofs.Following.{seen_before}
@@ -31,7 +31,7 @@ use Rattle.pa_execution.specs.Telling.{IsWholeRunBy}
 use Rattle.pa_execution.proofs.Fitting.{end_sees, is_outcome, seen_of_it}
 use Rattle.pa_execution.proofs.Grouping.{phase_until, last_low, last_high}
 use Rattle.pa_execution.proofs.Heaping.{played_filter}
-use Rattle.pa_delay_runner.specs.Course.{queued_slots, queued_bytes, IsDelayedCourse, IsCachedWith}
+use Rattle.pa_delay_runner.specs.Course.{IsDelayedCourse, IsCachedWith}
 use Rattle.pa_delay_runner.specs.Laws.{queues_at}
 use Rattle.pa_delay_runner.proofs.Leading.{has_lists, has_queue, leads}
 

@@ -37,7 +37,7 @@ use Rattle.pa_cells.specs.Cells.{Exchange}
 use Rattle.pa_root.specs.Handing.{at_number_seen}
 use Rattle.pa_delay.specs.Laws.{IsListed, IsQueued}
 use Rattle.pa_delay.proofs.Waits.{waits_somewhere}
-use Rattle.pa_op_specs.specs.Stocks.{IsStock, listed_in, listed_slot, titles_in}
+use Rattle.pa_op_specs.specs.Stocks.{listed_in, listed_slot, titles_in}
 use Rattle.pa_heap.specs.Waiting.{waiting_in}
 use Rattle.pa_execution.specs.Turns.{InTurn, turns_in}
 use Rattle.pa_execution.specs.Courses.{Course}
@@ -46,7 +46,7 @@ use Rattle.pa_execution.specs.Merged.{told_by_turns, lists_at}
 use Rattle.pa_execution.specs.Telling.{IsWholeRunBy}
 use Rattle.pa_execution.proofs.Turning.{some_turn}
 use Rattle.pa_delay_runner.specs.Course.{IsDelayedCourse}
-use Rattle.pa_delay_runner.specs.Laws.{queues_at, WaitsFree}
+use Rattle.pa_delay_runner.specs.Laws.{queues_at, HaveLists, WaitsFree}
 use Rattle.pa_delay_runner.proofs.Leading.{has_lists, has_queue}
 use Rattle.pa_delay_runner.proofs.Reporting.{seen_in_run, waits_in_run}
 use Rattle.pa_delay_runner.proofs.Telling.{says, all_lead}
@@ -84,7 +84,7 @@ module _ (bytes : ℕ) (t : Trace) (r : Told) (c : Course) (v : View) (xs : List
     (run : IsWholeRunBy InTurn t r c v xs) (delayed : IsDelayedCourse bytes t (turns_in InTurn t) c waiting)
     (lines : (l : ReportLine) → Contains r.report l → IsLineBy InTurn t c v l)
     (frees : (k : ℕ) → k < t.threads → (u : Title) → free_of (c.ends (turns_in InTurn t) k).stock.view u ≤ free_of v u)
-    (stocks : (k : ℕ) → k < t.threads → IsStock (c.ends (turns_in InTurn t) k).stock) where
+    (lists : HaveLists t c (turns_in InTurn t)) where
   abbrev n : ℕ
   n = turns_in InTurn t
 
@@ -99,9 +99,9 @@ module _ (bytes : ℕ) (t : Trace) (r : Told) (c : Course) (v : View) (xs : List
       subst (λ (z : Cache). Contains (z p class) m) (has_lists bytes t r c v xs waiting run delayed n k few) among in
       let (w, listed, is) = map_cases (at_number_seen stock.view) (titles_in stock.caches p class) m there in
       let slot = seen_in_run bytes t r c v xs waiting run delayed n k (listed_slot p class w) (some_turn InTurn t) (omega arith) few
-      ((stocks k few).lists.made p class w listed) in
+      ((lists k few).made p class w listed) in
       let title : title_of sizes s ≡ w = ap (title_of sizes) (sym same ∙ sym (ap (λ (z : Numbered). z.slot) is)) ∙ slot.title in
-      let free = (stocks k few).lists.free p class w listed in
+      let free = (lists k few).free p class w listed in
       let more = frees k few w in
       subst (λ (z : Title). 0 < free_of v z) (sym title) (omega arith)
 
@@ -145,5 +145,5 @@ module _ (bytes : ℕ) (t : Trace) (r : Told) (c : Course) (v : View) (xs : List
       ])
 
 pub waits_free : WaitsFree
-waits_free bytes t r c v xs waiting run delayed lines frees stocks p u stands out size unnamed =
-    out_free bytes t r c v xs waiting run delayed lines frees stocks p u stands out size unnamed
+waits_free bytes t r c v xs waiting run delayed lines frees lists p u stands out size unnamed =
+    out_free bytes t r c v xs waiting run delayed lines frees lists p u stands out size unnamed

@@ -89,20 +89,10 @@ module _ (bytes : ℕ) (t : Trace) (r : Told) (c : Course) (v : View) (xs : List
 
       is_told : IsDelayedTold bytes t r
       is_told =
-          let records = says.runner.records in
-          let has = layers_tell_all.clauses t r v ts says flows in (
+          let records = says.runner.records in (
             record {
-              lines = has.lines;
-              cells = has.cells;
-              registers = has.registers;
-              slots = has.slots;
-              contents = has.contents;
-              pool = has.pool;
-              roots = has.roots;
-              titles = has.titles;
-              holders = has.holders;
+              clauses = layers_tell_all.clauses t r v ts says flows;
               caches = subst (λ (ps : List Played). AreDelayed bytes t.partitions r.roots ps) records are_delayed;
-              seen = has.seen;
               report = subst
                   (λ (ps : List Played). IsDelayedReport bytes (phases_in t.lines) t.partitions t.threads ps r.pools r.roots r.report)
                   records report;

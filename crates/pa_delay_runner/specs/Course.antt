@@ -1,5 +1,5 @@
 -- How a delayed run goes, line by line: what waits in each thread's queue.
-use Rattle.std.specs.Prelude.{◌≡◌, ℕ, ◌+◌, ◌==◌, ◌<◌, ◌≤◌, if◌then◌else◌, List, [], ◌∷◌, length}
+use Rattle.std.specs.Prelude.{◌≡◌, ℕ, ◌+◌, ◌<◌, ◌≤◌, List, [], ◌∷◌, length}
 use Rattle.pa_buckets.specs.Limits.{class_count}
 use Rattle.pa_trace.specs.declared.script.Trace.{Trace}
 use Rattle.pa_record.specs.declared.report.Tally.{Tally}
@@ -7,22 +7,12 @@ use Rattle.pa_rules.specs.Caches.{listed_slots}
 use Rattle.pa_rules.specs.Report.{listed_bytes}
 use Rattle.pa_cells.specs.declared.handle.Handle.{Handle}
 use Rattle.pa_logs.specs.Told.{ToldRecord}
-use Rattle.pa_delay.specs.Queue.{size_of_class}
+use Rattle.pa_delay.specs.Queue.{queued_slots, queued_bytes}
 use Rattle.pa_op_specs.specs.Stocks.{listed_in}
 use Rattle.pa_op_specs.specs.Workers.{WorkerValue}
 use Rattle.pa_heap.specs.Waiting.{waiting_in, HoldsQueue, LeadsDelayed}
 use Rattle.pa_execution.specs.Courses.{Course}
 use Rattle.pa_execution.specs.Lines.{sum_over}
-
--- how many slots of a queue are partition p's
-abbrev pub queued_slots : ℕ → List Handle → ℕ
-queued_slots p [] = 0
-queued_slots p (h ∷ hs) = (if h.partition == p then 1 else 0) + queued_slots p hs
-
--- and how many bytes these have
-abbrev pub queued_bytes : ℕ → List Handle → ℕ
-queued_bytes p [] = 0
-queued_bytes p (h ∷ hs) = (if h.partition == p then size_of_class h.class else 0) + queued_bytes p hs
 
 -- How the queues go in a delayed run with this course, up to a turn. `waiting n k` is the queue of thread k at the end of turn n.
 --   first: at the end of the head's turn all queues are empty

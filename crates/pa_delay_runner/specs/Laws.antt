@@ -15,7 +15,7 @@ use Rattle.pa_cells.specs.declared.handle.Handle.{Handle}
 use Rattle.pa_cells.specs.Cells.{Exchange}
 use Rattle.pa_delay.specs.Delayed.{Queues, no_queues, DelayedTo}
 use Rattle.pa_delay.specs.Runs.{IsDelayedTold}
-use Rattle.pa_op_specs.specs.Stocks.{IsStock}
+use Rattle.pa_op_specs.specs.Stocks.{HoldsLists}
 use Rattle.pa_heap.specs.Waiting.{waiting_in}
 use Rattle.pa_execution.specs.Turns.{InTurn, turns_in, last_turn}
 use Rattle.pa_execution.specs.Courses.{Course}
@@ -32,6 +32,10 @@ queues_at t c waiting n k = if nat_lt k t.threads then waiting_in (c.ends n k).s
 abbrev pub IsLineWaiting : Trace → Course → (ℕ → ℕ → List Handle) → ReportLine → Type 0
 IsLineWaiting t c waiting l =
     IsCachedWith l.partition t.threads (c.ends (last_turn InTurn t l.phase)) (waiting (last_turn InTurn t l.phase)) l.cached
+
+-- each worker's lists are as they must be at the end of a turn
+abbrev pub HaveLists : Trace → Course → ℕ → Type 0
+HaveLists t c n = (k : ℕ) → k < t.threads → HoldsLists (c.ends n k).stock.caches (c.ends n k).stock.view
 
 -- The records of the first lines lead to the lists and the queues that the workers have when the last of these lines is over.
 abbrev pub RecordsLead : Type 0
@@ -51,11 +55,11 @@ DelayedIsTold =
     ((l : ReportLine) → Contains r.report l → IsLineWaiting t c waiting l) → IsDelayedTold bytes t r
 
 -- In such a run the closing seat has each title free whose slot exists, is out of its root and is named by no log, if it has free what each
--- worker had free at the end of the last line.
+-- worker had free at the end of the last line, and each worker's lists were as they must be then.
 abbrev pub WaitsFree : Type 0
 WaitsFree =
     (bytes : ℕ) (t : Trace) (r : Told) (c : Course) (v : View) (xs : List Exchange) (waiting : ℕ → ℕ → List Handle) →
     IsWholeRunBy InTurn t r c v xs → IsDelayedCourse bytes t (turns_in InTurn t) c waiting →
     ((l : ReportLine) → Contains r.report l → IsLineBy InTurn t c v l) →
     ((k : ℕ) → k < t.threads → (u : Title) → free_of (c.ends (turns_in InTurn t) k).stock.view u ≤ free_of v u) →
-    ((k : ℕ) → k < t.threads → IsStock (c.ends (turns_in InTurn t) k).stock) → OutIsFree (sizes_in t r) r.pools r.roots v
+    HaveLists t c (turns_in InTurn t) → OutIsFree (sizes_in t r) r.pools r.roots v

@@ -1,6 +1,6 @@
 -- How the main seat takes in what all workers have seen, and how they get it back.
 use Rattle.std.proofs.Common.{◌≡◌, ℕ, ◌+◌, ◌<◌, List, [], ◌∷◌, ◌++◌, refl, sym, ◌∙◌, ap, subst, arith, inl, inr, eqb}
-use Rattle.std.specs.Prelude.{not}
+use Rattle.std.specs.Prelude.{◌≢◌, not}
 use Rattle.std.specs.List.{sum_by}
 use Rattle.std.proofs.lemmas.List.{append-nil}
 use Rattle.std.proofs.lemmas.List.Sums.{sum_by-cons}
@@ -26,7 +26,7 @@ use Rattle.pa_rules.specs.Caches.{SameLists}
 use Rattle.pa_op_specs.specs.Stocks.{IsForThread, listed_in}
 use Rattle.pa_op_specs.specs.Workers.{WorkerValue, HasItsStake, worker_with_view}
 use Rattle.pa_execution.specs.Courses.{HasSeenAll, HasHeardAll, Hears}
-use Rattle.pa_execution.specs.Gathering.{IsMain, HasHeardSome, HasAnswered, WorkersTell, WorkersHear, told_worker}
+use Rattle.pa_execution.specs.Gathering.{IsMain, HasHeardSome, HasAnswered, WorkersTell, WorkersHear, OneLendsAgain, lent_again, told_worker}
 use Rattle.pa_execution.proofs.Playing.{sees_itself, sees_then}
 
 -- ---- the logs of two lists of stakes
@@ -201,3 +201,83 @@ grows threads count whole seat answered = record {
 
 pub workers_hear : WorkersHear
 workers_hear = record { none = answer_none; can = can_hand; for = for_thread; next = answer_next; hears = hears; grows = grows }
+
+-- ---- one stake comes back, and is lent again
+
+module _ (threads k : ℕ) (ends after : ℕ → WorkerValue) (seat : View) (main : IsMain threads seat) (heard : HasHeardAll threads ends seat)
+    (few : k < threads) (own : (after k).stock.thread ≡ k) (has : HasItsStake (after k).stock)
+    (others : (j : ℕ) → j < threads → j ≢ k → after j ≡ ends j) (aware : IsAware (lent_again k seat (after k))) where
+  abbrev less : View
+  less = left_after (stake_parcel k) seat
+
+  abbrev again : View
+  again = lent_again k seat (after k)
+
+  whole : HasAnswered threads k seat seat
+  whole = record { main = main; stakes = λ j low. refl; logs = λ j low. refl; seen = refl; lists = refl }
+
+  main_less : IsMain threads less
+  main_less = (answer_next threads k seat seat whole few).main
+
+  here : 0 < stake_of (after k).stock.view k
+  here = subst (λ n. 0 < stake_of (after k).stock.view n) own has
+
+  none_less : stake_of less k ≡ 0
+  none_less =
+      let p = (hand_parts (stake_parcel k) seat (can_hand threads k seat seat whole)).stakes k in
+      let g = given_stake k seat in
+      omega arith
+
+  sees_seat : HasSeenAll seat again
+  sees_seat = let sees = sees_before k less (after k).stock.view aware in record { lists = sees.lists; seen = sees.seen }
+
+  has_stake : (j : ℕ) → 0 < stake_of less j → 0 < stake_of again j
+  has_stake j low = let p = (united_parts less (given_after (stake_parcel k) (after k).stock.view)).stakes j in omega arith
+
+  main_again : IsMain threads again
+  main_again = record {
+    own = λ j past small. has_stake j (main_less.own j past small);
+    idle = λ j past. log_beside k less (after k).stock.view j (λ e. absurd (omega arith)) ∙ main_less.idle j past;
+    clean = still_clean k less (after k).stock.view main_less.clean;
+  }
+
+  heard_again : HasHeardAll threads after again
+  heard_again = record {
+    aware = aware;
+    every = λ j small. elim (cases_eq j k) [
+      | inl e ↦
+          subst (λ n. 0 < stake_of again n) (sym e)
+          (let p = (united_parts less (given_after (stake_parcel k) (after k).stock.view)).stakes k in
+          let g = given_stake k (after k).stock.view in
+          let h = here in
+          omega arith)
+      | inr ne ↦
+          has_stake j (
+          let p = (hand_parts (stake_parcel k) seat (can_hand threads k seat seat whole)).stakes j in
+          let b = given_beside k j seat ne in
+          let h = heard.every j small in
+          omega arith
+          )
+    ];
+    logs = λ j low. elim (cases_eq j k) [
+      | inl e ↦ subst (λ n. log_of n again ≡ log_of n (after n).stock.view) (sym e) (log_here k less (after k).stock.view none_less)
+      | inr ne ↦
+          log_beside k less (after k).stock.view j ne
+          ∙ (log_left threads k seat seat whole j ne
+          ∙ (heard.logs j low ∙ ap (λ (w : WorkerValue). log_of j w.stock.view) (sym (others j low ne))))
+    ];
+    idle = main_again.idle;
+    sees = λ j low. elim (cases_eq j k) [
+      | inl e ↦ subst (λ n. HasSeenAll (after n).stock.view again) (sym e) (sees_giver k less (after k).stock.view aware)
+      | inr ne ↦
+          subst (λ (w : WorkerValue). HasSeenAll w.stock.view again) (sym (others j low ne))
+          (sees_then (ends j).stock.view seat again (heard.sees j low) sees_seat)
+    ];
+  }
+
+pub one_lends_again : OneLendsAgain
+one_lends_again threads k ends after seat main heard few own has others aware = (
+  main_again threads k ends after seat main heard few own has others aware,
+  heard_again threads k ends after seat main heard few own has others aware,
+  sees_seat threads k ends after seat main heard few own has others aware,
+)

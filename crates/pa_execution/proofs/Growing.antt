@@ -3,6 +3,7 @@ use Rattle.std.proofs.Common.{◌≡◌, ℕ, zero, suc, ◌+◌, ◌<◌, ◌�
 use Rattle.std.specs.Prelude.{if◌then◌else◌}
 use Rattle.std.proofs.lemmas.Bool.{cases_Bool, cases_eq, eq-eqb, ne_eqb, both_ways}
 use Rattle.pa_region.specs.declared.view.View.{View}
+use Rattle.pa_region.specs.Takes.{log_of}
 use Rattle.pa_trace.specs.declared.script.Trace.{Trace}
 use Rattle.pa_rules.specs.Played.{op_line_of}
 use Rattle.pa_logs.specs.Told.{ToldRecord, played_in}
@@ -11,7 +12,8 @@ use Rattle.pa_op_specs.specs.Workers.{WorkerValue}
 use Rattle.pa_execution.specs.Turns.{Manner, Beside, lines_in_turn}
 use Rattle.pa_execution.specs.Courses.{Course, PlaysBy, BeginsNew, HasSeenAll, HasHeardAll, HearsIf, some_in}
 use Rattle.pa_execution.proofs.Merging.{no_lines}
-use Rattle.pa_execution.specs.Growing.{Agree, HasBegunBy, HasEndedBy, PlaysTurn, HasGrown, TurnsGrow, HasBegun, HasEnded, PlaysPhase, CoursesGrow}
+use Rattle.pa_execution.proofs.Playing.{sees_then}
+use Rattle.pa_execution.specs.Growing.{Agree, HasBegunBy, HasEndedBy, PlaysTurn, HasGrown, HasSeenMore, TurnsGrow, HasBegun, HasEnded, PlaysPhase, CoursesGrow}
 
 -- of each number below a bound there are records with a property: so one function has them
 choose : (P : ℕ → List ToldRecord → Type 0) (n : ℕ) → ((k : ℕ) → k < n → (xs : List ToldRecord) × P k xs) →
@@ -220,8 +222,80 @@ goes_on way t n c heard ends starts seat some done hears = record {
 waits : (k : ℕ) (seat : View) (w : WorkerValue) → HearsIf false k seat w w
 waits k seat w = record { view = w.stock.view; same = refl; log = refl; lists = λ p class. refl; seen = λ heard. absurd cc }
 
+-- the execution with another main seat at the end of a turn
+abbrev with_seat : ℕ → View → Course → Course
+with_seat n seat c = record c { seats = λ m. if eqb m n then seat else c.seats m }
+
+module _ (way : Manner) (t : Trace) (n : ℕ) (c : Course) (ends : ℕ → WorkerValue) (seat next : View) (done : HasEndedBy way t n c ends seat)
+    (heard : HasHeardAll t.threads ends next) (more : HasSeenAll seat next) where
+  abbrev later : Course
+  later = with_seat n next c
+
+  seats_before : (m : ℕ) → m < n → later.seats m ≡ c.seats m
+  seats_before m low = rw (ne_eqb m n (λ e. absurd (omega arith))) refl
+
+  seat_now : (m : ℕ) → m ≡ n → later.seats m ≡ next
+  seat_now m e = rw (eq-eqb m n e) refl
+
+  heard_now : HasHeardAll t.threads (c.ends n) next
+  heard_now = record {
+    aware = heard.aware;
+    every = heard.every;
+    logs = λ k few. heard.logs k few ∙ sym (ap (λ (w : WorkerValue). log_of k w.stock.view) (done.ends k few));
+    idle = heard.idle;
+    sees = λ k few. subst (λ (w : WorkerValue). HasSeenAll w.stock.view next) (sym (done.ends k few)) (heard.sees k few);
+  }
+
+  told_now : (m : ℕ) → 1 ≤ m → m ≤ n → HasHeardAll t.threads (c.ends m) (later.seats m)
+  told_now m low high = elim (cases_eq m n) [
+    | inl e ↦ subst (λ v. HasHeardAll t.threads (c.ends m) v) (sym (seat_now m e))
+        (subst (λ j. HasHeardAll t.threads (c.ends j) next) (sym e) heard_now)
+    | inr ne ↦ subst (λ v. HasHeardAll t.threads (c.ends m) v) (sym (seats_before m (omega arith))) (done.course.tells m low high)
+  ]
+
+  kept_now : (m : ℕ) → 1 ≤ m → m < n → HasSeenAll (later.seats m) (later.seats (m + 1))
+  kept_now m low high =
+      let kept = done.course.keeps m low high in
+      subst (λ v. HasSeenAll v (later.seats (m + 1))) (sym (seats_before m high))
+      (elim (cases_eq (m + 1) n) [
+        | inl e ↦
+            subst (λ v. HasSeenAll (c.seats m) v) (sym (seat_now (m + 1) e))
+            (sees_then (c.seats m) (c.seats (m + 1)) next kept
+            (subst (λ v. HasSeenAll v next) (sym (ap c.seats e ∙ done.seat)) more))
+        | inr ne ↦ subst (λ v. HasSeenAll (c.seats m) v) (sym (seats_before (m + 1) (omega arith))) kept
+      ])
+
+  seen_more : HasSeenMore way t n c later ends next
+  seen_more = record {
+    starts = λ m k. refl;
+    plays = λ m k. refl;
+    same_ends = λ m k. refl;
+    seats = seats_before;
+    ended = record {
+      course = record {
+        begins = done.course.begins;
+        plays = done.course.plays;
+        lines = done.course.lines;
+        settled = done.course.settled;
+        tells = told_now;
+        hears = λ m k low high few. subst (λ v. HearsIf (some_in (c.plays (m + 1) k)) k v (c.ends m k) (c.starts (m + 1) k))
+            (sym (seats_before m high)) (done.course.hears m k low high few);
+        keeps = kept_now;
+      };
+      ends = done.ends;
+      seat = seat_now n refl;
+    };
+  }
+
 pub turns_grow : TurnsGrow
-turns_grow = record { begins = begins; ends = turn_ends; goes_on = goes_on; waits = waits }
+turns_grow = record {
+  begins = begins;
+  ends = turn_ends;
+  goes_on = goes_on;
+  waits = waits;
+  looks = λ way t n c ends seat next done heard more.
+      (later way t n c ends seat next done heard more, seen_more way t n c ends seat next done heard more);
+}
 
 -- ---- threads that play beside each other
 

@@ -1,5 +1,5 @@
 -- How all workers lend their stakes to the main seat at a phase's end, one after the other, and how they get them back.
-use Rattle.std.specs.Prelude.{◌≡◌, ℕ, ◌+◌, ◌<◌, ◌≤◌, []}
+use Rattle.std.specs.Prelude.{◌≡◌, ◌≢◌, ℕ, ◌+◌, ◌<◌, ◌≤◌, []}
 use Rattle.pa_trace.specs.Limits.{most_threads}
 use Rattle.pa_region.specs.declared.view.View.{View}
 use Rattle.pa_region.specs.Views.{stake_of}
@@ -66,3 +66,17 @@ pub record WorkersHear : Type 0 where
       after ≡ worker_with_view (united (told_worker k (ends k)).stock.view (given_after (stake_parcel k) seat)) (told_worker k (ends k)) →
       SameLists (listed_in after.stock) (listed_in (told_worker k (ends k)).stock) → Hears k whole (ends k) after
   pub grows : (threads count : ℕ) (whole seat : View) → HasAnswered threads count whole seat → HasSeenAll whole seat
+
+-- the main seat when the worker of thread k had its stake back from it, went on to `w`, and lent it again
+abbrev pub lent_again : ℕ → View → WorkerValue → View
+lent_again k seat w = united (left_after (stake_parcel k) seat) (given_after (stake_parcel k) w.stock.view)
+
+-- The main seat has heard all. One worker alone had its stake back from it, and lends it again: if the seat takes its note in, it has
+-- heard all again, is a main seat still, and has seen what it had.
+abbrev pub OneLendsAgain : Type 0
+OneLendsAgain =
+    (threads k : ℕ) (ends after : ℕ → WorkerValue) (seat : View) → IsMain threads seat → HasHeardAll threads ends seat → k < threads →
+    (after k).stock.thread ≡ k → HasItsStake (after k).stock → ((j : ℕ) → j < threads → j ≢ k → after j ≡ ends j) →
+    IsAware (lent_again k seat (after k)) →
+    IsMain threads (lent_again k seat (after k)) × HasHeardAll threads after (lent_again k seat (after k))
+    × HasSeenAll seat (lent_again k seat (after k))

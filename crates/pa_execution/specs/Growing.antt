@@ -44,12 +44,21 @@ pub record HasGrown (way : Manner) (t : Trace) (n : ℕ) (c d : Course) (starts 
   pub began : (k : ℕ) → d.starts (n + 1) k ≡ starts k
   pub played : (k : ℕ) → d.plays (n + 1) k ≡ plays k
 
+-- The execution d is c with this main seat at the end of turn n, its last, in which it has seen more.
+pub record HasSeenMore (way : Manner) (t : Trace) (n : ℕ) (c d : Course) (ends : ℕ → WorkerValue) (seat : View) : Type 0 where
+  pub starts : (m k : ℕ) → d.starts m k ≡ c.starts m k
+  pub plays : (m k : ℕ) → d.plays m k ≡ c.plays m k
+  pub same_ends : (m k : ℕ) → d.ends m k ≡ c.ends m k
+  pub seats : (m : ℕ) → m < n → d.seats m ≡ c.seats m
+  pub ended : HasEndedBy way t n d ends seat
+
 -- How executions grow, in each manner.
 --   begins: at the start no turn is over
 --   ends: when each has played its lines of the next turn and lent its stake, that is over, and those before are what they were; who
 --     hasn't heard has no lines in it
 --   goes_on: when these have their stakes back, the next one begins
 --   waits: who hasn't heard begins it as it ended the last one
+--   looks: the main seat can see more before the next one begins
 pub record TurnsGrow : Type 0 where
   pub begins : (way : Manner) (t : Trace) (heard : ℕ → Bool) (starts : ℕ → WorkerValue) →
       ((k : ℕ) → k < t.threads → BeginsNew t k (starts k)) → (c : Course) × HasBegunBy way t 0 c heard starts
@@ -62,6 +71,9 @@ pub record TurnsGrow : Type 0 where
       HasEndedBy way t n c ends seat → ((k : ℕ) → k < t.threads → HearsIf (heard k) k seat (ends k) (starts k)) →
       HasBegunBy way t n c heard starts
   pub waits : (k : ℕ) (seat : View) (w : WorkerValue) → HearsIf false k seat w w
+  pub looks : (way : Manner) (t : Trace) (n : ℕ) (c : Course) (ends : ℕ → WorkerValue) (seat next : View) →
+      HasEndedBy way t n c ends seat → HasHeardAll t.threads ends next → HasSeenAll seat next →
+      (d : Course) × HasSeenMore way t n c d ends next
 
 -- ---- threads that play beside each other
 

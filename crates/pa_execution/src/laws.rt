@@ -1,7 +1,7 @@
 //! Laws of executions: calls that do nothing, but have proved clauses.
 ghost use Rattle.pa_execution.specs.Example.{SmallCourseFits};
 ghost use Rattle.pa_execution.specs.Lines.{CoursesTellLines, CoursesTellLists};
-ghost use Rattle.pa_execution.specs.Gathering.{WorkersTell, WorkersHear};
+ghost use Rattle.pa_execution.specs.Gathering.{OneLendsAgain, WorkersTell, WorkersHear};
 ghost use Rattle.pa_execution.specs.Growing.{CoursesGrow, TurnsGrow};
 ghost use Rattle.pa_execution.specs.Telling.{CoursesTellAll, CoursesTellCells, CoursesTellHeap};
 ghost use Rattle.pa_execution.specs.Telling.{CoursesTellPool, CoursesTellRoots, CoursesTellRunner, CoursesTellTimeline};
@@ -94,6 +94,11 @@ pub fn workers_tell()
 /// A worker that gets its stake back from that seat has seen what the seat has.
 pub fn workers_hear()
     ensures { WorkersHear }
+{}
+
+/// A main seat that has heard all has heard all again when one worker alone had its stake back from it and lent it again.
+pub fn one_lends_again()
+    ensures { OneLendsAgain }
 {}
 
 /// A small execution, worked out by hand, meets all that is required of one, so the laws aren't about nothing: all layers meet

@@ -60,7 +60,7 @@ front_brings h class s after low real long front = record {
 
 -- ---- it goes to its root
 
-home_brings : (line : ℕ) (h : Handle) (s after : StockValue) → GoesHome line h s after → Brings h s after
+pub home_brings : (line : ℕ) (h : Handle) (s after : StockValue) → GoesHome line h s after → Brings h s after
 home_brings line h s after home = record {
   thread = ap (λ (z : StockValue). z.thread) home.same;
   partitions = ap (λ (z : StockValue). z.partitions) home.same;
@@ -133,13 +133,13 @@ brings_both h s u after one two = record {
 }
 
 -- how many lists a thread state had, by what it has after one of them was set
-long_before : (caches after : WorkerLists) (p class : ℕ) (t : Title) → after ≡ put_in_front p class t caches →
+pub long_before : (caches after : WorkerLists) (p class : ℕ) (t : Title) → after ≡ put_in_front p class t caches →
     length after.lists ≡ 4 * class_total after.version → length caches.lists ≡ 4 * class_total caches.version
 long_before caches after p class t is long =
     sym (length-set caches.lists (cache_place caches.version p class) (record { class = class; titles = t ∷ titles_in caches p class }))
     ∙ subst (λ (cs : WorkerLists). length cs.lists ≡ 4 * class_total cs.version) is long
 
-spill_brings : (line class : ℕ) (h : Handle) (s after : StockValue) → h.partition < 4 → HasClass s.caches.version class →
+pub spill_brings : (line class : ℕ) (h : Handle) (s after : StockValue) → h.partition < 4 → HasClass s.caches.version class →
     IsStock after → Spills line h class s after → Brings h s after
 spill_brings line class h s after low real sound spills =
     brings_both h s spills.between after

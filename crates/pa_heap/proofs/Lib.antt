@@ -14,12 +14,17 @@ pub mod Undone
 pub mod TakingIn
 pub mod Closed
 pub mod Recorded
+pub mod Beside
+pub mod Returned
 pub mod Given
 pub mod Unmapping
+pub mod Brought
+pub mod OneBack
 pub mod Settling
 pub mod Playing
 pub mod Purging
 pub mod Purged
+pub mod PurgedWaiting
 pub mod Issuing
 pub mod Relinking
 pub mod Taking
@@ -28,5 +33,8 @@ pub mod Fulling
 pub mod Allocated
 pub mod Stopped
 pub mod Ruling
-pub mod Brought
 pub mod Queued
+pub mod CameBack
+pub mod Passed
+pub mod Waited
+pub mod Delaying

@@ -17,7 +17,7 @@ use Rattle.pa_region.specs.Aware.{IsAware}
 use Rattle.pa_region.proofs.TakeLaws.{stakes_made}
 use Rattle.pa_quarantine.specs.Filling.{poisoned}
 use Rattle.pa_cells.specs.declared.handle.Handle.{Handle}
-use Rattle.pa_cells.specs.Handles.{HasSeenMade, SlotsStaySeen}
+use Rattle.pa_cells.specs.Handles.{SlotsStaySeen}
 use Rattle.pa_rules.specs.declared.register.Register.TheVariants.{Own, Ref, Freed, Cleared}
 use Rattle.pa_op_specs.specs.Owing.{bytes_in}
 use Rattle.pa_op_specs.specs.Stocks.{StockRegister, StockValue, IsStock, register_in, regs_of}
@@ -25,7 +25,6 @@ use Rattle.pa_op_specs.specs.Workers.{HasItsStake}
 use Rattle.pa_thread_state.specs.Changes.{LetsGo, NeedsRoot}
 use Rattle.pa_thread_state.specs.Homing.{IsSettled}
 use Rattle.pa_thread_state.specs.Releasing.{Releases}
-use Rattle.pa_op_specs.specs.Entering.{HasSeenSome}
 use Rattle.pa_op_specs.specs.Plays.{DoesOp}
 use Rattle.pa_op_specs.proofs.Registers.{regs_set}
 use Rattle.pa_op_specs.proofs.Seeing.{made_kept}
@@ -38,18 +37,11 @@ use Rattle.pa_heap.proofs.Resetting.{reset_row, reset_kept}
 use Rattle.pa_thread_state.proofs.Freeing.{can_step, freed_view}
 use Rattle.pa_heap.proofs.Freeing.{free_row, free_kept, touched_free}
 use Rattle.pa_heap.proofs.Answering.{seen_left, reset_put, free_put}
-use Rattle.pa_heap.proofs.Given.{HasReturned}
+use Rattle.pa_heap.proofs.Returned.{HasReturned}
 use Rattle.pa_heap.proofs.Settling.{home_does, spill_does}
 
--- a worker that has seen how a slot was made has seen an entry of its partition's list
-slot_entries : (s : StockValue) (h : Handle) → IsAware s.view → HasItsStake s → HasSeenMade h s.view →
-    HasSeenSome s.thread h.partition s.view
-slot_entries s h aware stake made =
-    let (m, e, among, says, out) = made.entry in
-    record { some = (m, among); own = stakes_made s.view s.thread h.partition aware stake }
-
 -- what each knows of its step
-reset_returned : CountLeaves → (s : StockValue) (r word : ℕ) (h : Handle) → IsStock s → IsAware s.view →
+pub reset_returned : CountLeaves → (s : StockValue) (r word : ℕ) (h : Handle) → IsStock s → IsAware s.view →
     HasItsStake s → 0 < s.view.budget → r < 64 →
     register_in s.registers r ≡ Ref h → IsFound h.title word s.view → IsReturning steps.Reset word →
     HasReturned (ops.Reset r) steps.Reset h word s (after_count steps.Reset h.title word s.view) (slice_set s.registers r Cleared)
@@ -66,7 +58,8 @@ reset_returned counts s r word h is aware stake budget below ref found back =
       long = ap bytes_in ref;
       row = λ o. reset_row (register_in s.registers r) h (seen_at h word) (regs_of s.registers) r
           (regs_of (slice_set s.registers r Cleared)) ref refl (λ k. regs_set s.registers r Cleared k inside);
-      lists = λ partitions line phase roots cache after row. inl (back, row);
+      steps = refl;
+      back = back;
       reader = λ o x. tt;
       mark = λ line. refl;
       touched = touched_count counts s.thread steps.Reset t word s.view refl can found (least_is s.thread s.view is.stake stake).0
@@ -75,10 +68,10 @@ reset_returned counts s r word h is aware stake budget below ref found back =
       number = seen_left t (number_of word) (seen_of w t) (seen_of s.view t) found.not_older
           ((counts steps.Reset t word s.view can).seen t);
       made = made_kept h s.view w refl knows.1;
-      entries = slot_entries s h aware stake knows.1;
+      own = λ q. stakes_made s.view s.thread q aware stake;
     }
 
-free_returned : CountLeaves → OwnsChange → StatesAreOwns → (s : StockValue) (r word : ℕ) (h : Handle) → IsStock s → IsAware s.view →
+pub free_returned : CountLeaves → OwnsChange → StatesAreOwns → (s : StockValue) (r word : ℕ) (h : Handle) → IsStock s → IsAware s.view →
     HasItsStake s → 0 < s.view.budget → r < 64 →
     register_in s.registers r ≡ Own h → IsFound h.title word (poisoned h.title s.view) → IsReturning steps.Free word →
     HasReturned (ops.Free r) steps.Free h word s (freed_view s.view h.title word) (slice_set s.registers r Freed)
@@ -95,7 +88,8 @@ free_returned counts owns states s r word h is aware stake budget below own foun
       long = ap bytes_in own;
       row = λ o. free_row (register_in s.registers r) h (seen_at h word) (regs_of s.registers) r
           (regs_of (slice_set s.registers r Freed)) own refl (λ k. regs_set s.registers r Freed k inside);
-      lists = λ partitions line phase roots cache after row. inl (back, row);
+      steps = refl;
+      back = back;
       reader = λ o x. tt;
       mark = λ line. refl;
       touched = touched_free counts owns states s r word h is stake budget below own found (user_not_free s.view t aware knows.0);
@@ -103,7 +97,7 @@ free_returned counts owns states s r word h is aware stake budget below own foun
       number = seen_left t (number_of word) (seen_of w t) (seen_of s.view t) found.not_older
           ((counts steps.Free t word (poisoned t s.view) can).seen t);
       made = made_kept h s.view w refl knows.1;
-      entries = slot_entries s h aware stake knows.1;
+      own = λ q. stakes_made s.view s.thread q aware stake;
     }
 
 -- the op does what it should, wherever the slot went
@@ -114,7 +108,7 @@ settled_does : SlotsStaySeen →
     IsSettled line h (record s { view = w; registers = rs }) after →
     DoesOp line op (answers.Done (seen_at h word)) s after
 settled_does stays op step h word line s after w rs is sound of root (inl (bare, home)) =
-    home_does stays op step h word line s after w rs is of bare home
+    home_does stays op step h word line s after w rs is of home bare
 settled_does stays op step h word line s after w rs is sound of root (inr (class, class_is, small, some, spills)) =
     spill_does stays op step h class word line s after w rs is sound of class_is small some (root class class_is small) spills
 

@@ -1,5 +1,5 @@
 -- A purge, partition after partition.
-use Rattle.std.proofs.Common.{◌≡◌, ℕ, zero, suc, ◌+◌, ◌-◌, ◌<◌, ◌≤◌, Bool, true, false, List, [], ◌∷◌, ◌++◌, length, map, filter, flat_map, append_assoc, refl, sym, ◌∙◌, ap, subst, arith, inl, inr}
+use Rattle.std.proofs.Common.{◌≡◌, ℕ, zero, suc, ◌+◌, ◌-◌, ◌<◌, ◌≤◌, Bool, true, false, List, [], ◌++◌, length, map, flat_map, append_assoc, refl, sym, ◌∙◌, ap, subst, arith, inl, inr}
 use Rattle.std.specs.Prelude.{◌==◌, nat_lt, if◌then◌else◌, Contains}
 use Rattle.std.specs.List.{filter_map, range_with_len}
 use Rattle.std.proofs.lemmas.List.{append-nil}
@@ -10,7 +10,7 @@ use Rattle.pa_slot.specs.Titles.{IsWellFormed}
 use Rattle.pa_record.specs.declared.numbered.Numbered.{Numbered}
 use Rattle.pa_record.specs.declared.root.RootAct.{RootAct}
 use Rattle.pa_record.specs.Numbers.{root_numbers}
-use Rattle.pa_lists.proofs.Members.{in_cases, not_in_none}
+use Rattle.pa_lists.proofs.Members.{not_in_none}
 use Rattle.pa_region.specs.declared.view.Entry.{Entry}
 use Rattle.pa_region.specs.declared.view.Entry.TheVariants.{Entered, Uncut}
 use Rattle.pa_region.specs.declared.view.Made.{Made}
@@ -28,24 +28,8 @@ use Rattle.pa_thread_state.specs.Purging.{PurgesRoot, without_lists}
 use Rattle.pa_op_specs.proofs.Quiet.{same_titles}
 use Rattle.pa_op_specs.proofs.Entered.{Entering, entering_none, entering_both, entered_here, entered_elsewhere}
 use Rattle.pa_thread_state.proofs.HandedBack.{gives_enters}
-use Rattle.pa_heap.proofs.Given.{numbers_again}
+use Rattle.pa_heap.proofs.Given.{entered_quiet, no_uncut, numbers_again}
 use Rattle.pa_logs.proofs.Listing.{entered_append}
-
--- ---- entries of lists are no touches
-
-entered_quiet : (p : ℕ) (ms : List Made) → touches (map (Entered p) ms) ≡ []
-entered_quiet p [] = refl
-entered_quiet p (m ∷ ms) = entered_quiet p ms
-
-no_uncut : (p : ℕ) (ms : List Made) (t : Title) → Contains (map (Entered p) ms) (Uncut t) → ⊥
-no_uncut p [] t among = not_in_none (Uncut t) among
-no_uncut p (m ∷ ms) t among = elim (in_cases (Entered p m) (Uncut t) (map (Entered p) ms) among) [
-  | inl same ↦ differ m same
-  | inr later ↦ no_uncut p ms t later
-]
-  where
-    differ : (m : Made) → Entered p m ≡ Uncut t → ⊥
-    differ m e = cc
 
 -- purges of the same lists have the same acts
 acts_same : (xs ys : ℕ → List Numbered) (i n : ℕ) → ((c : ℕ) → xs c ≡ ys c) → purge_acts xs i n ≡ purge_acts ys i n

@@ -10,7 +10,7 @@ use Rattle.pa_link.specs.Chains.{Relinked}
 use Rattle.pa_link.proofs.Gaps.{free_same}
 use Rattle.pa_cells.specs.declared.handle.Handle.{Handle}
 use Rattle.pa_op_specs.specs.Stocks.{StockValue, WorkerLists}
-use Rattle.pa_op_specs.proofs.Entered.{TellsOf}
+use Rattle.pa_op_specs.proofs.Entered.{TellsOf, Entering}
 use Rattle.pa_op_specs.proofs.Seeing.{made_kept}
 use Rattle.pa_op_specs.proofs.Touching.{Touched, Touches}
 use Rattle.pa_thread_state.specs.Changes.{IsBack}
@@ -54,20 +54,26 @@ touched_relinked stake es v w x re touched = subst (Touched stake es v) (sym re.
       (touched.each e among);
 })
 
+-- what an op made that entered something
+pub entering_relinked : (stake line : ℕ) (es : List Entry) (v w x : View) → Relinked w x → Entering stake line es v w →
+    Entering stake line es v x
+entering_relinked stake line es v w x re entering = subst (Entering stake line es v) (sym re.rest) (record {
+  logs = entering.logs;
+  stakes = entering.stakes;
+  lists = entering.lists;
+  grows = entering.grows;
+  each = λ e among.
+      tells_to line v w (record w { words = x.words; since = record w.since { stored = x.since.stored } }) (λ t. refl) e
+      (entering.each e among);
+})
+
 -- what came before an issue
 pub brings_relinked : (line size : ℕ) (h : Handle) (acts : List RootAct) (es : List Entry) (s : StockValue) (v x : View)
     (cs : WorkerLists) → Relinked v x →
     Bringing line size h acts es s v cs → Bringing line size h acts es s x cs
 brings_relinked line size h acts es s v x cs re brings = subst (λ (y : View). Bringing line size h acts es s y cs) (sym re.rest) (record {
-  entering = record {
-    logs = brings.entering.logs;
-    stakes = brings.entering.stakes;
-    lists = brings.entering.lists;
-    grows = brings.entering.grows;
-    each = λ e among. tells_to line s.view v
-        (record v { words = x.words; since = record v.since { stored = x.since.stored } }) (λ t. refl) e
-        (brings.entering.each e among);
-  };
+  entering = subst (λ (y : View). Entering s.thread line es s.view y) re.rest
+      (entering_relinked s.thread line es s.view v x re brings.entering);
   version = brings.version;
   quiet = brings.quiet;
   uncut = brings.uncut;

@@ -1,15 +1,20 @@
 -- A worker whose returned slots wait in a queue before its lists.
 use Rattle.std.specs.Prelude.{◌≡◌, ◌≢◌, ℕ, List, map, Some, Contains, AllPairs}
+use Rattle.pa_trace.specs.declared.script.Op.{Op}
+use Rattle.pa_record.specs.declared.entry.Answer.{Answer}
 use Rattle.pa_record.specs.declared.numbered.Numbered.{Numbered}
 use Rattle.pa_rules.specs.Sizes.{HasClass}
 use Rattle.pa_delay.specs.Delayed.{Waiting, DelayedRow}
+use Rattle.pa_delay.specs.Queue.{QueueList}
 use Rattle.pa_logs.specs.Told.{ToldRecord}
 use Rattle.pa_cells.specs.declared.handle.Handle.{Handle}
 use Rattle.pa_cells.specs.Handles.{HasSeenMade}
 use Rattle.pa_root.specs.Handing.{numbered_by}
-use Rattle.pa_op_specs.specs.Stocks.{StockValue, listed_in}
+use Rattle.pa_op_specs.specs.Stocks.{StockValue, listed_in, rules_at}
+use Rattle.pa_op_specs.specs.Workers.{WorkerValue}
 use Rattle.pa_op_specs.specs.Outcomes.{Outcome, FitsRun}
-use Rattle.pa_op_specs.specs.Plays.{IsApart}
+use Rattle.pa_op_specs.specs.Owing.{AddsNothing}
+use Rattle.pa_op_specs.specs.Plays.{IsApart, Does, PlaysOne}
 
 -- the slots of a queue, as the rules have them: each at the number that the worker's seat has seen
 abbrev pub waiting_in : StockValue → List Handle → List Numbered
@@ -39,3 +44,24 @@ abbrev pub LeadsDelayed : ℕ → (before : StockValue) → List Handle → (aft
 LeadsDelayed bytes before hs after rest x =
     (o : Outcome) → FitsRun o before.partitions after.view x →
     DelayedRow bytes o.partitions o.roots x.played x.played.answer (lists_and_queue before hs) (lists_and_queue after rest)
+
+-- What an op on this line does if returned slots wait in a queue, with this answer, in whatever phase the line is.
+abbrev pub DoesDelayed : (line : ℕ) → Op → Answer → (before : StockValue) → QueueList → (after : StockValue) → QueueList → Type 0
+DoesDelayed line op answer before queue after rest =
+    (phase : ℕ) → (x : ToldRecord)
+    × (x.played ≡ record { line = line; thread = before.thread; phase = phase; rules = rules_at before; op = op; answer = answer })
+    × Does before after x × AddsNothing x.stretch × LeadsDelayed queue.limit before queue.slots after rest.slots x
+
+-- A worker with a queue plays an op on this line, with this answer, in whatever phase the line is, and its record leads lists and queue.
+abbrev pub PlaysDelayed : (line : ℕ) → Op → Answer → (before : WorkerValue) → QueueList → (after : WorkerValue) → QueueList → Type 0
+PlaysDelayed line op answer before queue after rest =
+    (phase : ℕ) → (x : ToldRecord)
+    × (x.played ≡ record {
+      line = line;
+      thread = before.stock.thread;
+      phase = phase;
+      rules = rules_at before.stock;
+      op = op;
+      answer = answer;
+    })
+    × PlaysOne before after x × LeadsDelayed queue.limit before.stock queue.slots after.stock rest.slots x

@@ -8,6 +8,8 @@ mod allocs;
 mod closing;
 mod copies;
 mod counts;
+mod delayed;
+mod delayed_purge;
 mod exchanges;
 mod frees;
 mod left;
@@ -20,5 +22,4 @@ mod writes;
 
 pub use closing::close;
 pub use left::Left;
-pub use queues::{drain_all, wait_behind};
 pub use worker::Worker;

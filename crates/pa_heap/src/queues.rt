@@ -17,9 +17,9 @@ use pa_slot::OutOfMemory;
 use pa_thread_state::{Heap, Stock};
 use std::sync::Wait;
 
-/// A slot that a step returned comes to the back of the queue, and slots leave at its front while it has too many bytes. A direct map goes
-/// back to its root at once. It runs out of memory only if a slot needs the root.
-pub fn wait_behind<N: Name, R: Wait>(
+// A slot that a step returned comes to the back of the queue, and slots leave at its front while it has too many bytes. A direct map goes
+// back to its root at once. It runs out of memory only if a slot needs the root.
+pub(crate) fn wait_behind<N: Name, R: Wait>(
     stock: &mut Stock<N>,
     rt: &R,
     heap: &Heap<N>,
@@ -86,8 +86,8 @@ fn evict_all<N: Name, R: Wait>(
     Ok(())
 }
 
-/// All slots of the queue leave it for their lists, in order. It runs out of memory only if a slot needs the root.
-pub fn drain_all<N: Name, R: Wait>(
+// All slots of the queue leave it for their lists, in order. It runs out of memory only if a slot needs the root.
+pub(crate) fn drain_all<N: Name, R: Wait>(
     stock: &mut Stock<N>,
     rt: &R,
     heap: &Heap<N>,

@@ -1,27 +1,18 @@
 -- Gives of 16 slots each: batch after batch, and what each is.
-use Rattle.std.proofs.Common.{◌≡◌, ℕ, zero, suc, List, [], ◌∷◌, length, map, drop, filter, refl, ap, subst, inl, inr}
+use Rattle.std.proofs.Common.{◌≡◌, ℕ, List, [], ◌∷◌, length, map, refl, ap, subst, inl, inr}
 use Rattle.std.specs.Prelude.{Contains}
 use Rattle.pa_record.specs.declared.numbered.Numbered.{Numbered}
 use Rattle.pa_record.specs.declared.root.RootAct.{RootAct}
 use Rattle.pa_record.specs.declared.root.RootAct.TheVariants.{Give}
 use Rattle.pa_record.specs.declared.root.RootEntry.{RootEntry}
 use Rattle.pa_lists.proofs.Members.{in_cases, not_in_none, first_in, later_in}
-use Rattle.pa_rules.specs.Caches.{batches, gives}
-use Rattle.pa_logs.specs.Indices.{asks}
+use Rattle.pa_rules.specs.Caches.{gives}
 use Rattle.pa_root.specs.Handing.{root_entry}
 use Rattle.pa_op_specs.proofs.Entered.{acts_in}
 use Rattle.pa_legal.proofs.holders.Records.{in_batches}
 
 pub in_gives : (xs : List Numbered) (act : RootAct) → Contains (gives xs) act → (slots : List Numbered) × (act ≡ Give slots)
 in_gives xs act among = in_batches (length xs) xs act among
-
-batches_ask_none : (line n : ℕ) (xs : List Numbered) → filter asks (map (root_entry line) (batches n xs)) ≡ []
-batches_ask_none line zero xs = refl
-batches_ask_none line (suc n) [] = refl
-batches_ask_none line (suc n) (x ∷ xs) = batches_ask_none line n (drop 16 (x ∷ xs))
-
-pub gives_ask_none : (line : ℕ) (xs : List Numbered) → filter asks (map (root_entry line) (gives xs)) ≡ []
-gives_ask_none line xs = batches_ask_none line (length xs) xs
 
 -- the acts of entries that were made of acts are those
 pub acts_back : (line : ℕ) (acts : List RootAct) → acts_in (map (root_entry line) acts) ≡ acts

@@ -43,7 +43,7 @@ use Rattle.pa_op_specs.specs.Booking.{booked}
 use Rattle.pa_op_specs.specs.Outcomes.{Outcome, ActsAreOf, FitsRun}
 use Rattle.pa_op_specs.specs.Entering.{EntersCells, EntersOwn}
 use Rattle.pa_op_specs.specs.Plays.{Does, LeadsLists, PlaysOne, PlaysAll}
-use Rattle.pa_op_specs.specs.Settling.{lengthened, last_lengthened, settled_worker, SettlingEndsPhase}
+use Rattle.pa_op_specs.specs.Settling.{lengthened, last_lengthened, settled_worker, SettlingEndsPhase, SettlingEndsTurn}
 use Rattle.pa_op_specs.proofs.Stakes.{least_is, can_settle}
 
 -- ---- additions
@@ -389,3 +389,10 @@ pub settling_ends : SettleAllLeaves → SettlingEndsPhase
 settling_ends leaves w v x xs plays is stake =
     let least = least_is v.stock.thread v.stock.view is.stock.stake stake in
     (all_on leaves w v x xs plays least.0 (can_settle v.owed v.stock is.stock.stake stake is.covered), same_records (all_added v.owed) x xs)
+
+pub settling_ends_turn : SettleAllLeaves → SettlingEndsTurn
+settling_ends_turn leaves w v x one is stake =
+    let least = least_is v.stock.thread v.stock.view is.stock.stake stake in (
+      one_on leaves w v x one least.0 (can_settle v.owed v.stock is.stock.stake stake is.covered),
+      λ o fits. fits_back leaves v.owed o w.stock.partitions v.stock.view x fits,
+    )

@@ -1,6 +1,6 @@
 //! What follows of a worker's ops, as laws: calls that do nothing, but have proved clauses.
 ghost use Rattle.pa_op_specs.specs.Following.{PlaysFollow};
-ghost use Rattle.pa_op_specs.specs.Settling.{SettlingEndsPhase};
+ghost use Rattle.pa_op_specs.specs.Settling.{SettlingEndsPhase, SettlingEndsTurn};
 
 use pa_totals::whole_settlings_leave;
 
@@ -14,6 +14,13 @@ pub fn plays_follow()
 /// records. The additions are at the end of the last one's log segment.
 pub fn settlings_end_phases()
     ensures { SettlingEndsPhase }
+{
+    whole_settlings_leave();
+}
+
+/// The same of one op, whatever it did with the worker's lists.
+pub fn settlings_end_turns()
+    ensures { SettlingEndsTurn }
 {
     whole_settlings_leave();
 }

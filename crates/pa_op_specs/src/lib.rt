@@ -9,4 +9,4 @@ mod counts;
 mod laws;
 
 pub use counts::Count;
-pub use laws::{plays_follow, settlings_end_phases};
+pub use laws::{plays_follow, settlings_end_phases, settlings_end_turns};

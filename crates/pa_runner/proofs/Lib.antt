@@ -1,17 +1,17 @@
 mod Opened
 mod Summed
-mod Reported
-mod Tracing
+pub mod Reported
+pub mod Tracing
 mod PlayedLines
 mod MergedRecords
 mod Gathered
 mod Behind
 mod Passing
 mod Coursing
-mod Counted
-mod Printing
+pub mod Counted
+pub mod Printing
+pub mod Gone
 mod Closing
-mod Together
 mod Placed
-mod ReportLines
+pub mod ReportLines
 mod PhaseSteps

@@ -210,15 +210,18 @@ module _ (t : Trace) (i phase : ℕ) (workers : List WorkerValue) (queues : List
           let over = is_over (λ k. subst (λ n. lines_in (rules_of t) t.lines n k ≡ lines_in (rules_of t) (take i t.lines) n k) all
           (all_seen (rules_of t) t.lines i k past ∙ ap (λ n. lines_in (rules_of t) (take i t.lines) n k) (going.here ∙ sym all))) in
           record {
-            course = over.course;
-            ends = passed.ends;
-            count = passed.count ∙ going.many;
-            same_count = count ∙ going.many;
-            ended = subst (λ n. HasEnded t n over.course (worker_in passed.ends) next) (sym all) over.ended;
-            told = still_told;
-            main = subst (λ n. IsMain n next) going.many passed.heard.main;
-            places = over.reported.places ∙ ap (phases_of t.partitions 1) (sym all);
-            right = over.reported.right;
+            gone = record {
+              course = over.course;
+              ends = passed.ends;
+              count = passed.count ∙ going.many;
+              same_count = count ∙ going.many;
+              ended = subst (λ n. HasEnded t n over.course (worker_in passed.ends) next) (sym all) over.ended;
+              told = still_told;
+              main = subst (λ n. IsMain n next) going.many passed.heard.main;
+              places = over.reported.places ∙ ap (phases_of t.partitions 1) (sym all);
+              right = λ l among. (over.reported.right l among).totals;
+            };
+            cached = λ l among. (over.reported.right l among).cached;
           }
 
       -- if another one follows

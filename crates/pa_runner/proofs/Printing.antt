@@ -1,15 +1,15 @@
--- The entries of a legal run's journals have a text: each fill and each give names a slot.
+-- The entries of a run's journals have a text: each fill and each give names a slot.
 use Rattle.std.proofs.Common.{◌≡◌, ℕ, zero, suc, ◌+◌, ◌<◌, Bool, List, [], ◌∷◌, length, get_or, Option, Some, None, sym, ◌∙◌, ap, subst, arith, inl, inr}
 use Rattle.std.specs.Prelude.{Contains, ◌==◌, filter}
 use Rattle.std.specs.List.{AllByRecursion}
 use Rattle.std.proofs.lemmas.Bool.{cases_eq, cases_lt, eq-eqb}
 use Rattle.std.proofs.lemmas.List.Elements.{All-from_get_or, recursion_from_All, Contains-append_cases, Contains-get_or}
 use Rattle.pa_slot.specs.declared.word.Step.{Step}
-use Rattle.pa_trace.specs.declared.script.Trace.{Trace}
 use Rattle.pa_record.specs.declared.entry.Seen.{Seen}
 use Rattle.pa_record.specs.declared.entry.Answer.{Answer}
 use Rattle.pa_record.specs.declared.entry.Answer.TheVariants as answers
 use Rattle.pa_record.specs.declared.numbered.Numbered.{Numbered}
+use Rattle.pa_record.specs.declared.pool.PoolEntry.{PoolEntry}
 use Rattle.pa_record.specs.declared.root.RootEntry.{RootEntry}
 use Rattle.pa_record.specs.declared.root.RootAct.{RootAct}
 use Rattle.pa_record.specs.declared.root.RootAct.TheVariants.{Fill, Map, Full, Purge}
@@ -18,17 +18,15 @@ use Rattle.pa_lists.proofs.Joined.{map_in, filter_in}
 use Rattle.pa_lists.proofs.Members.{not_in_none, in_cases}
 use Rattle.pa_rules.specs.declared.played.Played.{Played}
 use Rattle.pa_rules.specs.Played.{step_of}
-use Rattle.pa_rules.specs.Roots.{Journals}
-use Rattle.pa_rules.specs.Caches.{Cache, acts_of, OnlyActs, FilledFirst, MadeRow, FullRow, ReturnRow, DoneRow, PurgedRow, CacheRow, gives, spilled, unmap_at, purge_acts}
-use Rattle.pa_rules.specs.Told.{Told, records_of}
-use Rattle.pa_rules.specs.Legal.{IsLegalTold}
+use Rattle.pa_rules.specs.Roots.{Journals, AreRoots}
+use Rattle.pa_rules.specs.Caches.{Cache, acts_of, OnlyActs, FilledFirst, MadeRow, FullRow, ReturnRow, DoneRow, PurgedRow, CacheRow, AreCaches, gives, spilled, unmap_at, purge_acts}
 use Rattle.pa_rules.proofs.Batches.{gives_names}
 use Rattle.pa_legal.proofs.holders.Records.{row_of}
 use Rattle.pa_logs.proofs.Filters.{place_at}
 
 -- ---- the acts of gives and of purges
 
-in_purge : (lists : ℕ → List Numbered) (class n : ℕ) (a : RootAct) → Contains (purge_acts lists class n) a → NamesSlots a
+pub in_purge : (lists : ℕ → List Numbered) (class n : ℕ) (a : RootAct) → Contains (purge_acts lists class n) a → NamesSlots a
 in_purge lists class zero a among =
     elim (in_cases Purge a [] among) [ inl e ↦ subst NamesSlots e tt | inr none ↦ absurd (not_in_none a none) ]
 in_purge lists class (suc n) a among = elim (Contains-append_cases (gives (lists class)) (purge_acts lists (class + 1) n) a among) [
@@ -81,37 +79,48 @@ module _ (partitions : ℕ) (roots : Journals) (x : Played) (p : ℕ) (a : RootA
   by_purged slots cache after below (acts, counted, empty) =
       in_purge (cache p) 0 170 a (subst (λ acts. Contains acts a) (acts p below) among)
 
-  by_row : (answer : Answer) (cache after : Cache) → p < partitions → CacheRow partitions roots x answer cache after → NamesSlots a
+  pub by_row : (answer : Answer) (cache after : Cache) → p < partitions → CacheRow partitions roots x answer cache after → NamesSlots a
   by_row (answers.Made seen usable) cache after below row = by_made seen cache after row
   by_row (answers.Done seen) cache after below row = by_done (step_of x.op) seen cache after row
   by_row (answers.Full entry) cache after below row = by_full cache after row
   by_row (answers.Purged slots) cache after below row = by_purged slots cache after below row
   by_row answer cache after below row = absurd (not_none (row.0 p))
 
+-- each act of these records' lines names slots
+abbrev pub ActsName : ℕ → Journals → List Played → Type 0
+ActsName partitions roots ps =
+    (x : Played) (p : ℕ) (a : RootAct) → Contains ps x → p < partitions → Contains (acts_of roots x.line p) a → NamesSlots a
+
+-- so it is if the threads' lists go with the records
+pub acts_named : (partitions : ℕ) (roots : Journals) (ps : List Played) → AreCaches partitions roots ps → ActsName partitions roots ps
+acts_named partitions roots ps caches x p a member below among =
+    let (cache, after, known, row) = row_of partitions roots ps x caches member in
+    by_row partitions roots x p a among x.answer cache after below row
+
 -- ---- all entries
 
--- an entry is of some record's line
-entry_named : (t : Trace) (r : Told) (p : ℕ) (e : RootEntry) → IsLegalTold t r → Contains (r.roots p) e → NamesSlots e.act
-entry_named t r p e legal among = elim (cases_lt p t.partitions) [
-  | inl below ↦
-      let (j, at) = place_at (r.roots p) e among in
-      let (x, of_line, makes) = legal.roots.lines p j e at in
-      let (cache, after, known, row) = row_of t.partitions r.roots (records_of t r) x legal.caches of_line.0 in
-      let on_line : RootEntry → Bool = λ (f : RootEntry). f.line == x.line in
-      let here : Contains (acts_of r.roots x.line p) e.act =
-      map_in (λ (f : RootEntry). f.act) (filter on_line (r.roots p)) e
-      (filter_in on_line (r.roots p) e among (eq-eqb e.line x.line (sym of_line.1))) in
-      by_row t.partitions r.roots x p e.act here x.answer cache after below row
-  | inr past ↦ absurd (not_in_none e (subst (λ es. Contains es e) (legal.roots.none_past p past) among))
-]
+module _ (partitions : ℕ) (ps : List Played) (pools : List PoolEntry) (roots : Journals) (journals : List (List RootEntry))
+    (are : AreRoots partitions ps pools roots) (named : ActsName partitions roots ps) where
+  -- an entry is of some record's line
+  entry_named : (p : ℕ) (e : RootEntry) → Contains (roots p) e → NamesSlots e.act
+  entry_named p e among = elim (cases_lt p partitions) [
+    | inl below ↦
+        let (j, at) = place_at (roots p) e among in
+        let (x, of_line, makes) = are.lines p j e at in
+        let on_line : RootEntry → Bool = λ (f : RootEntry). f.line == x.line in
+        let here : Contains (acts_of roots x.line p) e.act =
+        map_in (λ (f : RootEntry). f.act) (filter on_line (roots p)) e
+        (filter_in on_line (roots p) e among (eq-eqb e.line x.line (sym of_line.1))) in
+        named x p e.act of_line.0 below here
+    | inr past ↦ absurd (not_in_none e (subst (λ es. Contains es e) (are.none_past p past) among))
+  ]
 
-pub journals_named : (t : Trace) (r : Told) (journals : List (List RootEntry)) → IsLegalTold t r →
-    ((p : ℕ) → get_or journals p [] ≡ r.roots p) →
-    AllByRecursion (AllByRecursion (λ (e : RootEntry). NamesSlots e.act)) journals
-journals_named t r journals legal same =
-    let N : RootEntry → Type 0 = λ e. NamesSlots e.act in
-    let each : (p : ℕ) → AllByRecursion N (get_or journals p []) = λ p.
-    recursion_from_All N (get_or journals p [])
-    (λ k d low. entry_named t r p _ legal
-    (subst (λ es. Contains es (get_or (get_or journals p []) k d)) (same p) (Contains-get_or (get_or journals p []) k d low))) in
-    recursion_from_All (AllByRecursion N) journals (All-from_get_or (AllByRecursion N) journals [] (λ p low. each p))
+  pub journals_named : ((p : ℕ) → get_or journals p [] ≡ roots p) →
+      AllByRecursion (AllByRecursion (λ (e : RootEntry). NamesSlots e.act)) journals
+  journals_named same =
+      let N : RootEntry → Type 0 = λ e. NamesSlots e.act in
+      let each : (p : ℕ) → AllByRecursion N (get_or journals p []) = λ p.
+      recursion_from_All N (get_or journals p [])
+      (λ k d low. entry_named p _
+      (subst (λ es. Contains es (get_or (get_or journals p []) k d)) (same p) (Contains-get_or (get_or journals p []) k d low))) in
+      recursion_from_All (AllByRecursion N) journals (All-from_get_or (AllByRecursion N) journals [] (λ p low. each p))

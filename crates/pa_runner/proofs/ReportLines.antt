@@ -36,7 +36,7 @@ module _ (threads : ℕ) (workers others : ℕ → WorkerValue) (same : HaveTheS
       sum_same (λ k. measure (counted_in (workers k).counts p)) (λ k. measure (counted_in (others k).counts p)) threads
       (λ k low. ap (λ (cs : List Count). measure (counted_in cs p)) (same.counts k low))
 
-  left_same : (into out : Count → ℕ) (i j p : ℕ) (seat : View) (tally : Tally) → IsLeftOf into out i j p threads workers seat tally →
+  pub left_same : (into out : Count → ℕ) (i j p : ℕ) (seat : View) (tally : Tally) → IsLeftOf into out i j p threads workers seat tally →
       IsLeftOf into out i j p threads others seat tally
   left_same into out i j p seat tally left = record {
     slots =
@@ -64,14 +64,17 @@ module _ (threads : ℕ) (workers others : ℕ → WorkerValue) (same : HaveTheS
   line_same : (phase : ℕ) (seat : View) (l : ReportLine) → IsLineFor phase threads workers seat l → IsLineFor phase threads others seat l
   line_same phase seat l line = record {
     phase_is = line.phase_is;
-    live = left_same (λ (n : Count). n.issued) (λ (n : Count). n.freed) 0 1 l.partition seat l.live line.live;
-    quarantined = left_same (λ (n : Count). n.entered) (λ (n : Count). n.left) 2 3 l.partition seat l.quarantined line.quarantined;
+    totals = record {
+      live = left_same (λ (n : Count). n.issued) (λ (n : Count). n.freed) 0 1 l.partition seat l.live line.totals.live;
+      quarantined =
+          left_same (λ (n : Count). n.entered) (λ (n : Count). n.left) 2 3 l.partition seat l.quarantined line.totals.quarantined;
+      root = line.totals.root;
+    };
     cached = cached_same l.partition l.cached line.cached;
-    root = line.root;
   }
 
 -- workers that handed their stakes over have the same as before
-told_same : (threads : ℕ) (ends after : List WorkerValue) → HaveTold threads ends after →
+pub told_same : (threads : ℕ) (ends after : List WorkerValue) → HaveTold threads ends after →
     HaveTheSame threads (worker_in after) (worker_in ends)
 told_same threads ends after told = record {
   counts = λ k low. sym (ap (λ (w : WorkerValue). w.counts) (told.told k low));
@@ -83,7 +86,7 @@ told_same threads ends after told = record {
 
 -- ---- one more phase
 
-one_more : (partitions phase n : ℕ) →
+pub one_more : (partitions phase n : ℕ) →
     phases_of partitions phase (n + 1) ≡ phases_of partitions phase n ++ partitions_of (phase + n) 0 partitions
 one_more partitions phase zero = let e : phase ≡ phase + 0 = omega arith in
     append-nil (partitions_of phase 0 partitions) ∙ ap (λ m. partitions_of m 0 partitions) e

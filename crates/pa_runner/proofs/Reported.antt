@@ -22,7 +22,7 @@ use Rattle.pa_thread_state.specs.Censuses.{TellsCensus, HasSameLists}
 use Rattle.pa_op_specs.specs.Workers.{WorkerValue}
 use Rattle.pa_execution.specs.Lines.{IsLeftOf, IsLiveOf, IsQuarantinedOf}
 use Rattle.pa_execution.proofs.Adding.{added_same}
-use Rattle.pa_runner.specs.Reporting.{IsCountedBy, AreCountedBy, IsBalance, IsLineFor, HasAsked, IsReported}
+use Rattle.pa_runner.specs.Reporting.{IsCountedBy, AreCountedBy, IsBalance, IsTotalled, IsLineFor, HasAsked, IsReported}
 
 -- ---- what went in minus what went out
 
@@ -103,17 +103,23 @@ left_still : (into out : Count → ℕ) (i j p threads : ℕ) (workers : ℕ →
 left_still into out i j p threads workers seat next t same left =
     record { slots = left.slots; bytes = (let a = same (4 * p + i) in let b = same (4 * p + j) in let e = left.bytes in omega arith) }
 
+pub totals_still : (threads : ℕ) (workers : ℕ → WorkerValue) (seat next : View) (l : ReportLine) → HasSameLists seat next →
+    ((k : ℕ) → added_in next k ≡ added_in seat k) → IsTotalled threads workers seat l → IsTotalled threads workers next l
+totals_still threads workers seat next l same added totals = record {
+  live = left_still (λ (n : Count). n.issued) (λ (n : Count). n.freed) 0 1 l.partition threads workers seat next l.live added totals.live;
+  quarantined =
+      left_still (λ (n : Count). n.entered) (λ (n : Count). n.left) 2 3 l.partition threads workers seat next l.quarantined added
+      totals.quarantined;
+  root = census_still l.partition (census_of l) seat next same totals.root;
+}
+
 line_still : (phase threads : ℕ) (workers : ℕ → WorkerValue) (seat next : View) (l : ReportLine) → HasSameLists seat next →
     ((k : ℕ) → added_in next k ≡ added_in seat k) →
     IsLineFor phase threads workers seat l → IsLineFor phase threads workers next l
 line_still phase threads workers seat next l same added line = record {
   phase_is = line.phase_is;
-  live = left_still (λ (n : Count). n.issued) (λ (n : Count). n.freed) 0 1 l.partition threads workers seat next l.live added line.live;
-  quarantined =
-      left_still (λ (n : Count). n.entered) (λ (n : Count). n.left) 2 3 l.partition threads workers seat next l.quarantined added
-      line.quarantined;
+  totals = totals_still threads workers seat next l same added line.totals;
   cached = line.cached;
-  root = census_still l.partition (census_of l) seat next same line.root;
 }
 
 one_place : (phase p n : ℕ) → partitions_of phase p (n + 1) ≡ partitions_of phase p n ++ (phase, p + n) ∷ []

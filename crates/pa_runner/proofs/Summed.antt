@@ -2,12 +2,14 @@
 use Rattle.std.proofs.Common.{◌≡◌, ℕ, zero, suc, ◌+◌, ◌*◌, ◌^◌, ◌<◌, ◌≤◌, List, length, get_or, sym, ◌∙◌, ap, subst, arith}
 use Rattle.std.proofs.lemmas.List.{get_or_default}
 use Rattle.std.proofs.lemmas.Nat.{mul-le}
+use Rattle.pa_lists.proofs.Elements.{length_map}
 use Rattle.pa_buckets.specs.Table.{slot_of}
 use Rattle.pa_buckets.proofs.Facts.{IsRow-of}
 use Rattle.pa_record.specs.declared.numbered.Numbered.{Numbered}
 use Rattle.pa_record.specs.declared.report.Tally.{Tally}
 use Rattle.pa_rules.specs.Caches.{listed_slots}
 use Rattle.pa_rules.specs.Report.{listed_bytes}
+use Rattle.pa_root.specs.Handing.{at_number_seen}
 use Rattle.pa_op_specs.specs.declared.counts.Count.{Count}
 use Rattle.pa_op_specs.specs.Counts.{AreOfSteps, counted_in, no_count}
 use Rattle.pa_op_specs.specs.Stocks.{StockValue, IsStock, listed_in, titles_in}
@@ -15,7 +17,6 @@ use Rattle.pa_op_specs.specs.Workers.{WorkerValue, IsWorker}
 use Rattle.pa_execution.specs.Lines.{sum_over, IsCachedBy}
 use Rattle.pa_runner.specs.Phases.{no_worker, worker_in}
 use Rattle.pa_runner.specs.Reporting.{IsCountedBy}
-use Rattle.pa_heap.proofs.Settling.{length_numbered}
 
 sum_more : (f : ℕ → ℕ) (i : ℕ) → sum_over f (i + 1) ≡ f i + sum_over f i
 sum_more f i = let e : i + 1 ≡ suc i = omega arith in ap (sum_over f) e
@@ -98,7 +99,7 @@ short_list : (s : StockValue) (p class : ℕ) → IsStock s → class < 170 → 
 short_list s p class stock low =
     let a = stock.lists.few p class in
     let b = (IsRow-of class low).few_kept in
-    let c = length_numbered s.view (titles_in s.caches p class) in
+    let c = length_map (at_number_seen s.view) (titles_in s.caches p class) in
     omega arith
 
 listed_few : (lists : ℕ → List Numbered) (class n : ℕ) → class + n ≤ 170 → ((k : ℕ) → k < 170 → length (lists k) ≤ 64) →

@@ -8,4 +8,5 @@ pub mod Reporting
 pub mod UnderWay
 pub mod Linked
 pub mod Recorded
+pub mod Gone
 pub mod Whole

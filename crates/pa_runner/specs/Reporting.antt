@@ -28,14 +28,18 @@ pub record IsBalance (p : ℕ) (seat : View) (bytes : ℕ × ℕ) : Type 0 where
   pub live : bytes.0 ≡ added_in seat (4 * p) - added_in seat (4 * p + 1)
   pub quarantined : bytes.1 ≡ added_in seat (4 * p + 2) - added_in seat (4 * p + 3)
 
--- The line is of this phase, and says what the workers counted and have cached,
--- and the totals words and the census of its root, as a seat has seen them.
-pub record IsLineFor (phase threads : ℕ) (workers : ℕ → WorkerValue) (seat : View) (l : ReportLine) : Type 0 where
-  pub phase_is : l.phase ≡ phase
+-- The line says what the workers counted, and the totals words and the census of its root, as a seat has seen them. What it says is cached
+-- is left open.
+pub record IsTotalled (threads : ℕ) (workers : ℕ → WorkerValue) (seat : View) (l : ReportLine) : Type 0 where
   pub live : IsLiveOf l.partition threads workers seat l.live
   pub quarantined : IsQuarantinedOf l.partition threads workers seat l.quarantined
-  pub cached : IsCachedBy l.partition threads workers l.cached
   pub root : TellsCensus l.partition seat (census_of l)
+
+-- The line is of this phase, has these totals, and says what the workers have cached.
+pub record IsLineFor (phase threads : ℕ) (workers : ℕ → WorkerValue) (seat : View) (l : ReportLine) : Type 0 where
+  pub phase_is : l.phase ≡ phase
+  pub totals : IsTotalled threads workers seat l
+  pub cached : IsCachedBy l.partition threads workers l.cached
 
 -- A seat asked roots for their census: it has what it had, with the same logs, and has seen nothing new of any list.
 pub record HasAsked (before after : View) : Type 0 where

@@ -11,6 +11,8 @@ ghost use Rattle.pa_rules.specs.Caches.{SameLists};
 ghost use Rattle.pa_totals.specs.Settled.{none_owed};
 ghost use Rattle.pa_op_specs.specs.Stocks.{IsForThread, listed_in};
 ghost use Rattle.pa_op_specs.specs.Workers.{HasItsStake, worker_with_view};
+ghost use Rattle.pa_op_specs.specs.Plays.{KeepsApart};
+ghost use Rattle.pa_thread_state.specs.Changes.{StaysMade};
 ghost use Rattle.pa_execution.specs.Gathering.{IsMain, HasHeardSome, HasAnswered, told_worker};
 ghost use Rattle.pa_runner.specs.Playing.{CanPlay, IsPlayed};
 ghost use Rattle.pa_runner.specs.Phases.{AreReady, AreReadyFrom, ArePlayed, HaveStakes, HaveTold, HaveNone, HaveHeard, worker_in};
@@ -121,8 +123,8 @@ pub fn tell_all<N: Name>(heap: &Heap<N>, workers: &mut [Worker<N>], seat: &mut S
     }
 }
 
-// A worker hands its stake to the main seat.
-fn tell<N: Name>(heap: &Heap<N>, worker: &mut Worker<N>, seat: &mut Seat)
+/// A worker hands its stake to the main seat.
+pub fn tell<N: Name>(heap: &Heap<N>, worker: &mut Worker<N>, seat: &mut Seat)
     requires region { seat.old.region ≡ N.region }
     requires clean { unclean_of seat.old.view ≡ 0 }
     requires stake { HasItsStake worker.old.stock }
@@ -154,8 +156,9 @@ pub fn hear_all<N: Name>(heap: &Heap<N>, workers: &mut [Worker<N>], seat: &mut S
     }
 }
 
-// A worker gets its stake back from the main seat.
-fn hear<N: Name>(heap: &Heap<N>, worker: &mut Worker<N>, seat: &mut Seat, thread: u32)
+/// A worker gets its stake back from the main seat. What it has free and on no list is so still, at the number that it had seen, and it
+/// has seen what it had of how slots were made.
+pub fn hear<N: Name>(heap: &Heap<N>, worker: &mut Worker<N>, seat: &mut Seat, thread: u32)
     requires region { seat.old.region ≡ N.region }
     requires thread { (worker.old.stock.thread ≡ thread) × (thread < most_threads) }
     requires clean { unclean_of seat.old.view ≡ 0 }
@@ -167,6 +170,8 @@ fn hear<N: Name>(heap: &Heap<N>, worker: &mut Worker<N>, seat: &mut Seat, thread
     ensures heard { worker.new ≡ worker_with_view
         (united worker.old.stock.view (given_after (stake_parcel thread) seat.old.view)) worker.old }
     ensures lists { SameLists (listed_in worker.new.stock) (listed_in worker.old.stock) }
+    ensures apart { KeepsApart worker.old.stock worker.new.stock }
+    ensures made { StaysMade worker.old.stock worker.new.stock }
 {
     let note = heap.region().hand(seat, &[], 0, &[Mark::Stake(thread)]);
     worker.hear(heap, note);

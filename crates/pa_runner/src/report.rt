@@ -137,11 +137,13 @@ fn both(first: Count, second: Count) -> Count
     }
 }
 
-// What the lists of the workers have of a partition.
-fn cached_by<N: Name>(workers: &[Worker<N>], partition: u32) -> Tally
+/// What the lists of the workers have of a partition. Lists are short, so the sums are small.
+pub fn cached_by<N: Name>(workers: &[Worker<N>], partition: u32) -> Tally
     requires partition { partition < most_partitions }
     requires many { length workers.now ≤ most_threads }
-    ensures { IsCachedBy partition (length workers.now) (worker_in workers.now) result }
+    ensures cached { IsCachedBy partition (length workers.now) (worker_in workers.now) result }
+    ensures few { result.slots < 2 ^ 32 }
+    ensures small { result.bytes < 2 ^ 48 }
 {
     let mut sum = NONE;
     for worker in workers {

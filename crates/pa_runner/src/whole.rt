@@ -4,6 +4,8 @@ ghost use Rattle.pa_region.specs.Shares.{byte_word_count};
 ghost use Rattle.pa_region.specs.Start.{first_view};
 ghost use Rattle.pa_trace.specs.Rules.{rules_of};
 ghost use Rattle.pa_trace.specs.Limits.{IsWithinLimits};
+ghost use Rattle.pa_execution.specs.Turns.{Manner};
+ghost use Rattle.pa_runner.specs.Gone.{HasGone, IsMadeOf};
 ghost use Rattle.pa_runner.specs.Whole.{HasPlayed, IsHeldRun};
 
 use crate::gate::Gate;
@@ -83,6 +85,25 @@ pub fn close_run<N: Name>(
     requires played { HasPlayed trace.now workers.items seat.view report.items }
     ensures { IfOk result (λ out. IsHeldRun trace.now out.0 out.1) }
 {
+    slots_stay_seen();
+    close_turns(alloc, trace, heap, workers, seat, report)
+}
+
+/// Closes the heap in which all turns of a trace were played, in whatever manner, and makes the run from what is left.
+pub fn close_turns<N: Name>(
+    alloc: Global,
+    trace: &Trace,
+    heap: Heap<N>,
+    workers: Vec<Worker<N>>,
+    seat: Seat,
+    report: Vec<ReportLine>,
+) -> Result<(Run, Closed), OutOfMemory>
+    requires region { seat.region ≡ N.region }
+    requires long { byte_word_count N.region ≡ 262144 * trace.now.region }
+    requires limits { IsWithinLimits trace.now }
+    requires gone { (way : Manner) × HasGone way trace.now workers.items seat.view report.items }
+    ensures { IfOk result (λ out. IsMadeOf trace.now workers.items seat.view report.items out.0 out.1) }
+{
     let entries = merge_records(alloc, trace.lines.as_slice(), workers.as_slice())?;
     let Left {
         roots,
@@ -91,7 +112,6 @@ pub fn close_run<N: Name>(
         region,
     } = close(heap, workers, seat);
     let roots = Vec::from_array(alloc, roots)?;
-    slots_stay_seen();
     let run = Run {
         entries,
         roots,

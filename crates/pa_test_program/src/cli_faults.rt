@@ -34,11 +34,11 @@ fn reads_of(text: &[u8]) -> u64 {
 fn with_read_refused<R: Threads + Wait + Sync>(
     rt: &R,
     alloc: Global,
-    command: &str,
+    line: &[&str],
     text: &[u8],
     number: u64,
 ) -> Result<Status, Fail> {
-    let line = words(alloc, &[command])?;
+    let line = words(alloc, line)?;
     let mut source = MemSource::new(alloc, text, 7, &[number])?;
     let mut sink = MemSink::new(alloc, 10_000, 1000, &[])?;
     let outcome = run(rt, alloc, &line, &mut source, &mut sink, &NoGate);
@@ -52,18 +52,19 @@ fn with_read_refused<R: Threads + Wait + Sync>(
 fn each_read_that_fails_leaves_nothing_written(rt: HostRuntime) -> Result<(), Fail> {
     let mut judged = Vec::from_slice(rt.alloc(), TRACE)?;
     judged.extend_from_slice(TEXT)?;
-    let inputs: [(&str, &[u8]); 6] = [
-        ("replay", TWO),
-        ("model", TWO),
-        ("audit", judged.as_slice()),
-        ("dangling", FREED_AGAIN),
-        ("resize", SCRIPT),
-        ("verdicts", SCRIPT),
+    let inputs: [(&[&str], &[u8]); 7] = [
+        (&["replay"], TWO),
+        (&["model"], TWO),
+        (&["delay", "16"], TWO),
+        (&["audit"], judged.as_slice()),
+        (&["dangling"], FREED_AGAIN),
+        (&["resize"], SCRIPT),
+        (&["verdicts"], SCRIPT),
     ];
-    for (command, text) in inputs {
+    for (line, text) in inputs {
         for number in 0..reads_of(text) {
             assert!(rt;
-                with_read_refused(&rt, rt.alloc(), command, text, number)? == Status::ReadFault
+                with_read_refused(&rt, rt.alloc(), line, text, number)? == Status::ReadFault
             );
         }
     }
@@ -126,9 +127,10 @@ fn writes_fail<R: Threads + Wait + Sync>(
 fn each_write_that_fails_leaves_a_first_part(rt: HostRuntime) -> Result<(), Fail> {
     let mut judged = Vec::from_slice(rt.alloc(), TRACE)?;
     judged.extend_from_slice(TEXT)?;
-    let rows: [(&[&str], &[u8]); 10] = [
+    let rows: [(&[&str], &[u8]); 11] = [
         (&["replay"], TRACE),
         (&["model"], TRACE),
+        (&["delay", "16"], TRACE),
         (&["audit"], judged.as_slice()),
         (&["dangling"], FREED_AGAIN),
         (&["resize"], SCRIPT),

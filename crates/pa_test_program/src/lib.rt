@@ -8,6 +8,8 @@ mod cli_audit;
 #[cfg(test)]
 mod cli_dangling;
 #[cfg(test)]
+mod cli_delay;
+#[cfg(test)]
 mod cli_faults;
 #[cfg(test)]
 mod cli_gate;

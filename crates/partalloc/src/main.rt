@@ -6,7 +6,7 @@ ghost use Rattle.std.specs.Prelude.{◌≡◌};
 ghost use Rattle.std.specs.Process.{exit_status};
 ghost use Rattle.pa_cli.specs.StatusText.{status_number};
 
-use pa_cli::{Status, plays_threads, run, run_alone};
+use pa_cli::{Status, plays_in_region, run, run_alone};
 use pa_io::{StdSink, StdSource};
 use pa_runner::NoGate;
 use std::env::Env;
@@ -26,7 +26,7 @@ fn main(rt: HostRuntime) -> ExitCode {
     let mut source = StdSource::new(rt.stdin());
     let mut sink = StdSink::new(rt.stdout());
     let line = words.as_slice();
-    let status = if plays_threads(line) {
+    let status = if plays_in_region(line) {
         run(&rt, rt.alloc(), line, &mut source, &mut sink, &NoGate).status
     } else {
         run_alone(rt.alloc(), line, &mut source, &mut sink)

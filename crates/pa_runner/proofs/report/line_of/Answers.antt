@@ -11,9 +11,12 @@ returns-clause-right g c seat tells balance =
     let counted = c.counted_by-count in
     record {
       phase_is = refl;
-      live = live_by p threads workers seat counted.result c.args.bytes c.left_of.result counted.ensures balance c.left_of.ensures;
-      quarantined =
-          quarantined_by p threads workers seat counted.result c.args.bytes c.left_of-2.result counted.ensures balance c.left_of-2.ensures;
-      cached = c.cached_by.ensures;
-      root = tells;
+      totals = record {
+        live = live_by p threads workers seat counted.result c.args.bytes c.left_of.result counted.ensures balance c.left_of.ensures;
+        quarantined =
+            quarantined_by p threads workers seat counted.result c.args.bytes c.left_of-2.result counted.ensures balance
+            c.left_of-2.ensures;
+        root = tells;
+      };
+      cached = c.cached_by.ensures.cached;
     }
