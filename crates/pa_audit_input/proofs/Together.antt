@@ -1,4 +1,4 @@
--- The text of a trace, and after it that of a legal run of it, are a legal input.
+-- The text of a trace, and after it that of a run, are an input of both, and a legal one if the run is.
 use Rattle.std.proofs.Common.{◌≡◌, ◌∙◌, ℕ, ◌≤◌, List, [], ◌∷◌, ◌++◌, codes, length, refl, sym, ap, subst, append_assoc, arith}
 use Rattle.std.specs.List.{AllByRecursion}
 use Rattle.pa_text.specs.Numeral.{IsNumeral}
@@ -14,7 +14,7 @@ use Rattle.pa_trace.proofs.Cuts.{cut_lines, no_lines, line_line, head_line}
 use Rattle.pa_record.specs.declared.run.Run.{Run}
 use Rattle.pa_record.specs.RunText.{IsRunText}
 use Rattle.pa_rules.specs.Legal.{IsLegal}
-use Rattle.pa_audit_input.specs.Input.{most_audited, run_line, IsParted}
+use Rattle.pa_audit_input.specs.Input.{most_audited, run_line, IsAudited, IsParted}
 use Rattle.pa_audit_input.specs.Judged.{IsLegalOf, IsLegalInput}
 use Rattle.pa_audit_input.proofs.Cutting.{text_begins}
 
@@ -80,21 +80,22 @@ trace_parted t r front back traced printed =
 
 -- ---- the input
 
+pub input_of_both : (t : Trace) (r : Run) (front back : List ℕ) → IsInput t front → IsRunText r back →
+    length (front ++ back) ≤ most_audited → IsAudited t r (length (lines_of front)) (front ++ back)
+input_of_both t r front back input printed short = record {
+  front = front;
+  back = back;
+  parted = trace_parted t r front back input.text printed;
+  trace = input;
+  run = printed;
+  count = refl;
+  short = short;
+}
+
 pub together : (t : Trace) (r : Run) (front back : List ℕ) → IsInput t front → IsRunText r back → IsLegal t r
     → length (front ++ back) ≤ most_audited → IsLegalOf t r (front ++ back)
-together t r front back input printed legal short = record {
-  lines = length (lines_of front);
-  input = record {
-    front = front;
-    back = back;
-    parted = trace_parted t r front back input.text printed;
-    trace = input;
-    run = printed;
-    count = refl;
-    short = short;
-  };
-  legal = legal;
-}
+together t r front back input printed legal short =
+    record { lines = length (lines_of front); input = input_of_both t r front back input printed short; legal = legal }
 
 -- a legal run of a trace is a legal input
 pub legal_input : (t : Trace) (r : Run) (bytes : List ℕ) → IsLegalOf t r bytes → IsLegalInput bytes

@@ -28,7 +28,7 @@ use Rattle.pa_audit_input.specs.Judged.{IsVerdictOn}
 use Rattle.pa_audit_input.proofs.Parting.{one_parting}
 use Rattle.pa_rules.proofs.SameTold.{same_lists}
 
-same_told : (a b : Run) → IsSameRun a b → told_by a ≡ told_by b
+pub same_told : (a b : Run) → IsSameRun a b → told_by a ≡ told_by b
 same_told a b h = same_lists (told_by a) (told_by b) h.entries (fun_ext h.roots) h.pool (fun_ext h.cells) h.report
 
 module _ {A : Type 0} where
@@ -160,10 +160,10 @@ module _ (bytes : List ℕ) (t u : Trace) (a b : Run) (m n : ℕ) (h : IsAudited
   parts : (h.front ≡ k.front) × (h.back ≡ k.back)
   parts = one_parting h.front h.back k.front k.back bytes h.parted k.parted
 
-  one_input_trace : t ≡ u
+  pub one_input_trace : t ≡ u
   one_input_trace = same_trace t u (one_trace t u k.front (subst (IsTraceText t) parts.0 h.trace.text) k.trace.text)
 
-  one_input_run : IsSameRun a b
+  pub one_input_run : IsSameRun a b
   one_input_run = one_run a b k.back (subst (IsRunText a) parts.1 h.run) k.run
 
   one_input_lines : m ≡ n

@@ -1,5 +1,5 @@
 -- What is proved of the texts of `replay`, `model`, `delay` and `resize`, and of the answers.
-use Rattle.std.specs.Prelude.{◌≡◌, ℕ, ◌<◌, ◌≤◌, ◌⊎◌, List, ◌++◌, length}
+use Rattle.std.specs.Prelude.{◌≡◌, ℕ, ◌<◌, ◌≤◌, ◌⊎◌, ◌↔◌, List, ◌++◌, length}
 use Rattle.pa_trace.specs.declared.script.Trace.{Trace}
 use Rattle.pa_trace.specs.Limits.{IsInput, IsWithinLimits}
 use Rattle.pa_record.specs.declared.run.Run.{Run}
@@ -27,6 +27,13 @@ abbrev pub DelayOfNothingPrintsAsModel : Type 0
 DelayOfNothingPrintsAsModel =
     (t : Trace) (run : Run) (words delayed modelled : List ℕ) → IsWithinLimits t → IsDelayedText 0 t run words delayed
     → IsModelText t modelled → delayed ≡ modelled
+
+-- a trace with what `delay` prints of it is an input that `audit` calls legal, if it isn't too long for one, exactly where that is what
+-- `model` prints of it
+abbrev pub DelayedIsLegalAsModelled : Type 0
+DelayedIsLegalAsModelled =
+    (bytes : ℕ) (t : Trace) (run : Run) (words front delayed modelled : List ℕ) → IsInput t front → IsDelayedText bytes t run words delayed
+    → IsModelText t modelled → length (front ++ delayed) ≤ most_audited → IsLegalInput (front ++ delayed) ↔ (delayed ≡ modelled)
 
 -- what `resize` prints is an input that `audit` calls legal, if it isn't too long for one
 abbrev pub ResizedIsLegalInput : Type 0

@@ -1,5 +1,5 @@
 ghost use Rattle.pa_cli.specs.Laws.{OneThreadPrintsAsModel, ResizedIsLegalInput, ModelledIsLegalInput, ReplayedIsLegalInput};
-ghost use Rattle.pa_cli.specs.Laws.{DelayOfNothingPrintsAsModel, OnlyAuditRefutes, AReadFaultComesFirst};
+ghost use Rattle.pa_cli.specs.Laws.{DelayOfNothingPrintsAsModel, DelayedIsLegalAsModelled, OnlyAuditRefutes, AReadFaultComesFirst};
 
 use pa_one_run::one_file_run;
 use pa_record::one_run_for_a_text;
@@ -19,6 +19,12 @@ pub fn delay_of_nothing_prints_as_model()
     one_file_run();
     one_run_for_a_text();
 }
+
+/// A trace with what `delay` prints of it is an input that `audit` calls legal exactly where that is what `model` prints of it, if it is
+/// no more bytes than an input may have.
+pub fn delayed_runs_are_legal_as_modelled()
+    ensures { DelayedIsLegalAsModelled }
+{}
 
 /// What `resize` prints is an input that `audit` calls legal, and so is a trace with what `model` or `replay` prints of it, if these are
 /// no more bytes than an input may have.

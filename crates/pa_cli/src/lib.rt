@@ -20,8 +20,8 @@ mod top;
 pub use alone::run_alone;
 pub use command::plays_in_region;
 pub use laws::{
-    a_read_fault_comes_first, delay_of_nothing_prints_as_model, one_thread_prints_as_model,
-    only_audit_refutes, printed_runs_are_legal_inputs,
+    a_read_fault_comes_first, delay_of_nothing_prints_as_model, delayed_runs_are_legal_as_modelled,
+    one_thread_prints_as_model, only_audit_refutes, printed_runs_are_legal_inputs,
 };
 pub use outcome::Outcome;
 pub use status::Status;

@@ -10,6 +10,7 @@ use Rattle.pa_lists.proofs.Members.{not_in_none, in_cases, first_in, later_in}
 use Rattle.pa_region.specs.declared.view.View.{View}
 use Rattle.pa_logs.proofs.Due.{place_is}
 use Rattle.pa_runner.specs.Reporting.{IsLineFor, IsReported}
+use Rattle.pa_runner.proofs.Summed.{sum_more}
 use Rattle.pa_record.specs.declared.report.ReportLine.{ReportLine}
 use Rattle.pa_record.specs.declared.report.Tally.{Tally}
 use Rattle.pa_cells.specs.declared.handle.Handle.{Handle}
@@ -30,9 +31,6 @@ use Rattle.pa_delay_runner.specs.Played.{IsDelayedLineFor, IsReportedWith, slots
 sum_both : (f g : ℕ → ℕ) (n : ℕ) → sum_over (λ k. f k + g k) n ≡ sum_over f n + sum_over g n
 sum_both f g zero = omega arith
 sum_both f g (suc n) = let again = sum_both f g n in omega arith
-
-sum_more : (f : ℕ → ℕ) (i : ℕ) → sum_over f (i + 1) ≡ f i + sum_over f i
-sum_more f i = let e : i + 1 ≡ suc i = omega arith in ap (sum_over f) e
 
 -- lists and queues together
 pub cached_with : (p threads : ℕ) (workers : ℕ → WorkerValue) (queues : ℕ → List Handle) (lists waiting : Tally) →

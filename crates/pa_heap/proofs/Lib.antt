@@ -32,6 +32,7 @@ pub mod Fetching
 pub mod Fulling
 pub mod Allocated
 pub mod Stopped
+pub mod Ending
 pub mod Ruling
 pub mod Queued
 pub mod CameBack

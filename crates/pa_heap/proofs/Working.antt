@@ -29,7 +29,7 @@ DoesSome line op answer before after =
     × (x.played ≡ record { line = line; thread = before.thread; phase = phase; rules = rules_at before; op = op; answer = answer })
     × Does before after x × AddsNothing x.stretch
 
-op_some : (line : ℕ) (op : Op) (answer : Answer) (before after : StockValue) → DoesOp line op answer before after →
+pub op_some : (line : ℕ) (op : Op) (answer : Answer) (before after : StockValue) → DoesOp line op answer before after →
     DoesSome line op answer before after
 op_some line op answer before after does phase = let (x, is, done, leads, none) = does phase in (x, is, done, none)
 

@@ -12,8 +12,9 @@ ghost use Rattle.pa_op_specs.specs.Owing.{IsMadeIn};
 ghost use Rattle.pa_op_specs.specs.Plays.{DoesOp, PlaysOp};
 ghost use Rattle.pa_heap.specs.Stopping.{AsksRoot};
 
+use crate::account::enter;
 use crate::counts::{count_step, made, owe_step, owed_none, owned};
-use crate::worker::{Worker, enter};
+use crate::worker::Worker;
 use pa_buckets::{Class, class_in, raw_of};
 use pa_cells::Handle;
 use pa_direct::{GREATEST_SIZE, shape};
@@ -51,15 +52,15 @@ impl<N: Name> Worker<N> {
                 self.stock.kept();
                 let handle = owned(self.stock.register(reg));
                 let seen = made(&answer);
-                count_step(&mut self.counts, Step::Issue, &handle, &seen);
-                owe_step(&mut self.owed, Step::Issue, &handle, &seen);
-                enter(&mut self.records, self.stock.thread(), line, answer);
+                count_step(&mut self.account.counts, Step::Issue, &handle, &seen);
+                owe_step(&mut self.account.owed, Step::Issue, &handle, &seen);
+                enter(&mut self.account.records, self.stock.thread(), line, answer);
                 Ok(answer)
             }
             Err(OutOfMemory) => {
                 self.stock.kept();
-                self.stopped = true;
-                self.owed = owed_none();
+                self.account.stopped = true;
+                self.account.owed = owed_none();
                 Err(OutOfMemory)
             }
         }

@@ -6,7 +6,8 @@ ghost use Rattle.pa_op_specs.specs.Stocks.{HasHandleTo, register_in};
 ghost use Rattle.pa_op_specs.specs.Workers.{HasItsStake, CanPlayOp, KeepsOn};
 ghost use Rattle.pa_op_specs.specs.Plays.{DoesOp, PlaysOp};
 
-use crate::worker::{Worker, enter};
+use crate::account::enter;
+use crate::worker::Worker;
 use pa_cells::Handle;
 use pa_record::Answer;
 use pa_region::{Name, Region, counted_steps_leave};
@@ -22,7 +23,7 @@ impl<N: Name> Worker<N> {
         ensures goes_on { KeepsOn self.old self.new }
     {
         let answer = copy(&mut self.stock, heap.region(), from, to);
-        enter(&mut self.records, self.stock.thread(), line, answer);
+        enter(&mut self.account.records, self.stock.thread(), line, answer);
         answer
     }
 }

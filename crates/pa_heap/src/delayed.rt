@@ -8,9 +8,9 @@ ghost use Rattle.pa_op_specs.specs.Workers.{HasItsStake, CanPlayOp, KeepsOn};
 ghost use Rattle.pa_thread_state.specs.Stopping.{KeepsItsStake};
 ghost use Rattle.pa_heap.specs.Waiting.{DoesDelayed, HoldsQueue, PlaysDelayed};
 
-use crate::counts::{count_step, done, owe_step, owed_none, owned, pointed};
+use crate::counts::{owned, pointed};
 use crate::queues::wait_behind;
-use crate::worker::{Worker, enter};
+use crate::worker::Worker;
 use pa_cells::slots_stay_seen;
 use pa_count::Fate;
 use pa_delay::Delay;
@@ -49,22 +49,11 @@ impl<N: Name> Worker<N> {
     {
         self.stock.kept();
         let handle = owned(self.stock.register(reg));
-        match play_free_delayed(&mut self.stock, rt, heap, queue, line, reg) {
-            Ok(answer) => {
-                let seen = done(&answer);
-                count_step(&mut self.counts, Step::Free, &handle, &seen);
-                owe_step(&mut self.owed, Step::Free, &handle, &seen);
-                enter(&mut self.records, self.stock.thread(), line, answer);
-                Ok(answer)
-            }
-            Err(OutOfMemory) => {
-                self.stock.kept();
-                self.stopped = true;
-                self.owed = owed_none();
-                self.room = self.records.len() as u32;
-                Err(OutOfMemory)
-            }
-        }
+        let ended = play_free_delayed(&mut self.stock, rt, heap, queue, line, reg);
+        self.stock.kept();
+        self.account
+            .end_step(self.stock.thread(), line, Step::Free, &handle, ended);
+        ended
     }
 
     /// A reset of the register's `raw_ptr`, on this line, if returned slots wait in a queue before the worker's lists. A slot of a class
@@ -94,22 +83,11 @@ impl<N: Name> Worker<N> {
     {
         self.stock.kept();
         let handle = pointed(self.stock.register(reg));
-        match play_reset_delayed(&mut self.stock, rt, heap, queue, line, reg) {
-            Ok(answer) => {
-                let seen = done(&answer);
-                count_step(&mut self.counts, Step::Reset, &handle, &seen);
-                owe_step(&mut self.owed, Step::Reset, &handle, &seen);
-                enter(&mut self.records, self.stock.thread(), line, answer);
-                Ok(answer)
-            }
-            Err(OutOfMemory) => {
-                self.stock.kept();
-                self.stopped = true;
-                self.owed = owed_none();
-                self.room = self.records.len() as u32;
-                Err(OutOfMemory)
-            }
-        }
+        let ended = play_reset_delayed(&mut self.stock, rt, heap, queue, line, reg);
+        self.stock.kept();
+        self.account
+            .end_step(self.stock.thread(), line, Step::Reset, &handle, ended);
+        ended
     }
 }
 

@@ -9,9 +9,10 @@ ghost use Rattle.pa_op_specs.specs.Workers.{HasItsStake, CanPlayOp, KeepsOn};
 ghost use Rattle.pa_thread_state.specs.Stopping.{KeepsItsStake};
 ghost use Rattle.pa_heap.specs.Waiting.{HoldsQueue, DoesDelayed, PlaysDelayed};
 
+use crate::account::enter;
 use crate::counts::owed_none;
 use crate::queues::drain_all;
-use crate::worker::{Worker, enter};
+use crate::worker::Worker;
 use pa_cells::slots_stay_seen;
 use pa_delay::Delay;
 use pa_record::Answer;
@@ -46,14 +47,14 @@ impl<N: Name> Worker<N> {
     {
         match purge_waiting(&mut self.stock, rt, heap, queue, line) {
             Ok(answer) => {
-                enter(&mut self.records, self.stock.thread(), line, answer);
+                enter(&mut self.account.records, self.stock.thread(), line, answer);
                 Ok(answer)
             }
             Err(OutOfMemory) => {
                 self.stock.kept();
-                self.stopped = true;
-                self.owed = owed_none();
-                self.room = self.records.len() as u32;
+                self.account.stopped = true;
+                self.account.owed = owed_none();
+                self.account.room = self.account.records.len() as u32;
                 Err(OutOfMemory)
             }
         }

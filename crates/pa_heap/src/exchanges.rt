@@ -8,8 +8,9 @@ ghost use Rattle.pa_thread_state.specs.Exchanging.{IsUndone};
 ghost use Rattle.pa_thread_state.specs.Stopping.{KeepsItsStake};
 ghost use Rattle.pa_op_specs.specs.Plays.{DoesOp, PlaysOp};
 
+use crate::account::enter;
 use crate::counts::owed_none;
-use crate::worker::{Worker, enter};
+use crate::worker::Worker;
 use pa_cells::{givers_lack_handles, takers_have_handles};
 use pa_record::Answer;
 use pa_region::{
@@ -41,13 +42,13 @@ impl<N: Name> Worker<N> {
     {
         match exchange(&mut self.stock, rt, heap, line, cell, reg) {
             Ok(answer) => {
-                enter(&mut self.records, self.stock.thread(), line, answer);
+                enter(&mut self.account.records, self.stock.thread(), line, answer);
                 Ok(answer)
             }
             Err(OutOfMemory) => {
                 self.stock.kept();
-                self.stopped = true;
-                self.owed = owed_none();
+                self.account.stopped = true;
+                self.account.owed = owed_none();
                 Err(OutOfMemory)
             }
         }

@@ -8,8 +8,8 @@ ghost use Rattle.pa_op_specs.specs.Plays.{DoesOp, PlaysOp};
 ghost use Rattle.pa_thread_state.specs.Stopping.{KeepsItsStake};
 ghost use Rattle.pa_heap.specs.Stopping.{StopsFree};
 
-use crate::counts::{count_step, done, owe_step, owed_none, owned};
-use crate::worker::{Worker, enter};
+use crate::counts::owned;
+use crate::worker::Worker;
 use pa_cells::slots_stay_seen;
 use pa_record::Answer;
 use pa_region::{Name, counted_steps_leave, looks_leave, owns_change, states_are_owns};
@@ -40,22 +40,11 @@ impl<N: Name> Worker<N> {
     {
         self.stock.kept();
         let handle = owned(self.stock.register(reg));
-        match play_free(&mut self.stock, rt, heap, line, reg) {
-            Ok(answer) => {
-                let seen = done(&answer);
-                count_step(&mut self.counts, Step::Free, &handle, &seen);
-                owe_step(&mut self.owed, Step::Free, &handle, &seen);
-                enter(&mut self.records, self.stock.thread(), line, answer);
-                Ok(answer)
-            }
-            Err(OutOfMemory) => {
-                self.stock.kept();
-                self.stopped = true;
-                self.owed = owed_none();
-                self.room = self.records.len() as u32;
-                Err(OutOfMemory)
-            }
-        }
+        let ended = play_free(&mut self.stock, rt, heap, line, reg);
+        self.stock.kept();
+        self.account
+            .end_step(self.stock.thread(), line, Step::Free, &handle, ended);
+        ended
     }
 }
 

@@ -4,6 +4,7 @@
 //! annotated record. The run is legal by the laws over all of them.
 #![tactic(auto)]
 
+mod account;
 mod allocs;
 mod closing;
 mod copies;

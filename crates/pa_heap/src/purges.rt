@@ -7,8 +7,9 @@ ghost use Rattle.pa_op_specs.specs.Plays.{DoesOp, PlaysOp};
 ghost use Rattle.pa_thread_state.specs.Stopping.{KeepsItsStake};
 ghost use Rattle.pa_heap.specs.Stopping.{StopsPurge};
 
+use crate::account::enter;
 use crate::counts::owed_none;
-use crate::worker::{Worker, enter};
+use crate::worker::Worker;
 use pa_record::Answer;
 use pa_region::Name;
 use pa_slot::OutOfMemory;
@@ -35,13 +36,13 @@ impl<N: Name> Worker<N> {
     {
         match purge(&mut self.stock, rt, heap, line) {
             Ok(answer) => {
-                enter(&mut self.records, self.stock.thread(), line, answer);
+                enter(&mut self.account.records, self.stock.thread(), line, answer);
                 Ok(answer)
             }
             Err(OutOfMemory) => {
                 self.stock.kept();
-                self.stopped = true;
-                self.owed = owed_none();
+                self.account.stopped = true;
+                self.account.owed = owed_none();
                 Err(OutOfMemory)
             }
         }

@@ -6,7 +6,8 @@ ghost use Rattle.pa_op_specs.specs.Stocks.{HasHandleTo, register_in};
 ghost use Rattle.pa_op_specs.specs.Workers.{HasItsStake, CanPlayOp, KeepsOn};
 ghost use Rattle.pa_op_specs.specs.Plays.{DoesOp, PlaysOp};
 
-use crate::worker::{Worker, enter};
+use crate::account::enter;
+use crate::worker::Worker;
 use pa_cells::Handle;
 use pa_record::Answer;
 use pa_region::{Name, Region, entries_stand_in_logs, looks_leave, owns_change};
@@ -23,7 +24,7 @@ impl<N: Name> Worker<N> {
         ensures goes_on { KeepsOn self.old self.new }
     {
         let answer = deref(&mut self.stock, heap.region(), reg, place);
-        enter(&mut self.records, self.stock.thread(), line, answer);
+        enter(&mut self.account.records, self.stock.thread(), line, answer);
         answer
     }
 }

@@ -1,4 +1,4 @@
-ghost use Rattle.std.specs.Prelude.{◌≡◌, ℕ, ◌+◌, ◌<◌, ◌≤◌, ◌∷◌, ◌++◌, [], length, IfOk, OnOk, OnErr, true, vec_capacity};
+ghost use Rattle.std.specs.Prelude.{◌≡◌, ℕ, ◌<◌, ◌≤◌, length, IfOk};
 ghost use Rattle.pa_buckets.specs.Limits.{class_count};
 ghost use Rattle.pa_trace.specs.Limits.{most_partitions};
 ghost use Rattle.pa_region.specs.Views.{stake_of};
@@ -16,13 +16,13 @@ ghost use Rattle.pa_op_specs.specs.Settling.{settled_worker};
 ghost use Rattle.pa_thread_state.specs.Changes.{StaysMade};
 ghost use Rattle.pa_heap.specs.Closing.{HasTold};
 
+use crate::account::Account;
 use crate::counts::{START, owed_none};
 use pa_op_specs::Count;
-use pa_record::{Answer, Entry, Tally};
+use pa_record::{Entry, Tally};
 use pa_region::{Name, Note};
 use pa_slot::OutOfMemory;
 use pa_thread_state::{Heap, Stock};
-use pa_totals::Owed;
 use pa_trace::MOST_PARTITIONS;
 use std::alloc::Global;
 use std::marker::Model;
@@ -32,28 +32,21 @@ use std::marker::Model;
 #[derive(Drop)]
 pub struct Worker<N: Name> {
     pub(crate) stock: Stock<N>,
-    pub(crate) records: Vec<Entry>,
-    pub(crate) room: u32,
-    pub(crate) stopped: bool,
-    pub(crate) counts: [Count; MOST_PARTITIONS as usize],
-    pub(crate) owed: [Owed; MOST_PARTITIONS as usize],
+    pub(crate) account: Account,
 }
 
 impl<N: Name> Model for Worker<N> {
-    ghost use Rattle.std.specs.Prelude.{◌+◌, ◌≤◌, length, vec_capacity};
-    ghost use Rattle.pa_op_specs.specs.Counts.{AreOfSteps, IsOwedBySteps};
+    ghost use Rattle.std.specs.Prelude.{◌+◌, ◌≤◌, length};
     ghost use Rattle.pa_op_specs.specs.Workers.{WorkerValue, IsCovered};
+    ghost use Rattle.pa_heap.specs.Accounts.{IsAccount, worker_of};
 
     ghost Value = { WorkerValue };
 
-    ghost view = { λ w.
-        record { stock = w.stock; records = w.records.items; room = w.room; stopped = w.stopped; counts = w.counts; owed = w.owed } };
+    ghost view = { λ w. worker_of w.stock w.account };
 
-    ghost invariant = { λ w. (w.room ≤ vec_capacity w.records)
-        × (w.room ≤ length w.records.items + w.stock.view.budget)
-        × AreOfSteps (length w.records.items) w.counts
-        × IsOwedBySteps (length w.records.items) w.owed
-        × IsCovered w.owed w.stock };
+    ghost invariant = { λ w. IsAccount w.account
+        × (w.account.room ≤ length w.account.records.items + w.stock.view.budget)
+        × IsCovered w.account.owed w.stock };
 }
 
 impl<N: Name> Worker<N> {
@@ -78,14 +71,14 @@ impl<N: Name> Worker<N> {
         let records = Vec::with_capacity(alloc, lines as usize)?;
         let stock = Stock::open(alloc, note, thread, partitions, plain_from, version)?;
         stock.kept();
-        Ok(Worker {
-            stock,
+        let account = Account {
             records,
             room: lines,
             stopped: false,
             counts: [START; MOST_PARTITIONS as usize],
             owed: owed_none(),
-        })
+        };
+        Ok(Worker { stock, account })
     }
 
     /// Hands over the worker's stake, with its log and a copy of what the worker has seen.
@@ -122,7 +115,8 @@ impl<N: Name> Worker<N> {
         ensures settled { self.new ≡ settled_worker self.old }
         ensures stake { HasItsStake self.new.stock }
     {
-        self.stock.settle_totals(heap.region(), &mut self.owed);
+        self.stock
+            .settle_totals(heap.region(), &mut self.account.owed);
     }
 
     /// What the worker's type keeps. Its lists are linked in the words that its seat knows. It costs nothing.
@@ -137,14 +131,14 @@ impl<N: Name> Worker<N> {
     pub fn stopped(&self) -> bool
         ensures { result ≡ self.now.stopped }
     {
-        self.stopped
+        self.account.stopped
     }
 
     /// The worker's records so far, in the order of its lines.
     pub fn records(&self) -> &[Entry]
         ensures { result.now ≡ self.now.records }
     {
-        &self.records
+        &self.account.records
     }
 
     // The worker's seat, after it handed its stake over.
@@ -154,14 +148,7 @@ impl<N: Name> Worker<N> {
         ensures same { result.view ≡ self.stock.view }
         ensures host { CanHost result.view }
     {
-        let Worker {
-            stock,
-            records: _,
-            room: _,
-            stopped: _,
-            counts: _,
-            owed: _,
-        } = self;
+        let Worker { stock, account: _ } = self;
         stock.into_note()
     }
 
@@ -169,7 +156,7 @@ impl<N: Name> Worker<N> {
     pub fn counts(&self) -> [Count; MOST_PARTITIONS as usize]
         ensures { result ≡ self.now.counts }
     {
-        self.counts
+        self.account.counts
     }
 
     /// How many slots its lists of a partition have, and their bytes.
@@ -180,17 +167,4 @@ impl<N: Name> Worker<N> {
     {
         self.stock.cached(partition)
     }
-}
-
-// Appends a record, for which there is room.
-pub(crate) fn enter(records: &mut Vec<Entry>, thread: u32, line: u32, answer: Answer)
-    requires { length records.old.items < vec_capacity records.old }
-    ensures items { records.new.items ≡ records.old.items ++ record { line = line; thread = thread; answer = answer } ∷ [] }
-    ensures room { vec_capacity records.new ≡ vec_capacity records.old }
-{
-    records.push_reserved(Entry {
-        line,
-        thread,
-        answer,
-    });
 }

@@ -1,5 +1,5 @@
 -- Additions to totals words at the end of a log segment change nothing of what its record says.
-use Rattle.std.proofs.Common.{◌≡◌, ℕ, ◌+◌, ◌*◌, ◌<◌, Bool, true, false, List, [], ◌∷◌, ◌++◌, map, Option, Some, None, refl, sym, ◌∙◌, ap, subst, arith, inl, inr}
+use Rattle.std.proofs.Common.{◌≡◌, ℕ, zero, suc, ◌+◌, ◌*◌, ◌<◌, Bool, true, false, List, [], ◌∷◌, ◌++◌, map, Option, Some, None, refl, sym, ◌∙◌, ap, subst, arith, inl, inr}
 use Rattle.std.specs.Prelude.{◌==◌, Contains, if◌then◌else◌}
 use Rattle.std.specs.List.{sum_by}
 use Rattle.std.proofs.lemmas.List.{append-nil, append_assoc}
@@ -33,7 +33,7 @@ use Rattle.pa_logs.specs.Said.{ReadsIts}
 use Rattle.pa_logs.specs.Indices.{Enters}
 use Rattle.pa_logs.proofs.Listing.{entered_append}
 use Rattle.pa_totals.specs.declared.owed.Owed.{Owed}
-use Rattle.pa_totals.specs.Settled.{owed_to, owed_at, none_owed, CanSettleAll, after_settle_all, all_added, LeavesSettleAll, SettleAllLeaves}
+use Rattle.pa_totals.specs.Settled.{owed_to, owed_at, none_owed, CanSettleAll, after_settle_all, addition, four_added, all_added, LeavesSettleAll, SettleAllLeaves}
 use Rattle.pa_totals.proofs.Settling.{owed_none, owed_at_none}
 use Rattle.pa_op_specs.specs.Stocks.{StockValue, regs_of}
 use Rattle.pa_step_order.specs.Shapes.{AreAdditions}
@@ -259,9 +259,31 @@ module _ (es : List Entry) (are : AreAdditions es) where
 
 -- ---- an op and the settling after it
 
+one_added : (k bytes : ℕ) → AreAdditions (addition k bytes)
+one_added k zero = tt
+one_added k (suc n) = tt
+
+both_added : (xs ys : List Entry) → AreAdditions xs → AreAdditions ys → AreAdditions (xs ++ ys)
+both_added [] ys first second = second
+both_added (Counted t step found value ∷ xs) ys first second = absurd first
+both_added (Looked t found ∷ xs) ys first second = absurd first
+both_added (Read t place value since owned unclean ∷ xs) ys first second = absurd first
+both_added (Added word bytes ∷ xs) ys first second = both_added xs ys first second
+both_added (Entered keeper made ∷ xs) ys first second = absurd first
+both_added (Uncut t ∷ xs) ys first second = absurd first
+
+four_are_added : (p : ℕ) (o : Owed) → AreAdditions (four_added p o)
+four_are_added p o =
+    both_added (addition (4 * p) o.issued) _ (one_added (4 * p) o.issued)
+    (both_added (addition (4 * p + 1) o.freed) _ (one_added (4 * p + 1) o.freed)
+    (both_added (addition (4 * p + 2) o.entered) _ (one_added (4 * p + 2) o.entered) (one_added (4 * p + 3) o.left)))
+
 module _ (leaves : SettleAllLeaves) (owed : List Owed) where
   added : AreAdditions (all_added owed)
-  added = tt
+  added =
+      both_added (four_added 0 (owed_at owed 0)) _ (four_are_added 0 (owed_at owed 0))
+      (both_added (four_added 1 (owed_at owed 1)) _ (four_are_added 1 (owed_at owed 1))
+      (both_added (four_added 2 (owed_at owed 2)) _ (four_are_added 2 (owed_at owed 2)) (four_are_added 3 (owed_at owed 3))))
 
   fits_back : (o : Outcome) (n : ℕ) (v : View) (x : ToldRecord) → FitsRun o n (after_settle_all owed v) (lengthened (all_added owed) x) →
       FitsRun o n v x

@@ -43,6 +43,7 @@ pub mod ListPart
 pub mod Loading
 pub mod LogPart
 pub mod LookStep
+pub mod Marking
 pub mod Merging
 pub mod MovedRest
 pub mod NamePart

@@ -1,4 +1,4 @@
-ghost use Rattle.std.specs.Prelude.{◌≡◌, ℕ, ◌<◌, ◌≤◌, false, true, not, ◌&&◌, ◌||◌, slice_index_or};
+ghost use Rattle.std.specs.Prelude.{◌≡◌, ℕ, ◌<◌, ◌≤◌, false, true, not, ◌&&◌, ◌||◌, ◌==◌, slice_index_or};
 ghost use Rattle.pa_region.specs.Marks.{names_stake, marked_stake};
 
 /// What is handed over besides items and a budget: the stake, the keeper or the lease with this number.
@@ -12,26 +12,15 @@ pub enum Mark {
 // Which of the 16 stakes a seat has.
 pub(crate) type Stakes = [bool; 16];
 
-// Whether the mark is the stake with this number.
-fn is_stake(mark: Mark, number: u32) -> bool
-    ensures { result ≡ names_stake number mark }
+// The number of the stake that the mark is, or 16 if it is none of the 16.
+fn number_of(mark: Mark) -> usize
+    ensures few { result ≤ 16 }
+    ensures named { (k : ℕ) → k < 16 → names_stake k mark ≡ (result == k) }
 {
     match mark {
-        Mark::Stake(stake) => stake == number,
-        Mark::Keeper(_) | Mark::Lease(_) => false,
+        Mark::Stake(number) if number < 16 => number as usize,
+        Mark::Stake(_) | Mark::Keeper(_) | Mark::Lease(_) => 16,
     }
-}
-
-// Whether the stake with this number is among the marks.
-fn is_marked(marks: &[Mark], number: u32) -> bool
-    ensures { result ≡ marked_stake marks.now number }
-{
-    for i in 0..marks.len() {
-        if is_stake(marks[i], number) {
-            return true;
-        }
-    }
-    false
 }
 
 // The stakes that are marked.
@@ -39,8 +28,11 @@ pub(crate) fn marked(stakes: &Stakes, marks: &[Mark]) -> Stakes
     ensures { (k : ℕ) → k < 16 → slice_index_or result k false ≡ (slice_index_or stakes.now k false && marked_stake marks.now k) }
 {
     let mut has = [false; 16];
-    for k in 0..16 {
-        has[k] = stakes[k] && is_marked(marks, k as u32);
+    for mark in marks {
+        let k = number_of(*mark);
+        if k < 16 {
+            has[k] = stakes[k];
+        }
     }
     has
 }
@@ -49,9 +41,12 @@ pub(crate) fn marked(stakes: &Stakes, marks: &[Mark]) -> Stakes
 pub(crate) fn unmarked(stakes: &Stakes, marks: &[Mark]) -> Stakes
     ensures { (k : ℕ) → k < 16 → slice_index_or result k false ≡ (slice_index_or stakes.now k false && not (marked_stake marks.now k)) }
 {
-    let mut has = [false; 16];
-    for k in 0..16 {
-        has[k] = stakes[k] && !is_marked(marks, k as u32);
+    let mut has = *stakes;
+    for mark in marks {
+        let k = number_of(*mark);
+        if k < 16 {
+            has[k] = false;
+        }
     }
     has
 }
@@ -62,7 +57,7 @@ pub(crate) fn both(stakes: &Stakes, others: &Stakes) -> Stakes
 {
     let mut has = [false; 16];
     for k in 0..16 {
-        has[k] = stakes[k] || others[k];
+        has[k] = stakes[k] | others[k];
     }
     has
 }

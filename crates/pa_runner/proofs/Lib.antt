@@ -1,5 +1,5 @@
 mod Opened
-mod Summed
+pub mod Summed
 pub mod Reported
 pub mod Tracing
 mod PlayedLines

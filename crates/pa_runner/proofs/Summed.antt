@@ -18,7 +18,7 @@ use Rattle.pa_execution.specs.Lines.{sum_over, IsCachedBy}
 use Rattle.pa_runner.specs.Phases.{no_worker, worker_in}
 use Rattle.pa_runner.specs.Reporting.{IsCountedBy}
 
-sum_more : (f : ℕ → ℕ) (i : ℕ) → sum_over f (i + 1) ≡ f i + sum_over f i
+pub sum_more : (f : ℕ → ℕ) (i : ℕ) → sum_over f (i + 1) ≡ f i + sum_over f i
 sum_more f i = let e : i + 1 ≡ suc i = omega arith in ap (sum_over f) e
 
 -- ---- the next worker

@@ -1,7 +1,9 @@
 -- One settling after the other.
 use Rattle.std.proofs.Common.{◌≡◌, ℕ, zero, suc, ◌+◌, ◌*◌, ◌<◌, List, ◌++◌, ◌∙◌, ap, subst, arith}
+use Rattle.std.specs.Prelude.{◌==◌, if◌then◌else◌}
 use Rattle.std.specs.List.{sum_by}
 use Rattle.std.proofs.lemmas.List.{append_assoc}
+use Rattle.std.proofs.lemmas.List.Sums.{sum_by-append}
 use Rattle.pa_region.specs.declared.view.Entry.{Entry}
 use Rattle.pa_region.specs.declared.view.View.{View}
 use Rattle.pa_region.specs.Views.{least_stake}
@@ -9,27 +11,55 @@ use Rattle.pa_region.specs.Takes.{log_of}
 use Rattle.pa_region.specs.Leaves.{AddLeaves}
 use Rattle.pa_region.specs.Totals.{added_to}
 use Rattle.pa_totals.specs.declared.owed.Owed.{Owed}
-use Rattle.pa_totals.specs.Settled.{owed_to, after_settle, four_added, owed_at, CanSettleAll, after_settle_all, all_added, LeavesSettleAll}
-use Rattle.pa_totals.proofs.Settling.{leaves_settle, settles_each}
+use Rattle.pa_totals.specs.Settled.{owed_to, after_settle, addition, four_added, owed_at, CanSettleAll, after_settle_all, all_added, LeavesSettleAll}
+use Rattle.pa_totals.proofs.Settling.{word_added, leaves_settle, settles_each}
+
+-- what a settling of partition p adds to word number k
+abbrev adds_to : ℕ → ℕ → Owed → ℕ
+adds_to k p o =
+    (if 4 * p == k then o.issued else 0) + ((if 4 * p + 1 == k then o.freed else 0)
+    + ((if 4 * p + 2 == k then o.entered else 0) + (if 4 * p + 3 == k then o.left else 0)))
+
+-- the sum over four lists, one after the other
+sum_four : (f : Entry → ℕ) (xs ys zs ws : List Entry) (x y z w : ℕ) → sum_by f xs ≡ x → sum_by f ys ≡ y → sum_by f zs ≡ z →
+    sum_by f ws ≡ w → sum_by f (xs ++ (ys ++ (zs ++ ws))) ≡ x + (y + (z + w))
+sum_four f xs ys zs ws x y z w first second third fourth =
+    let a = sum_by-append f xs (ys ++ (zs ++ ws)) in
+    let b = sum_by-append f ys (zs ++ ws) in
+    let c = sum_by-append f zs ws in
+    omega arith
+
+four_adds : (k p : ℕ) (o : Owed) → sum_by (added_to k) (four_added p o) ≡ adds_to k p o
+four_adds k p o =
+    sum_four (added_to k) (addition (4 * p) o.issued) (addition (4 * p + 1) o.freed) (addition (4 * p + 2) o.entered)
+    (addition (4 * p + 3) o.left) _ _ _ _ (word_added k (4 * p) o.issued) (word_added k (4 * p + 1) o.freed)
+    (word_added k (4 * p + 2) o.entered) (word_added k (4 * p + 3) o.left)
+
+sums_to : (k : ℕ) (owed : List Owed) → sum_by (added_to k) (all_added owed) ≡
+    adds_to k 0 (owed_at owed 0) + (adds_to k 1 (owed_at owed 1) + (adds_to k 2 (owed_at owed 2) + adds_to k 3 (owed_at owed 3)))
+sums_to k owed =
+    sum_four (added_to k) (four_added 0 (owed_at owed 0)) (four_added 1 (owed_at owed 1)) (four_added 2 (owed_at owed 2))
+    (four_added 3 (owed_at owed 3)) _ _ _ _ (four_adds k 0 (owed_at owed 0)) (four_adds k 1 (owed_at owed 1))
+    (four_adds k 2 (owed_at owed 2)) (four_adds k 3 (owed_at owed 3))
 
 -- to each word what was owed to it
 all_adds : (owed : List Owed) (p q : ℕ) → p < 4 → q < 4 → sum_by (added_to (4 * p + q)) (all_added owed) ≡ owed_to q (owed_at owed p)
-all_adds owed zero zero a b = omega arith
-all_adds owed zero (suc zero) a b = omega arith
-all_adds owed zero (suc (suc zero)) a b = omega arith
-all_adds owed zero (suc (suc (suc zero))) a b = omega arith
-all_adds owed (suc zero) zero a b = omega arith
-all_adds owed (suc zero) (suc zero) a b = omega arith
-all_adds owed (suc zero) (suc (suc zero)) a b = omega arith
-all_adds owed (suc zero) (suc (suc (suc zero))) a b = omega arith
-all_adds owed (suc (suc zero)) zero a b = omega arith
-all_adds owed (suc (suc zero)) (suc zero) a b = omega arith
-all_adds owed (suc (suc zero)) (suc (suc zero)) a b = omega arith
-all_adds owed (suc (suc zero)) (suc (suc (suc zero))) a b = omega arith
-all_adds owed (suc (suc (suc zero))) zero a b = omega arith
-all_adds owed (suc (suc (suc zero))) (suc zero) a b = omega arith
-all_adds owed (suc (suc (suc zero))) (suc (suc zero)) a b = omega arith
-all_adds owed (suc (suc (suc zero))) (suc (suc (suc zero))) a b = omega arith
+all_adds owed zero zero a b = sums_to 0 owed ∙ omega arith
+all_adds owed zero (suc zero) a b = sums_to 1 owed ∙ omega arith
+all_adds owed zero (suc (suc zero)) a b = sums_to 2 owed ∙ omega arith
+all_adds owed zero (suc (suc (suc zero))) a b = sums_to 3 owed ∙ omega arith
+all_adds owed (suc zero) zero a b = sums_to 4 owed ∙ omega arith
+all_adds owed (suc zero) (suc zero) a b = sums_to 5 owed ∙ omega arith
+all_adds owed (suc zero) (suc (suc zero)) a b = sums_to 6 owed ∙ omega arith
+all_adds owed (suc zero) (suc (suc (suc zero))) a b = sums_to 7 owed ∙ omega arith
+all_adds owed (suc (suc zero)) zero a b = sums_to 8 owed ∙ omega arith
+all_adds owed (suc (suc zero)) (suc zero) a b = sums_to 9 owed ∙ omega arith
+all_adds owed (suc (suc zero)) (suc (suc zero)) a b = sums_to 10 owed ∙ omega arith
+all_adds owed (suc (suc zero)) (suc (suc (suc zero))) a b = sums_to 11 owed ∙ omega arith
+all_adds owed (suc (suc (suc zero))) zero a b = sums_to 12 owed ∙ omega arith
+all_adds owed (suc (suc (suc zero))) (suc zero) a b = sums_to 13 owed ∙ omega arith
+all_adds owed (suc (suc (suc zero))) (suc (suc zero)) a b = sums_to 14 owed ∙ omega arith
+all_adds owed (suc (suc (suc zero))) (suc (suc (suc zero))) a b = sums_to 15 owed ∙ omega arith
 all_adds owed (suc (suc (suc (suc p)))) q a b = absurd (omega arith)
 all_adds owed p (suc (suc (suc (suc q)))) a b = absurd (omega arith)
 
@@ -64,7 +94,8 @@ leaves_all leaves owed v can =
     (ap (λ (l : List Entry). l ++ e2) two ∙ append_assoc (log_of n v) (e0 ++ e1) e2) in
     record {
       least = d.least ∙ l3;
-      log = log4 ∙ (ap (λ (l : List Entry). l ++ e3) three ∙ append_assoc (log_of n v) ((e0 ++ e1) ++ e2) e3);
+      log = log4 ∙ (ap (λ (l : List Entry). l ++ e3) three ∙ (append_assoc (log_of n v) ((e0 ++ e1) ++ e2) e3
+          ∙ ap (λ (l : List Entry). log_of n v ++ l) (append_assoc (e0 ++ e1) e2 e3 ∙ append_assoc e0 e1 (e2 ++ e3))));
       other_logs = λ k ne. d.other_logs k (λ e. ne (e ∙ l3)) ∙
           (c.other_logs k (λ e. ne (e ∙ l2)) ∙ (b.other_logs k (λ e. ne (e ∙ l1)) ∙ a.other_logs k ne));
       stakes = λ k. d.stakes k ∙ (c.stakes k ∙ (b.stakes k ∙ a.stakes k));

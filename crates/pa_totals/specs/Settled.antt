@@ -1,13 +1,16 @@
 -- What a settling adds to the totals words, when a seat may make it, and what was added to a word.
-use Rattle.std.specs.Prelude.{◌≡◌, ℕ, ◌+◌, ◌*◌, ◌<◌, ◌≤◌, ◌==◌, List, [], ◌∷◌, ◌++◌, if◌then◌else◌, slice_index_or}
+use Rattle.std.specs.Prelude.{◌≡◌, ℕ, zero, suc, ◌+◌, ◌*◌, ◌<◌, ◌≤◌, ◌==◌, List, [], ◌∷◌, ◌++◌, if◌then◌else◌, slice_index_or}
 use Rattle.std.specs.List.{sum_by}
 use Rattle.pa_region.specs.declared.view.Entry.{Entry}
 use Rattle.pa_region.specs.declared.view.Entry.TheVariants.{Added}
 use Rattle.pa_region.specs.declared.view.View.{View}
+use Rattle.pa_region.specs.declared.view.Stake.{Stake}
+use Rattle.pa_region.specs.declared.view.Deeds.{Deeds}
+use Rattle.pa_region.specs.Moves.{noted, no_deeds}
 use Rattle.pa_region.specs.Views.{least_stake, stake_of, HasStake, logged_of}
 use Rattle.pa_region.specs.Pairs.{least_log}
 use Rattle.pa_region.specs.Takes.{log_of}
-use Rattle.pa_region.specs.Totals.{owes_as, added_as, added_to, after_add}
+use Rattle.pa_region.specs.Totals.{owes_as, added_as, added_to}
 use Rattle.pa_totals.specs.declared.owed.Owed.{Owed}
 
 -- nothing is owed
@@ -25,21 +28,40 @@ pub record CanSettle (p : ℕ) (o : Owed) (v : View) : Type 0 where
   pub stake : HasStake v
   pub covered : (q : ℕ) → sum_by (added_as q) (least_log v.stakes) + owed_to q o ≤ sum_by (owes_as q) (least_log v.stakes)
 
--- the view after what is owed to partition p was settled: one addition to each of the partition's words, in the order of the kinds
+-- the stakes after this many bytes were added to totals word number k: the least has an entry of it, unless no byte was added
+abbrev pub stakes_with : ℕ → ℕ → List Stake → List Stake
+stakes_with k zero stakes = stakes
+stakes_with k (suc n) stakes = noted (Added k (suc n)) stakes
+
+-- what was done since the last entry, after this many bytes were added
+abbrev pub deeds_after : ℕ → Deeds → Deeds
+deeds_after zero since = since
+deeds_after (suc n) since = no_deeds
+
+-- the view after this many bytes were added to totals word number k: as after an addition, unless no byte was added
+abbrev pub after_owed : ℕ → ℕ → View → View
+after_owed k bytes v = record v { stakes = stakes_with k bytes v.stakes; since = deeds_after bytes v.since }
+
+-- the view after what is owed to partition p was settled: added to the partition's words, in the order of the kinds
 abbrev pub after_settle : ℕ → Owed → View → View
 after_settle p o v =
-    after_add (4 * p + 3) o.left (after_add (4 * p + 2) o.entered (after_add (4 * p + 1) o.freed (after_add (4 * p) o.issued v)))
+    after_owed (4 * p + 3) o.left (after_owed (4 * p + 2) o.entered (after_owed (4 * p + 1) o.freed (after_owed (4 * p) o.issued v)))
 
 -- what was added to word number k, in all logs of the view
 abbrev pub added_in : View → ℕ → ℕ
 added_in v k = logged_of v (added_to k)
 
--- the four additions of a settling of one partition, as entries of a log
+-- an addition to word number k as the entry of a log, none if no byte was added
+abbrev pub addition : ℕ → ℕ → List Entry
+addition k zero = []
+addition k (suc n) = Added k (suc n) ∷ []
+
+-- the additions of a settling of one partition, at most four, as entries of a log
 abbrev pub four_added : ℕ → Owed → List Entry
 four_added p o =
-    Added (4 * p) o.issued ∷ Added (4 * p + 1) o.freed ∷ Added (4 * p + 2) o.entered ∷ Added (4 * p + 3) o.left ∷ []
+    addition (4 * p) o.issued ++ (addition (4 * p + 1) o.freed ++ (addition (4 * p + 2) o.entered ++ addition (4 * p + 3) o.left))
 
--- What a settling of one partition leaves of logs: the least stake's log ends with the four additions,
+-- What a settling of one partition leaves of logs: the least stake's log ends with its additions,
 -- the others are as before, and so are the stakes.
 pub record LeavesSettle (p : ℕ) (o : Owed) (v w : View) : Type 0 where
   pub least : least_stake w.stakes ≡ least_stake v.stakes
@@ -77,13 +99,13 @@ abbrev pub after_settle_all : List Owed → View → View
 after_settle_all owed v =
     after_settle 3 (owed_at owed 3) (after_settle 2 (owed_at owed 2) (after_settle 1 (owed_at owed 1) (after_settle 0 (owed_at owed 0) v)))
 
--- the sixteen additions of a settling of all four partitions, as entries of a log
+-- the additions of a settling of all four partitions, at most sixteen, as entries of a log
 abbrev pub all_added : List Owed → List Entry
 all_added owed =
     four_added 0 (owed_at owed 0) ++ (four_added 1 (owed_at owed 1) ++ (four_added 2 (owed_at owed 2) ++ four_added 3 (owed_at owed 3)))
 
--- What a settling of all four partitions leaves of logs. The least stake's log ends with the sixteen additions, and added no more
--- than it owes. The other logs are as before, and so are the stakes. To each of the sixteen words was added what was owed to it.
+-- What a settling of all four partitions leaves of logs. The least stake's log ends with its additions, and added no more than it owes.
+-- The other logs are as before, and so are the stakes. To each of the sixteen words was added what was owed to it.
 pub record LeavesSettleAll (owed : List Owed) (v w : View) : Type 0 where
   pub least : least_stake w.stakes ≡ least_stake v.stakes
   pub log : log_of (least_stake v.stakes) w ≡ log_of (least_stake v.stakes) v ++ all_added owed

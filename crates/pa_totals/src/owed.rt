@@ -1,5 +1,6 @@
 ghost use Rattle.std.specs.Prelude.{◌≡◌};
-ghost use Rattle.pa_totals.specs.Settled.{CanSettle, nothing_owed, after_settle, CanSettleAll, none_owed, after_settle_all};
+ghost use Rattle.pa_region.specs.Totals.{CanAdd};
+ghost use Rattle.pa_totals.specs.Settled.{CanSettle, nothing_owed, after_owed, after_settle, CanSettleAll, none_owed, after_settle_all};
 
 use pa_region::{Region, Seat, additions_stand_in_logs};
 
@@ -22,16 +23,28 @@ pub fn settle(region: &Region, seat: &mut Seat, partition: u32, owed: &mut Owed)
     ensures settled { owed.new ≡ nothing_owed }
 {
     additions_stand_in_logs();
-    region.add_total(seat, 4 * partition, owed.issued);
-    region.add_total(seat, 4 * partition + 1, owed.freed);
-    region.add_total(seat, 4 * partition + 2, owed.entered);
-    region.add_total(seat, 4 * partition + 3, owed.left);
+    add_owed(region, seat, 4 * partition, owed.issued);
+    add_owed(region, seat, 4 * partition + 1, owed.freed);
+    add_owed(region, seat, 4 * partition + 2, owed.entered);
+    add_owed(region, seat, 4 * partition + 3, owed.left);
     *owed = Owed {
         issued: 0,
         freed: 0,
         entered: 0,
         left: 0,
     };
+}
+
+// Adds so many bytes to the totals word of this number, from 0, by one atomic addition. If they are 0 it does nothing.
+fn add_owed(region: &Region, seat: &mut Seat, word: u32, bytes: u64)
+    requires region { seat.old.region ≡ region.now }
+    requires able { CanAdd word bytes seat.old.view }
+    ensures region { seat.new.region ≡ seat.old.region }
+    ensures view { seat.new.view ≡ after_owed word bytes seat.old.view }
+{
+    if bytes > 0 {
+        region.add_total(seat, word, bytes);
+    }
 }
 
 /// Adds what is owed to the words of all four partitions, one partition after the other. Nothing is owed then.

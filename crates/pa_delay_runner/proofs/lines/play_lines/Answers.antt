@@ -1,4 +1,4 @@
-use Rattle.std.proofs.Common.{◌≤◌, List, length, refl, sym, ◌∙◌, ap, subst, arith}
+use Rattle.std.proofs.Common.{◌≤◌, List, length, refl, sym, ◌∙◌, ap, subst, arith, rules}
 use Rattle.pa_trace.specs.declared.script.Line.{Line}
 use Rattle.pa_trace.specs.declared.script.Line.TheVariants.{Phase}
 use Rattle.pa_delay_runner.proofs.HeadTurn.{steps_begin}
@@ -30,47 +30,22 @@ report_phase-requires-clause-queued g c =
     c.loop-line.seat.view c.loop-line.report.items c.requires.limits
     (played_as c.loop-line.invariant.going refl refl c.deref.ensures.value refl refl)
 
-pub play_turn-requires-clause-thread : goal.play_turn-requires-clause-thread
-play_turn-requires-clause-thread g c =
-    (turn_ready c.args.bytes c.args.trace.now c.loop-line.line-index c.loop-line.phase c.loop-line.workers c.loop-line.queues.items
-    c.loop-line.seat.view c.loop-line.report.items c.requires.limits c.loop-line.invariant.going c.as_slice-line-items.result.now Phase
-    c.as_slice-line-items.ensures c.loop-line-test.true c.in-Do.thread c.in-Do.op c.in-Do.is c.index-workers-k.result
-    c.index_mut.result.now c.index_mut.ensures.value).thread_is
-
-pub play_turn-requires-clause-none : goal.play_turn-requires-clause-none
-play_turn-requires-clause-none g c =
-    (turn_ready c.args.bytes c.args.trace.now c.loop-line.line-index c.loop-line.phase c.loop-line.workers c.loop-line.queues.items
-    c.loop-line.seat.view c.loop-line.report.items c.requires.limits c.loop-line.invariant.going c.as_slice-line-items.result.now Phase
-    c.as_slice-line-items.ensures c.loop-line-test.true c.in-Do.thread c.in-Do.op c.in-Do.is c.index-workers-k.result
-    c.index_mut.result.now c.index_mut.ensures.value).none
-
-pub play_turn-requires-clause-going : goal.play_turn-requires-clause-going
-play_turn-requires-clause-going g c =
-    (turn_ready c.args.bytes c.args.trace.now c.loop-line.line-index c.loop-line.phase c.loop-line.workers c.loop-line.queues.items
-    c.loop-line.seat.view c.loop-line.report.items c.requires.limits c.loop-line.invariant.going c.as_slice-line-items.result.now Phase
-    c.as_slice-line-items.ensures c.loop-line-test.true c.in-Do.thread c.in-Do.op c.in-Do.is c.index-workers-k.result
-    c.index_mut.result.now c.index_mut.ensures.value).going
-
-pub play_turn-requires-clause-limits : goal.play_turn-requires-clause-limits
-play_turn-requires-clause-limits g c =
-    (turn_ready c.args.bytes c.args.trace.now c.loop-line.line-index c.loop-line.phase c.loop-line.workers c.loop-line.queues.items
-    c.loop-line.seat.view c.loop-line.report.items c.requires.limits c.loop-line.invariant.going c.as_slice-line-items.result.now Phase
-    c.as_slice-line-items.ensures c.loop-line-test.true c.in-Do.thread c.in-Do.op c.in-Do.is c.index-workers-k.result
-    c.index_mut.result.now c.index_mut.ensures.value).limits
-
-pub play_turn-requires-clause-room : goal.play_turn-requires-clause-room
-play_turn-requires-clause-room g c =
-    (turn_ready c.args.bytes c.args.trace.now c.loop-line.line-index c.loop-line.phase c.loop-line.workers c.loop-line.queues.items
-    c.loop-line.seat.view c.loop-line.report.items c.requires.limits c.loop-line.invariant.going c.as_slice-line-items.result.now Phase
-    c.as_slice-line-items.ensures c.loop-line-test.true c.in-Do.thread c.in-Do.op c.in-Do.is c.index-workers-k.result
-    c.index_mut.result.now c.index_mut.ensures.value).room
-
-pub play_turn-requires-clause-waits : goal.play_turn-requires-clause-waits
-play_turn-requires-clause-waits g c =
-    (turn_ready c.args.bytes c.args.trace.now c.loop-line.line-index c.loop-line.phase c.loop-line.workers c.loop-line.queues.items
-    c.loop-line.seat.view c.loop-line.report.items c.requires.limits c.loop-line.invariant.going c.as_slice-line-items.result.now Phase
-    c.as_slice-line-items.ensures c.loop-line-test.true c.in-Do.thread c.in-Do.op c.in-Do.is c.index-workers-k.result
-    c.index_mut.result.now c.index_mut.ensures.value).waits
+pub play_turn-requires : goal.play_turn-requires
+play_turn-requires g c =
+    let ready = turn_ready c.args.bytes c.args.trace.now c.loop-line.line-index c.loop-line.phase c.loop-line.workers
+    c.loop-line.queues.items c.loop-line.seat.view c.loop-line.report.items c.requires.limits c.loop-line.invariant.going
+    c.as_slice-line-items.result.now Phase c.as_slice-line-items.ensures c.loop-line-test.true c.in-Do.thread c.in-Do.op c.in-Do.is
+    c.index-workers-k.result c.index_mut.result.now c.index_mut.ensures.value in
+    record {
+      region = search rules;
+      thread = ready.thread_is;
+      seat = search rules;
+      none = ready.none;
+      going = ready.going;
+      limits = ready.limits;
+      room = ready.room;
+      waits = ready.waits;
+    }
 
 pub loop-line-preserved : goal.loop-line-preserved
 loop-line-preserved g c =

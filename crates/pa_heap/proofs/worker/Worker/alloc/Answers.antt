@@ -8,6 +8,7 @@ use Rattle.pa_op_specs.specs.Workers.{WorkerValue, CanPlayOp, KeepsOn, IsCovered
 use Rattle.pa_op_specs.specs.Plays.{PlaysOp}
 use Rattle.pa_op_specs.proofs.Growing.{alloc_less}
 use Rattle.pa_op_specs.proofs.Weighing.{alloc_counts}
+use Rattle.pa_heap.specs.Accounts.{worker_of}
 use Rattle.pa_heap.proofs.Working.{worker_plays, worker_goes_on, counts_by, covered_after}
 use Rattle.pa_totals.specs.declared.owed.Owed.{Owed}
 use Rattle.pa_op_specs.proofs.Stakes.{covered_by_rule}
@@ -17,52 +18,48 @@ use Rattle.pa_heap.proofs.worker.Worker.alloc.Goals as goal
 
 pub invariant_of-self : goal.invariant_of-self
 invariant_of-self g c =
-    let long : length c.enter.new.records.items ≡ length c.self.inside.records.items + 1 =
-    ap length c.enter.ensures.items ∙ length-append c.self.inside.records.items (_ ∷ []) in
+    let long : length c.enter.new.records.items ≡ length c.self.inside.account.records.items + 1 =
+    ap length c.enter.ensures.items ∙ length-append c.self.inside.account.records.items (_ ∷ []) in
     let owes : c.owe_step.new.owed ≡ owed_after steps.Issue (owned_in (register_in c.alloc.new.stock.registers c.args.reg))
-    (made_seen c.in-Ok.answer) c.self.inside.owed =
-    c.owe_step.ensures.owed ∙ ap (λ h. owed_after steps.Issue h c.made-seen.result c.self.inside.owed)
+    (made_seen c.in-Ok.answer) c.self.inside.account.owed =
+    c.owe_step.ensures.owed ∙ ap (λ h. owed_after steps.Issue h c.made-seen.result c.self.inside.account.owed)
     (c.owned-handle.ensures ∙ ap owned_in c.register.ensures)
-    ∙ ap (λ s. owed_after steps.Issue (owned_in (register_in c.alloc.new.stock.registers c.args.reg)) s c.self.inside.owed)
+    ∙ ap (λ s. owed_after steps.Issue (owned_in (register_in c.alloc.new.stock.registers c.args.reg)) s c.self.inside.account.owed)
     c.made-seen.ensures in
     let stake = (subst (λ (z : WorkerValue). CanPlayOp z) (sym c.self.view_is) c.requires.ready).stake in (
-      omega (arith, c.self.invariant.0, c.enter.ensures.room),
+      record {
+        room = omega (arith, c.self.invariant.0.room, c.enter.ensures.room);
+        counts = subst (λ n. AreOfSteps n c.count_step.new.counts) (sym long)
+            (c.count_step.ensures.small (length c.self.inside.account.records.items) c.self.invariant.0.counts);
+        owed = subst (λ n. IsOwedBySteps n c.owe_step.new.owed) (sym long)
+            (c.owe_step.ensures.small (length c.self.inside.account.records.items) c.self.invariant.0.owed);
+      },
       omega (arith, long, c.self.invariant.1, c.alloc.ensures.budget),
-      subst (λ n. AreOfSteps n c.count_step.new.counts) (sym long)
-          (c.count_step.ensures.small (length c.self.inside.records.items) c.self.invariant.2),
-      subst (λ n. IsOwedBySteps n c.owe_step.new.owed) (sym long)
-          (c.owe_step.ensures.small (length c.self.inside.records.items) c.self.invariant.3),
       covered_after c.args.line (ops.Alloc c.args.reg c.args.partition c.args.size) c.in-Ok.answer c.self.inside.stock c.alloc.new.stock
-          c.self.inside.owed c.owe_step.new.owed
+          c.self.inside.account.owed c.owe_step.new.owed
           (owed_after steps.Issue (owned_in (register_in c.alloc.new.stock.registers c.args.reg))
-          (made_seen c.in-Ok.answer) c.self.inside.owed) c.in-Ok.ensures.does owes
-          (λ q. alloc_less q c.args.reg c.in-Ok.answer c.self.inside.owed c.self.invariant.3.count c.requires.reg c.args.partition
-          c.args.size c.self.inside.stock
-          c.alloc.new.stock c.kept.ensures.stock c.in-Ok.ensures.made)
-          stake c.self.invariant.4,
+          (made_seen c.in-Ok.answer) c.self.inside.account.owed) c.in-Ok.ensures.does owes
+          (λ q. alloc_less q c.args.reg c.in-Ok.answer c.self.inside.account.owed c.self.invariant.0.owed.count c.requires.reg
+          c.args.partition c.args.size c.self.inside.stock c.alloc.new.stock c.kept.ensures.stock c.in-Ok.ensures.made)
+          stake c.self.invariant.2,
     )
 
 pub invariant_of-self-in-Err : goal.invariant_of-self-in-Err
 invariant_of-self-in-Err g c = (
-  c.self.invariant.0,
+  record {
+    room = c.self.invariant.0.room;
+    counts = c.self.invariant.0.counts;
+    owed = subst (λ (os : List Owed). IsOwedBySteps (length c.self.inside.account.records.items) os)
+        (sym c.owed_none-self-inside.ensures) (owed_none_by (length c.self.inside.account.records.items));
+  },
   (let same = ap (λ (z : StockValue). z.view.budget) c.in-Err.ensures.same in omega (arith, c.self.invariant.1, same)),
-  c.self.invariant.2,
-  subst (λ (os : List Owed). IsOwedBySteps (length c.self.inside.records.items) os) (sym c.owed_none-self-inside.ensures)
-      (owed_none_by (length c.self.inside.records.items)),
   subst (λ (os : List Owed). IsCovered os c.alloc.new.stock) (sym c.owed_none-self-inside.ensures)
       (covered_by_rule c.alloc.new.stock c.kept-in-Err.ensures.stock.stake c.kept-in-Err.ensures.aware),
 )
 
 pub returns-in-Ok-clause-plays : goal.returns-in-Ok-clause-plays
 returns-in-Ok-clause-plays g c =
-    let w : WorkerValue = record {
-      stock = c.self.inside.stock;
-      records = c.self.inside.records.items;
-      room = c.self.inside.room;
-      stopped = c.self.inside.stopped;
-      counts = c.self.inside.counts;
-      owed = c.self.inside.owed;
-    } in
+    let w : WorkerValue = worker_of c.self.inside.stock c.self.inside.account in
     let counted : c.count_step.new.counts ≡
     counts_after steps.Issue (owned_in (register_in c.alloc.new.stock.registers c.args.reg)) (made_seen c.in-Ok.answer) w.counts =
     c.count_step.ensures.counts ∙ ap (λ h. counts_after steps.Issue h c.made-seen.result w.counts)
@@ -77,8 +74,8 @@ returns-in-Ok-clause-plays g c =
     (record {
       stock = c.alloc.new.stock;
       records = c.enter.new.records.items;
-      room = c.self.inside.room;
-      stopped = c.self.inside.stopped;
+      room = c.self.inside.account.room;
+      stopped = c.self.inside.account.stopped;
       counts = c.count_step.new.counts;
       owed = c.owe_step.new.owed;
     }))
@@ -86,7 +83,7 @@ returns-in-Ok-clause-plays g c =
     (worker_plays c.args.line
     (ops.Alloc c.args.reg c.args.partition c.args.size) c.in-Ok.answer w c.alloc.new.stock c.enter.new.records.items
     c.count_step.new.counts
-    c.owe_step.new.owed c.thread.result c.self.inside.room c.self.inside.stopped
+    c.owe_step.new.owed c.thread.result c.self.inside.account.room c.self.inside.account.stopped
     c.enter.ensures.items c.thread.ensures c.in-Ok.ensures.does
     (counts_by c.args.line (ops.Alloc c.args.reg c.args.partition c.args.size) c.in-Ok.answer w.stock c.alloc.new.stock w.counts
     c.count_step.new.counts
@@ -94,25 +91,17 @@ returns-in-Ok-clause-plays g c =
     w.owed c.owe_step.new.owed
     (owed_after steps.Issue (owned_in (register_in c.alloc.new.stock.registers c.args.reg))
     (made_seen c.in-Ok.answer) w.owed) counted owes
-    (alloc_counts c.args.line c.in-Ok.answer w.stock c.alloc.new.stock w.counts c.self.invariant.2.count w.owed c.self.invariant.3.count
-    c.args.reg c.args.partition
-    c.args.size c.kept.ensures.stock c.requires.reg)))
+    (alloc_counts c.args.line c.in-Ok.answer w.stock c.alloc.new.stock w.counts c.self.invariant.0.counts.count w.owed
+    c.self.invariant.0.owed.count c.args.reg c.args.partition c.args.size c.kept.ensures.stock c.requires.reg)))
 
 pub returns-in-Ok-clause-goes_on : goal.returns-in-Ok-clause-goes_on
 returns-in-Ok-clause-goes_on g c =
-    let w : WorkerValue = record {
-      stock = c.self.inside.stock;
-      records = c.self.inside.records.items;
-      room = c.self.inside.room;
-      stopped = c.self.inside.stopped;
-      counts = c.self.inside.counts;
-      owed = c.self.inside.owed;
-    } in
+    let w : WorkerValue = worker_of c.self.inside.stock c.self.inside.account in
     subst (λ (z : WorkerValue). KeepsOn z (record {
       stock = c.alloc.new.stock;
       records = c.enter.new.records.items;
-      room = c.self.inside.room;
-      stopped = c.self.inside.stopped;
+      room = c.self.inside.account.room;
+      stopped = c.self.inside.account.stopped;
       counts = c.count_step.new.counts;
       owed = c.owe_step.new.owed;
     }))

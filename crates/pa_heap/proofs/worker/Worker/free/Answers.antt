@@ -1,133 +1,44 @@
-use Rattle.std.proofs.Common.{◌≡◌, ◌+◌, List, [], ◌∷◌, length, ◌∙◌, refl, sym, ap, subst, arith}
-use Rattle.std.proofs.lemmas.List.{length-append}
-use Rattle.pa_slot.specs.declared.word.Step.TheVariants as steps
+use Rattle.std.proofs.Common.{◌∙◌, ap, subst}
+use Rattle.std.specs.Prelude.{OnErr}
 use Rattle.pa_trace.specs.declared.script.Op.TheVariants as ops
-use Rattle.pa_op_specs.specs.Counts.{AreOfSteps, IsOwedBySteps, counts_after, owed_after, owned_in, done_seen}
-use Rattle.pa_op_specs.specs.Stocks.{register_in}
-use Rattle.pa_op_specs.specs.Workers.{WorkerValue, CanPlayOp, KeepsOn, IsCovered}
-use Rattle.pa_op_specs.specs.Plays.{PlaysOp}
-use Rattle.pa_op_specs.proofs.Growing.{free_less}
-use Rattle.pa_op_specs.proofs.Weighing.{free_counts}
+use Rattle.pa_op_specs.specs.Counts.{owned_in}
+use Rattle.pa_op_specs.specs.Workers.{WorkerValue}
 use Rattle.pa_thread_state.specs.Stopping.{KeepsItsStake}
-use Rattle.pa_heap.proofs.Working.{worker_plays, worker_goes_on, counts_by, covered_after}
-use Rattle.pa_totals.specs.declared.owed.Owed.{Owed}
-use Rattle.pa_op_specs.proofs.Stakes.{covered_by_rule}
-use Rattle.pa_op_specs.proofs.Counting.{owed_none_by}
 use Rattle.pa_heap.specs.Stopping.{StopsFree}
-use Rattle.pa_heap.proofs.Stopped.{stopped_as}
+use Rattle.pa_heap.proofs.Ending.{free_makes, if_op_some, step_goes_on, step_keeps, step_leaves, step_plays, step_stops}
 use Rattle.pa_heap.proofs.worker.Worker.free.Goals as goal
 
 pub invariant_of-self : goal.invariant_of-self
 invariant_of-self g c =
-    let long : length c.enter.new.records.items ≡ length c.self.inside.records.items + 1 =
-    ap length c.enter.ensures.items ∙ length-append c.self.inside.records.items (_ ∷ []) in
-    let owes : c.owe_step.new.owed ≡ owed_after steps.Free (owned_in (register_in c.self.inside.stock.registers c.args.reg))
-    (done_seen c.in-Ok.answer) c.self.inside.owed =
-    c.owe_step.ensures.owed ∙ ap (λ h. owed_after steps.Free h c.done-seen.result c.self.inside.owed)
-    (c.owned-handle.ensures ∙ ap owned_in c.register.ensures)
-    ∙ ap (λ s. owed_after steps.Free (owned_in (register_in c.self.inside.stock.registers c.args.reg)) s c.self.inside.owed)
-    c.done-seen.ensures in
-    let stake = (subst (λ (z : WorkerValue). CanPlayOp z) (sym c.self.view_is) c.requires.ready).stake in (
-      omega (arith, c.self.invariant.0, c.enter.ensures.room),
-      omega (arith, long, c.self.invariant.1, c.in-Ok.ensures.budget),
-      subst (λ n. AreOfSteps n c.count_step.new.counts) (sym long)
-          (c.count_step.ensures.small (length c.self.inside.records.items) c.self.invariant.2),
-      subst (λ n. IsOwedBySteps n c.owe_step.new.owed) (sym long)
-          (c.owe_step.ensures.small (length c.self.inside.records.items) c.self.invariant.3),
-      covered_after c.args.line (ops.Free c.args.reg) c.in-Ok.answer c.self.inside.stock c.play_free.new.stock c.self.inside.owed
-          c.owe_step.new.owed
-          (owed_after steps.Free (owned_in (register_in c.self.inside.stock.registers c.args.reg))
-          (done_seen c.in-Ok.answer) c.self.inside.owed) c.in-Ok.ensures.does owes
-          (λ q. free_less q c.args.reg c.in-Ok.answer c.self.inside.owed c.self.invariant.3.count c.requires.reg c.self.inside.stock
-          c.kept.ensures.stock)
-          stake c.self.invariant.4,
-    )
+    let makes =
+    free_makes c.args.line c.args.reg c.self.inside.stock c.play_free-ended.new.stock c.self.inside.account c.self.invariant.0
+    c.kept.ensures.stock c.requires.reg (c.owned-handle.ensures ∙ ap owned_in c.register.ensures) c.play_free-ended.result
+    (if_op_some c.args.line (ops.Free c.args.reg) c.self.inside.stock
+    c.play_free-ended.new.stock c.play_free-ended.result c.play_free-ended.ensures.does) in
+    step_keeps c.self.inside.stock c.play_free-ended.new.stock c.self.inside.account c.end_step.new.self
+    c.self.view_is c.play_free-ended.result c.end_step.ensures.ends makes c.play_free-ended.ensures.budget
+    c.self.invariant.1 c.self.invariant.2 c.requires.ready c.kept-2.ensures.stock c.kept-2.ensures.aware c.end_step.ensures.account
 
-pub invariant_of-self-in-Err : goal.invariant_of-self-in-Err
-invariant_of-self-in-Err g c = (
-  omega arith,
-  omega arith,
-  c.self.invariant.2,
-  subst (λ (os : List Owed). IsOwedBySteps (length c.self.inside.records.items) os) (sym c.owed_none-self-inside.ensures)
-      (owed_none_by (length c.self.inside.records.items)),
-  subst (λ (os : List Owed). IsCovered os c.play_free.new.stock) (sym c.owed_none-self-inside.ensures)
-      (covered_by_rule c.play_free.new.stock c.kept-in-Err.ensures.stock.stake c.kept-in-Err.ensures.aware),
-)
-
-pub returns-in-Ok-clause-plays : goal.returns-in-Ok-clause-plays
-returns-in-Ok-clause-plays g c =
-    let w : WorkerValue = record {
-      stock = c.self.inside.stock;
-      records = c.self.inside.records.items;
-      room = c.self.inside.room;
-      stopped = c.self.inside.stopped;
-      counts = c.self.inside.counts;
-      owed = c.self.inside.owed;
-    } in
-    let counted : c.count_step.new.counts ≡
-    counts_after steps.Free (owned_in (register_in w.stock.registers c.args.reg)) (done_seen c.in-Ok.answer) w.counts =
-    c.count_step.ensures.counts ∙ ap (λ h. counts_after steps.Free h c.done-seen.result w.counts)
-    (c.owned-handle.ensures ∙ ap owned_in c.register.ensures)
-    ∙ ap (λ s. counts_after steps.Free (owned_in (register_in w.stock.registers c.args.reg)) s w.counts) c.done-seen.ensures in
-    let owes : c.owe_step.new.owed ≡
-    owed_after steps.Free (owned_in (register_in w.stock.registers c.args.reg)) (done_seen c.in-Ok.answer) w.owed =
-    c.owe_step.ensures.owed ∙ ap (λ h. owed_after steps.Free h c.done-seen.result w.owed)
-    (c.owned-handle.ensures ∙ ap owned_in c.register.ensures)
-    ∙ ap (λ s. owed_after steps.Free (owned_in (register_in w.stock.registers c.args.reg)) s w.owed) c.done-seen.ensures in
-    subst (λ (z : WorkerValue). PlaysOp c.args.line (ops.Free c.args.reg) c.in-Ok.answer z
-    (record {
-      stock = c.play_free.new.stock;
-      records = c.enter.new.records.items;
-      room = c.self.inside.room;
-      stopped = c.self.inside.stopped;
-      counts = c.count_step.new.counts;
-      owed = c.owe_step.new.owed;
-    }))
-    c.self.view_is
-    (worker_plays c.args.line
-    (ops.Free c.args.reg) c.in-Ok.answer w c.play_free.new.stock c.enter.new.records.items c.count_step.new.counts c.owe_step.new.owed
-    c.thread.result c.self.inside.room c.self.inside.stopped
-    c.enter.ensures.items c.thread.ensures c.in-Ok.ensures.does
-    (counts_by c.args.line (ops.Free c.args.reg) c.in-Ok.answer w.stock c.play_free.new.stock w.counts c.count_step.new.counts
-    (counts_after steps.Free (owned_in (register_in w.stock.registers c.args.reg)) (done_seen c.in-Ok.answer) w.counts)
-    w.owed c.owe_step.new.owed
-    (owed_after steps.Free (owned_in (register_in w.stock.registers c.args.reg)) (done_seen c.in-Ok.answer) w.owed) counted owes
-    (free_counts c.args.line c.in-Ok.answer w.stock c.play_free.new.stock w.counts c.self.invariant.2.count w.owed c.self.invariant.3.count
-    c.args.reg c.kept.ensures.stock c.requires.reg)))
-
-pub returns-in-Ok-clause-goes_on : goal.returns-in-Ok-clause-goes_on
-returns-in-Ok-clause-goes_on g c =
-    let w : WorkerValue = record {
-      stock = c.self.inside.stock;
-      records = c.self.inside.records.items;
-      room = c.self.inside.room;
-      stopped = c.self.inside.stopped;
-      counts = c.self.inside.counts;
-      owed = c.self.inside.owed;
-    } in
-    subst (λ (z : WorkerValue). KeepsOn z (record {
-      stock = c.play_free.new.stock;
-      records = c.enter.new.records.items;
-      room = c.self.inside.room;
-      stopped = c.self.inside.stopped;
-      counts = c.count_step.new.counts;
-      owed = c.owe_step.new.owed;
-    }))
-    c.self.view_is
-    (worker_goes_on c.args.line
-    (ops.Free c.args.reg) c.in-Ok.answer w c.play_free.new.stock c.enter.new.records.items c.count_step.new.counts c.owe_step.new.owed _
-    c.enter.ensures.items (subst (λ (z : WorkerValue). CanPlayOp z) (sym c.self.view_is) c.requires.ready)
-    c.in-Ok.ensures.does)
-
-pub returns-in-Err-clause-stake : goal.returns-in-Err-clause-stake
-returns-in-Err-clause-stake g c =
-    subst (λ (z : WorkerValue). KeepsItsStake z.stock c.play_free.new.stock) c.self.view_is c.in-Err.ensures.stake
-
-pub returns-in-Err-clause-left : goal.returns-in-Err-clause-left
-returns-in-Err-clause-left g c =
-    subst (λ (z : WorkerValue). StopsFree c.args.line c.args.reg z.stock c.play_free.new.stock) c.self.view_is c.in-Err.ensures.left
-
-pub returns-in-Err-clause-same : goal.returns-in-Err-clause-same
-returns-in-Err-clause-same g c =
-    stopped_as (λ (w : WorkerValue). c.play_free.new.stock) (λ (w : WorkerValue). length w.records)
-    c.self.view_is refl (let e = c.len.ensures in omega arith) c.owed_none-self-inside.ensures
+pub returns : goal.returns
+returns g c =
+    let makes =
+    free_makes c.args.line c.args.reg c.self.inside.stock c.play_free-ended.new.stock c.self.inside.account c.self.invariant.0
+    c.kept.ensures.stock c.requires.reg (c.owned-handle.ensures ∙ ap owned_in c.register.ensures) c.play_free-ended.result
+    (if_op_some c.args.line (ops.Free c.args.reg) c.self.inside.stock
+    c.play_free-ended.new.stock c.play_free-ended.result c.play_free-ended.ensures.does) in
+    record {
+      plays = step_plays c.self.inside.stock c.play_free-ended.new.stock c.self.inside.account c.end_step.new.self
+          c.self.view_is c.play_free-ended.result c.end_step.ensures.ends makes c.thread.ensures
+          c.play_free-ended.ensures.does;
+      goes_on = step_goes_on c.self.inside.stock c.play_free-ended.new.stock c.self.inside.account c.end_step.new.self
+          c.self.view_is c.play_free-ended.result c.end_step.ensures.ends makes c.requires.ready;
+      stops = step_stops c.play_free-ended.result c.end_step.ensures.ends;
+      stake = subst (λ (w : WorkerValue).
+          OnErr c.play_free-ended.result (KeepsItsStake w.stock c.play_free-ended.new.stock))
+          c.self.view_is c.play_free-ended.ensures.stake;
+      left = subst (λ (w : WorkerValue).
+          OnErr c.play_free-ended.result (StopsFree c.args.line c.args.reg w.stock c.play_free-ended.new.stock))
+          c.self.view_is c.play_free-ended.ensures.left;
+      same = step_leaves c.self.inside.stock c.play_free-ended.new.stock c.self.inside.account c.end_step.new.self
+          c.self.view_is c.play_free-ended.result c.end_step.ensures.ends;
+    }

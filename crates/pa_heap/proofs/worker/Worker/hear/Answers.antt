@@ -10,11 +10,9 @@ use Rattle.pa_heap.proofs.worker.Worker.hear.Goals as goal
 pub invariant_of-self : goal.invariant_of-self
 invariant_of-self g c =
     let budget = ap (λ (z : StockValue). z.view.budget) c.hear.ensures.heard in
-    let settled : c.self.inside.owed ≡ none_owed = ap (λ (z : WorkerValue). z.owed) c.self.view_is ∙ c.requires.settled in (
+    let settled : c.self.inside.account.owed ≡ none_owed = ap (λ (z : WorkerValue). z.owed) c.self.view_is ∙ c.requires.settled in (
       c.self.invariant.0,
       omega (arith, c.self.invariant.1, budget),
-      c.self.invariant.2,
-      c.self.invariant.3,
       subst (λ (os : List Owed). IsCovered os c.hear.new.self) (sym settled)
           (covered_by_rule c.hear.new.self c.kept.ensures.stock.stake c.kept.ensures.aware),
     )

@@ -11,10 +11,12 @@ pub invariant_of-result : goal.invariant_of-result
 invariant_of-result g c =
     let steps = length c.in_ok-records.records.items in
     let budget = ap (λ (v : View). v.budget) c.in_ok-stock.ensures.view in (
-      omega (arith, c.in_ok-records.ensures.capacity),
+      record {
+        room = omega (arith, c.in_ok-records.ensures.capacity);
+        counts = counts_none_by steps;
+        owed = subst (λ (os : List Owed). IsOwedBySteps steps os) (sym c.owed_none.ensures) (owed_none_by steps);
+      },
       omega (arith, c.requires.budget, budget),
-      counts_none_by steps,
-      subst (λ (os : List Owed). IsOwedBySteps steps os) (sym c.owed_none.ensures) (owed_none_by steps),
       subst (λ (os : List Owed). IsCovered os c.in_ok-stock.stock) (sym c.owed_none.ensures)
           (covered_by_rule c.in_ok-stock.stock c.kept.ensures.stock.stake c.kept.ensures.aware),
     )

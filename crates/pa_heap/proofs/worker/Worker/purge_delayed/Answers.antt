@@ -12,6 +12,7 @@ use Rattle.pa_op_specs.proofs.Growing.{at_least}
 use Rattle.pa_op_specs.proofs.Stakes.{covered_by_rule}
 use Rattle.pa_op_specs.proofs.Weighing.{purge_counts}
 use Rattle.pa_thread_state.specs.Stopping.{KeepsItsStake}
+use Rattle.pa_heap.specs.Accounts.{worker_of}
 use Rattle.pa_heap.specs.Waiting.{HoldsQueue, PlaysDelayed}
 use Rattle.pa_heap.proofs.Stopped.{stopped_as}
 use Rattle.pa_heap.proofs.PurgedWaiting.{holds_none}
@@ -28,84 +29,74 @@ purge_waiting-requires-clause-waits g c =
 
 pub invariant_of-self : goal.invariant_of-self
 invariant_of-self g c =
-    let long : length c.enter.new.records.items ≡ length c.self.inside.records.items + 1 =
-    ap length c.enter.ensures.items ∙ length-append c.self.inside.records.items (_ ∷ []) in
+    let long : length c.enter.new.records.items ≡ length c.self.inside.account.records.items + 1 =
+    ap length c.enter.ensures.items ∙ length-append c.self.inside.account.records.items (_ ∷ []) in
     let stake = (subst (λ (z : WorkerValue). CanPlayOp z) (sym c.self.view_is) c.requires.ready).stake in (
-      omega (arith, c.self.invariant.0, c.enter.ensures.room),
+      record {
+        room = omega (arith, c.self.invariant.0.room, c.enter.ensures.room);
+        counts = are_within (length c.self.inside.account.records.items) (length c.enter.new.records.items)
+            c.self.inside.account.counts (omega arith) c.self.invariant.0.counts;
+        owed = owed_within (length c.self.inside.account.records.items) (length c.enter.new.records.items)
+            c.self.inside.account.owed (omega arith) c.self.invariant.0.owed;
+      },
       omega (arith, long, c.self.invariant.1, c.in-Ok.ensures.budget),
-      are_within (length c.self.inside.records.items) (length c.enter.new.records.items) c.self.inside.counts
-          (omega arith) c.self.invariant.2,
-      owed_within (length c.self.inside.records.items) (length c.enter.new.records.items) c.self.inside.owed
-          (omega arith) c.self.invariant.3,
-      some_covered c.args.line ops.Purge c.in-Ok.answer c.self.inside.stock c.purge_waiting.new.stock c.self.inside.owed c.self.inside.owed
-          c.self.inside.owed
+      some_covered c.args.line ops.Purge c.in-Ok.answer c.self.inside.stock c.purge_waiting.new.stock
+          c.self.inside.account.owed c.self.inside.account.owed c.self.inside.account.owed
           (delayed_some c.args.line ops.Purge c.in-Ok.answer c.self.inside.stock c.args.queue.now c.purge_waiting.new.stock
           c.purge_waiting.new.queue c.in-Ok.ensures.does)
           refl
-          (λ q. at_least (owed_in q c.self.inside.owed)
+          (λ q. at_least (owed_in q c.self.inside.account.owed)
           (owed_by q (step_in ops.Purge c.in-Ok.answer) (bytes_stepped c.self.inside.stock.registers ops.Purge c.in-Ok.answer)))
-          stake c.self.invariant.4,
+          stake c.self.invariant.2,
     )
 
 pub invariant_of-self-in-Err : goal.invariant_of-self-in-Err
 invariant_of-self-in-Err g c = (
+  record {
+    room = omega arith;
+    counts = c.self.invariant.0.counts;
+    owed = subst (λ (os : List Owed). IsOwedBySteps (length c.self.inside.account.records.items) os)
+        (sym c.owed_none-self-inside.ensures) (owed_none_by (length c.self.inside.account.records.items));
+  },
   omega arith,
-  omega arith,
-  c.self.invariant.2,
-  subst (λ (os : List Owed). IsOwedBySteps (length c.self.inside.records.items) os) (sym c.owed_none-self-inside.ensures)
-      (owed_none_by (length c.self.inside.records.items)),
   subst (λ (os : List Owed). IsCovered os c.purge_waiting.new.stock) (sym c.owed_none-self-inside.ensures)
       (covered_by_rule c.purge_waiting.new.stock c.kept.ensures.stock.stake c.kept.ensures.aware),
 )
 
 pub returns-in-Ok-clause-plays : goal.returns-in-Ok-clause-plays
 returns-in-Ok-clause-plays g c =
-    let w : WorkerValue = record {
-      stock = c.self.inside.stock;
-      records = c.self.inside.records.items;
-      room = c.self.inside.room;
-      stopped = c.self.inside.stopped;
-      counts = c.self.inside.counts;
-      owed = c.self.inside.owed;
-    } in
+    let w : WorkerValue = worker_of c.self.inside.stock c.self.inside.account in
     subst (λ (z : WorkerValue). PlaysDelayed c.args.line ops.Purge c.in-Ok.answer z c.args.queue.now
     (record {
       stock = c.purge_waiting.new.stock;
       records = c.enter.new.records.items;
-      room = c.self.inside.room;
-      stopped = c.self.inside.stopped;
-      counts = c.self.inside.counts;
-      owed = c.self.inside.owed;
+      room = c.self.inside.account.room;
+      stopped = c.self.inside.account.stopped;
+      counts = c.self.inside.account.counts;
+      owed = c.self.inside.account.owed;
     }) c.purge_waiting.new.queue)
     c.self.view_is
     (worker_delays c.args.line ops.Purge c.in-Ok.answer w c.args.queue.now c.purge_waiting.new.stock c.purge_waiting.new.queue
-    c.enter.new.records.items c.self.inside.counts c.self.inside.owed
-    c.thread.result c.self.inside.room c.self.inside.stopped
+    c.enter.new.records.items c.self.inside.account.counts
+    c.self.inside.account.owed c.thread.result c.self.inside.account.room c.self.inside.account.stopped
     c.enter.ensures.items c.thread.ensures c.in-Ok.ensures.does
-    (purge_counts c.args.line c.in-Ok.answer w.stock c.purge_waiting.new.stock w.counts c.self.invariant.2.count w.owed
-    c.self.invariant.3.count))
+    (purge_counts c.args.line c.in-Ok.answer w.stock c.purge_waiting.new.stock w.counts c.self.invariant.0.counts.count w.owed
+    c.self.invariant.0.owed.count))
 
 pub returns-in-Ok-clause-goes_on : goal.returns-in-Ok-clause-goes_on
 returns-in-Ok-clause-goes_on g c =
-    let w : WorkerValue = record {
-      stock = c.self.inside.stock;
-      records = c.self.inside.records.items;
-      room = c.self.inside.room;
-      stopped = c.self.inside.stopped;
-      counts = c.self.inside.counts;
-      owed = c.self.inside.owed;
-    } in
+    let w : WorkerValue = worker_of c.self.inside.stock c.self.inside.account in
     subst (λ (z : WorkerValue). KeepsOn z (record {
       stock = c.purge_waiting.new.stock;
       records = c.enter.new.records.items;
-      room = c.self.inside.room;
-      stopped = c.self.inside.stopped;
-      counts = c.self.inside.counts;
-      owed = c.self.inside.owed;
+      room = c.self.inside.account.room;
+      stopped = c.self.inside.account.stopped;
+      counts = c.self.inside.account.counts;
+      owed = c.self.inside.account.owed;
     }))
     c.self.view_is
-    (some_goes_on c.args.line ops.Purge c.in-Ok.answer w c.purge_waiting.new.stock c.enter.new.records.items c.self.inside.counts
-    c.self.inside.owed _ c.enter.ensures.items
+    (some_goes_on c.args.line ops.Purge c.in-Ok.answer w c.purge_waiting.new.stock c.enter.new.records.items c.self.inside.account.counts
+    c.self.inside.account.owed _ c.enter.ensures.items
     (subst (λ (z : WorkerValue). CanPlayOp z) (sym c.self.view_is) c.requires.ready)
     (delayed_some c.args.line ops.Purge c.in-Ok.answer c.self.inside.stock c.args.queue.now c.purge_waiting.new.stock
     c.purge_waiting.new.queue c.in-Ok.ensures.does))
