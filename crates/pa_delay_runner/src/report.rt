@@ -1,5 +1,5 @@
 //! The lines of the report at the end of a phase of a run with queues.
-ghost use Rattle.std.specs.Prelude.{◌≡◌, ℕ, ◌+◌, ◌^◌, ◌<◌, ◌≤◌, All, OnOk, length};
+ghost use Rattle.std.specs.Prelude.{◌≡◌, ℕ, ◌^◌, ◌<◌, ◌≤◌, All, OnOk, length};
 ghost use Rattle.pa_record.specs.declared.report.ReportLine.{ReportLine};
 ghost use Rattle.pa_trace.specs.Limits.{most_partitions, most_threads};
 ghost use Rattle.pa_region.specs.Views.{HasEveryStake};
@@ -13,7 +13,7 @@ use pa_delay::Delay;
 use pa_heap::Worker;
 use pa_record::{ReportLine, Tally};
 use pa_region::{Name, Seat};
-use pa_runner::{NoGate, Playing, cached_by};
+use pa_runner::{NO_SLOTS, NoGate, Playing, cached_by};
 use pa_slot::OutOfMemory;
 use pa_thread_state::Heap;
 use pa_trace::Trace;
@@ -89,12 +89,9 @@ fn queued_by(queues: &[Delay], partition: u32) -> Tally
     ensures few { result.slots < 2 ^ 32 }
     ensures small { result.bytes < 2 ^ 48 }
 {
-    let mut sum = NONE;
+    let mut sum = NO_SLOTS;
     for queue in queues {
         sum = sum.and(queue.queued(partition));
     }
     sum
 }
-
-// No slots.
-const NONE: Tally = Tally { slots: 0, bytes: 0 };

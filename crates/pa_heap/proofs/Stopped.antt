@@ -1,14 +1,11 @@
--- Ops that run out of memory: an allocation that asks a root, a purge that purged the first partitions, and what the worker is then.
-use Rattle.std.proofs.Common.{◌≡◌, ℕ, ◌+◌, ◌≤◌, List, [], true, max, sym, ◌∙◌, ap, subst, add-one}
+-- Ops that run out of memory: an allocation that asks a root, and a purge that purged the first partitions.
+use Rattle.std.proofs.Common.{◌≡◌, ℕ, ◌+◌, ◌≤◌, [], max, sym, subst, add-one}
 use Rattle.pa_buckets.specs.Classes.{IsClassIn}
 use Rattle.pa_direct.specs.Shapes.{greatest_size}
 use Rattle.pa_rules.specs.Sizes.{IsMapSize}
 use Rattle.pa_rules.proofs.Versions.{has_no_class}
 use Rattle.pa_rules.proofs.Asking.{class_of_size}
-use Rattle.pa_totals.specs.declared.owed.Owed.{Owed}
-use Rattle.pa_totals.specs.Settled.{none_owed}
 use Rattle.pa_op_specs.specs.Stocks.{StockValue, HasNoHandle, register_in, titles_in}
-use Rattle.pa_op_specs.specs.Workers.{WorkerValue}
 use Rattle.pa_thread_state.specs.Purging.{PurgesRoot}
 use Rattle.pa_heap.specs.Stopping.{AsksRoot, PurgesFirst}
 
@@ -35,16 +32,3 @@ map_asks reg p size s bare direct = record {
 pub purges_one_more : (line n slots : ℕ) (s now next : StockValue) → PurgesFirst line n s now → PurgesRoot line n slots now next →
     PurgesFirst line (n + 1) s next
 purges_one_more line n slots s now next first purges = subst (λ k. PurgesFirst line k s next) (sym (add-one n)) (now, slots, first, purges)
-
--- A worker whose op ran out of memory: its thread state and room are what `stock` and `room` give of the worker as it was, it is stopped
--- and owes nothing, and all else is as before.
-pub stopped_as : (stock : WorkerValue → StockValue) (room : WorkerValue → ℕ) {inside old : WorkerValue} {s : StockValue} {n : ℕ}
-    {os : List Owed} →
-    inside ≡ old → s ≡ stock inside → n ≡ room inside → os ≡ none_owed →
-    record inside { stock = s; room = n; stopped = true; owed = os } ≡
-    record old { stock = stock old; room = room old; stopped = true; owed = none_owed }
-stopped_as stock room {inside} {old} {s} {n} {os} is same fits none =
-    ap (λ (z : StockValue). record inside { stock = z; room = n; stopped = true; owed = os }) same
-    ∙ ap (λ (k : ℕ). record inside { stock = stock inside; room = k; stopped = true; owed = os }) fits
-    ∙ ap (λ (xs : List Owed). record inside { stock = stock inside; room = room inside; stopped = true; owed = xs }) none
-    ∙ ap (λ (w : WorkerValue). record w { stock = stock w; room = room w; stopped = true; owed = none_owed }) is

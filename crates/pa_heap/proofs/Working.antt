@@ -18,7 +18,6 @@ use Rattle.pa_op_specs.specs.Workers.{WorkerValue, HasItsStake, IsCovered, CanPl
 use Rattle.pa_op_specs.specs.Owing.{AddsNothing, bytes_stepped, owed_by}
 use Rattle.pa_op_specs.specs.Plays.{Does, DoesOp, PlaysOne, PlaysOp}
 use Rattle.pa_op_specs.proofs.Booking.{op_books, op_covered}
-use Rattle.pa_op_specs.proofs.Growing.{at_least}
 use Rattle.pa_op_specs.proofs.Weighing.{CountsOp}
 use Rattle.pa_heap.specs.Waiting.{DoesDelayed, PlaysDelayed}
 
@@ -101,13 +100,6 @@ some_goes_on line op answer w after records counts owed e items can does =
       room = refl;
     }
 
-pub worker_goes_on : (line : ℕ) (op : Op) (answer : Answer) (w : WorkerValue) (after : StockValue) (records : List Entry)
-    (counts : List Count)
-    (owed : List Owed) (e : Entry) → records ≡ w.records ++ e ∷ [] → CanPlayOp w → DoesOp line op answer w.stock after →
-    KeepsOn w (record { stock = after; records = records; room = w.room; stopped = w.stopped; counts = counts; owed = owed })
-worker_goes_on line op answer w after records counts owed e items can does =
-    some_goes_on line op answer w after records counts owed e items can (op_some line op answer w.stock after does)
-
 -- the counts, and what is owed, by what the calls say of them
 pub counts_by : (line : ℕ) (op : Op) (answer : Answer) (before after : StockValue) (cs ds es : List Count) (os ps rs : List Owed) →
     ds ≡ es → ps ≡ rs →
@@ -128,18 +120,3 @@ some_covered line op answer before after os ps rs does owes less stake covered =
     (λ q. subst (λ (y : Played). owed_in q rs ≤ owed_in q os + owed_by q (step_by y) (bytes_stepped before.registers y.op y.answer))
     (sym is) (less q))
     stake covered)
-
-pub covered_after : (line : ℕ) (op : Op) (answer : Answer) (before after : StockValue) (os ps rs : List Owed) →
-    DoesOp line op answer before after → ps ≡ rs →
-    ((q : ℕ) → owed_in q rs ≤ owed_in q os + owed_by q (step_in op answer) (bytes_stepped before.registers op answer)) →
-    HasItsStake before → IsCovered os before → IsCovered ps after
-covered_after line op answer before after os ps rs does =
-    some_covered line op answer before after os ps rs (op_some line op answer before after does)
-
--- a worker that owes no more than before may still add it
-pub covered_still : (line : ℕ) (op : Op) (answer : Answer) (before after : StockValue) (os : List Owed) →
-    DoesOp line op answer before after →
-    HasItsStake before → IsCovered os before → IsCovered os after
-covered_still line op answer before after os does stake covered =
-    covered_after line op answer before after os os os does refl
-    (λ q. at_least (owed_in q os) (owed_by q (step_in op answer) (bytes_stepped before.registers op answer))) stake covered

@@ -1,5 +1,5 @@
 //! A worker's allocation.
-ghost use Rattle.std.specs.Prelude.{◌≡◌, ◌+◌, ◌<◌, ◌≤◌, [], max, IfOk, OnOk, OnErr, true};
+ghost use Rattle.std.specs.Prelude.{◌≡◌, ◌+◌, ◌<◌, ◌≤◌, [], max, length, IfOk, OnOk, OnErr, true};
 ghost use Rattle.pa_buckets.specs.Classes.{IsClassIn};
 ghost use Rattle.pa_direct.specs.Shapes.{greatest_size};
 ghost use Rattle.pa_trace.specs.declared.script.Op.TheVariants as ops;
@@ -12,8 +12,7 @@ ghost use Rattle.pa_op_specs.specs.Owing.{IsMadeIn};
 ghost use Rattle.pa_op_specs.specs.Plays.{DoesOp, PlaysOp};
 ghost use Rattle.pa_heap.specs.Stopping.{AsksRoot};
 
-use crate::account::enter;
-use crate::counts::{count_step, made, owe_step, owed_none, owned};
+use crate::counts::owned;
 use crate::worker::Worker;
 use pa_buckets::{Class, class_in, raw_of};
 use pa_cells::Handle;
@@ -28,7 +27,7 @@ use std::sync::Wait;
 impl<N: Name> Worker<N> {
     /// An allocation of this size in a partition, on this line: then the register owns the slot. It waits for the lock of the
     /// partition's root if it needs that, and only then it may run out of memory:
-    /// the worker is stopped then and owes nothing, and all else is as before.
+    /// the worker is stopped then, has no room for more records and owes nothing, and all else is as before.
     pub fn alloc<R: Wait>(
         &mut self,
         rt: &R,
@@ -44,26 +43,15 @@ impl<N: Name> Worker<N> {
         ensures plays { IfOk result (λ answer. PlaysOp line (ops.Alloc reg partition size) answer self.old self.new) }
         ensures goes_on { OnOk result (KeepsOn self.old self.new) }
         ensures stops { OnErr result (self.new.stopped ≡ true) }
-        ensures same { OnErr result (self.new ≡ record self.old { stopped = true; owed = none_owed }) }
+        ensures same { OnErr result (self.new ≡ record self.old { room = length self.old.records; stopped = true; owed = none_owed }) }
         ensures asks { OnErr result (AsksRoot reg partition size self.old.stock) }
     {
-        match alloc(&mut self.stock, rt, heap, line, reg, partition, size) {
-            Ok(answer) => {
-                self.stock.kept();
-                let handle = owned(self.stock.register(reg));
-                let seen = made(&answer);
-                count_step(&mut self.account.counts, Step::Issue, &handle, &seen);
-                owe_step(&mut self.account.owed, Step::Issue, &handle, &seen);
-                enter(&mut self.account.records, self.stock.thread(), line, answer);
-                Ok(answer)
-            }
-            Err(OutOfMemory) => {
-                self.stock.kept();
-                self.account.stopped = true;
-                self.account.owed = owed_none();
-                Err(OutOfMemory)
-            }
-        }
+        let ended = alloc(&mut self.stock, rt, heap, line, reg, partition, size);
+        self.stock.kept();
+        let handle = owned(self.stock.register(reg));
+        self.account
+            .end_step(self.stock.thread(), line, Step::Issue, &handle, ended);
+        ended
     }
 }
 

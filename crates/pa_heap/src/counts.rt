@@ -3,6 +3,7 @@ ghost use Rattle.std.specs.Prelude.{◌≡◌, ℕ, ◌+◌, ◌*◌, ◌<◌, �
 ghost use Rattle.pa_trace.specs.Limits.{most_partitions};
 ghost use Rattle.pa_totals.specs.Settled.{none_owed};
 ghost use Rattle.pa_op_specs.specs.Counts.{AreOfSteps, IsOwedBySteps, after_step, owed_after_step, counts_after, owed_after, done_seen, made_seen, owned_in, pointed_in};
+ghost use Rattle.pa_heap.specs.Accounts.{step_seen};
 
 use pa_cells::Handle;
 use pa_op_specs::Count;
@@ -152,8 +153,21 @@ pub(crate) fn pointed(register: Register<Handle>) -> Option<Handle>
     }
 }
 
-// What the step of an op found, if the answer is that it was done.
-pub(crate) fn done(answer: &Answer) -> Option<Seen>
+// What the step of an op found, if the answer is that it was made.
+pub(crate) fn found(step: Step, answer: &Answer) -> Option<Seen>
+    ensures { result ≡ step_seen step answer.now }
+{
+    match step {
+        Step::Issue => made(answer),
+        Step::Copy => done(answer),
+        Step::Reset => done(answer),
+        Step::Free => done(answer),
+        Step::Write => done(answer),
+    }
+}
+
+// What was found of a slot, if the answer is that an op was done on it.
+fn done(answer: &Answer) -> Option<Seen>
     ensures { result ≡ done_seen answer.now }
 {
     match answer {
@@ -163,7 +177,7 @@ pub(crate) fn done(answer: &Answer) -> Option<Seen>
 }
 
 // What was found of a slot, if the answer is that it was made.
-pub(crate) fn made(answer: &Answer) -> Option<Seen>
+fn made(answer: &Answer) -> Option<Seen>
     ensures { result ≡ made_seen answer.now }
 {
     match answer {

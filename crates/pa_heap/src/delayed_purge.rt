@@ -9,8 +9,6 @@ ghost use Rattle.pa_op_specs.specs.Workers.{HasItsStake, CanPlayOp, KeepsOn};
 ghost use Rattle.pa_thread_state.specs.Stopping.{KeepsItsStake};
 ghost use Rattle.pa_heap.specs.Waiting.{HoldsQueue, DoesDelayed, PlaysDelayed};
 
-use crate::account::enter;
-use crate::counts::owed_none;
 use crate::queues::drain_all;
 use crate::worker::Worker;
 use pa_cells::slots_stay_seen;
@@ -45,19 +43,10 @@ impl<N: Name> Worker<N> {
         ensures same { OnErr result (self.new
             ≡ record self.old { stock = self.new.stock; room = length self.old.records; stopped = true; owed = none_owed }) }
     {
-        match purge_waiting(&mut self.stock, rt, heap, queue, line) {
-            Ok(answer) => {
-                enter(&mut self.account.records, self.stock.thread(), line, answer);
-                Ok(answer)
-            }
-            Err(OutOfMemory) => {
-                self.stock.kept();
-                self.account.stopped = true;
-                self.account.owed = owed_none();
-                self.account.room = self.account.records.len() as u32;
-                Err(OutOfMemory)
-            }
-        }
+        let ended = purge_waiting(&mut self.stock, rt, heap, queue, line);
+        self.stock.kept();
+        self.account.end_op(self.stock.thread(), line, ended);
+        ended
     }
 }
 
@@ -76,7 +65,7 @@ fn purge_waiting<N: Name, R: Wait>(
     ensures does { IfOk result (λ answer. DoesDelayed line ops.Purge answer stock.old queue.old stock.new queue.new) }
     ensures none { OnOk result (queue.new.slots ≡ []) }
     ensures rest { queue.new ≡ with_waiting queue.old queue.new.slots }
-    ensures budget { OnOk result (stock.new.view.budget ≡ stock.old.view.budget) }
+    ensures budget { IfOk result (λ answer. stock.old.view.budget ≤ stock.new.view.budget + 1) }
     ensures stake { OnErr result (KeepsItsStake stock.old stock.new) }
 {
     slots_stay_seen();

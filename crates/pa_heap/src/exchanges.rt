@@ -1,5 +1,5 @@
 //! A worker's exchange with a cell.
-ghost use Rattle.std.specs.Prelude.{◌≡◌, ◌<◌, ◌≤◌, IfOk, OnOk, OnErr, true};
+ghost use Rattle.std.specs.Prelude.{◌≡◌, ◌+◌, ◌<◌, ◌≤◌, length, IfOk, OnOk, OnErr, true};
 ghost use Rattle.pa_trace.specs.declared.script.Op.TheVariants as ops;
 ghost use Rattle.pa_trace.specs.Limits.{register_count, cell_count};
 ghost use Rattle.pa_totals.specs.Settled.{none_owed};
@@ -8,8 +8,6 @@ ghost use Rattle.pa_thread_state.specs.Exchanging.{IsUndone};
 ghost use Rattle.pa_thread_state.specs.Stopping.{KeepsItsStake};
 ghost use Rattle.pa_op_specs.specs.Plays.{DoesOp, PlaysOp};
 
-use crate::account::enter;
-use crate::counts::owed_none;
 use crate::worker::Worker;
 use pa_cells::{givers_lack_handles, takers_have_handles};
 use pa_record::Answer;
@@ -22,7 +20,7 @@ use std::sync::Wait;
 
 impl<N: Name> Worker<N> {
     /// An exchange of the register with a cell, on this line. It waits for the lock of the cells. If it runs out of memory the
-    /// worker is stopped, and all else is as before.
+    /// worker is stopped: it has no room for more records and owes nothing, and all else is as before.
     pub fn exchange<R: Wait>(
         &mut self,
         rt: &R,
@@ -38,20 +36,13 @@ impl<N: Name> Worker<N> {
         ensures stops { OnErr result (self.new.stopped ≡ true) }
         ensures stake { OnErr result (KeepsItsStake self.old.stock self.new.stock) }
         ensures undone { OnErr result (IsUndone self.old.stock self.new.stock) }
-        ensures same { OnErr result (self.new ≡ record self.old { stock = self.new.stock; stopped = true; owed = none_owed }) }
+        ensures same { OnErr result (self.new
+            ≡ record self.old { stock = self.new.stock; room = length self.old.records; stopped = true; owed = none_owed }) }
     {
-        match exchange(&mut self.stock, rt, heap, line, cell, reg) {
-            Ok(answer) => {
-                enter(&mut self.account.records, self.stock.thread(), line, answer);
-                Ok(answer)
-            }
-            Err(OutOfMemory) => {
-                self.stock.kept();
-                self.account.stopped = true;
-                self.account.owed = owed_none();
-                Err(OutOfMemory)
-            }
-        }
+        let ended = exchange(&mut self.stock, rt, heap, line, cell, reg);
+        self.stock.kept();
+        self.account.end_op(self.stock.thread(), line, ended);
+        ended
     }
 }
 
@@ -68,7 +59,7 @@ fn exchange<N: Name, R: Wait>(
     requires stake { HasItsStake stock.old }
     requires numbers { (cell < cell_count) × (reg < register_count) }
     ensures does { IfOk result (λ answer. DoesOp line (ops.Swap cell reg) answer stock.old stock.new) }
-    ensures budget { stock.old.view.budget ≤ stock.new.view.budget }
+    ensures budget { IfOk result (λ answer. stock.old.view.budget ≤ stock.new.view.budget + 1) }
     ensures undone { OnErr result (IsUndone stock.old stock.new) }
 {
     givers_lack_handles();

@@ -1,5 +1,5 @@
 //! A worker's purge: all its lists go back, and each root decommits its empty spans.
-ghost use Rattle.std.specs.Prelude.{◌≡◌, ◌<◌, IfOk, OnOk, OnErr, true};
+ghost use Rattle.std.specs.Prelude.{◌≡◌, ◌+◌, ◌<◌, ◌≤◌, length, IfOk, OnOk, OnErr, true};
 ghost use Rattle.pa_trace.specs.declared.script.Op.TheVariants as ops;
 ghost use Rattle.pa_totals.specs.Settled.{none_owed};
 ghost use Rattle.pa_op_specs.specs.Workers.{HasItsStake, CanPlayOp, KeepsOn};
@@ -7,8 +7,6 @@ ghost use Rattle.pa_op_specs.specs.Plays.{DoesOp, PlaysOp};
 ghost use Rattle.pa_thread_state.specs.Stopping.{KeepsItsStake};
 ghost use Rattle.pa_heap.specs.Stopping.{StopsPurge};
 
-use crate::account::enter;
-use crate::counts::owed_none;
 use crate::worker::Worker;
 use pa_record::Answer;
 use pa_region::Name;
@@ -32,20 +30,13 @@ impl<N: Name> Worker<N> {
         ensures stops { OnErr result (self.new.stopped ≡ true) }
         ensures stake { OnErr result (KeepsItsStake self.old.stock self.new.stock) }
         ensures left { OnErr result (StopsPurge line self.old.stock self.new.stock) }
-        ensures same { OnErr result (self.new ≡ record self.old { stock = self.new.stock; stopped = true; owed = none_owed }) }
+        ensures same { OnErr result (self.new
+            ≡ record self.old { stock = self.new.stock; room = length self.old.records; stopped = true; owed = none_owed }) }
     {
-        match purge(&mut self.stock, rt, heap, line) {
-            Ok(answer) => {
-                enter(&mut self.account.records, self.stock.thread(), line, answer);
-                Ok(answer)
-            }
-            Err(OutOfMemory) => {
-                self.stock.kept();
-                self.account.stopped = true;
-                self.account.owed = owed_none();
-                Err(OutOfMemory)
-            }
-        }
+        let ended = purge(&mut self.stock, rt, heap, line);
+        self.stock.kept();
+        self.account.end_op(self.stock.thread(), line, ended);
+        ended
     }
 }
 
@@ -59,7 +50,7 @@ fn purge<N: Name, R: Wait>(
 ) -> Result<Answer, OutOfMemory>
     requires stake { HasItsStake stock.old }
     ensures does { IfOk result (λ answer. DoesOp line ops.Purge answer stock.old stock.new) }
-    ensures budget { stock.new.view.budget ≡ stock.old.view.budget }
+    ensures budget { IfOk result (λ answer. stock.old.view.budget ≤ stock.new.view.budget + 1) }
     ensures stake { OnErr result (KeepsItsStake stock.old stock.new) }
     ensures left { OnErr result (StopsPurge line stock.old stock.new) }
 {

@@ -6,7 +6,6 @@ ghost use Rattle.pa_op_specs.specs.Stocks.{HasHandleTo, register_in};
 ghost use Rattle.pa_op_specs.specs.Workers.{HasItsStake, CanPlayOp, KeepsOn};
 ghost use Rattle.pa_op_specs.specs.Plays.{DoesOp, PlaysOp};
 
-use crate::account::enter;
 use crate::worker::Worker;
 use pa_cells::Handle;
 use pa_record::Answer;
@@ -24,7 +23,8 @@ impl<N: Name> Worker<N> {
         ensures goes_on { KeepsOn self.old self.new }
     {
         let answer = deref(&mut self.stock, heap.region(), reg, place);
-        enter(&mut self.account.records, self.stock.thread(), line, answer);
+        self.stock.kept();
+        self.account.end_op(self.stock.thread(), line, Ok(answer));
         answer
     }
 }

@@ -29,7 +29,7 @@ use Rattle.pa_op_specs.proofs.Following.{some, composes}
 use Rattle.pa_execution.proofs.Playing.{stays, keeps_rules}
 use Rattle.pa_runner.specs.declared.thread_lines.LineOp.{LineOp}
 use Rattle.pa_runner.specs.Playing.{in_phase, AreBefore, EndsWith, CanPlay, PlaysLines, IsPlayed}
-use Rattle.pa_runner.specs.Stopped.{StopsOp}
+use Rattle.pa_runner.specs.Stopped.{StopsOp, stopped_with}
 
 -- ---- records of lines before a line
 
@@ -202,18 +202,17 @@ all_lines ds i u v past played = subst (λ xs. PlaysLines xs u v) (take_all i ds
 pub same_thread : {ds : List LineOp} {w v : WorkerValue} → PlaysLines ds w v → v.stock.thread ≡ w.stock.thread
 same_thread {ds} {w} {v} played = let (xs, all, of) = played.plays 0 in (stays w v xs (some w v xs all)).0
 
--- a worker that stopped before it did anything has its stake, and owes nothing
-pub stopped_keeps : (w v : WorkerValue) → HasItsStake w.stock →
-    v ≡ record w { stopped = true; owed = none_owed } → KeepsItsStake w.stock v.stock
+-- a worker that stopped before it did anything has its stake
+pub stopped_keeps : (w v : WorkerValue) → HasItsStake w.stock → v ≡ stopped_with w.stock w → KeepsItsStake w.stock v.stock
 stopped_keeps w v stake same =
     subst (λ (z : WorkerValue). KeepsItsStake w.stock z.stock) (sym same) (record { thread = refl; stake = stake })
 
-pub stopped_owes : (w v : WorkerValue) → v ≡ record w { stopped = true; owed = none_owed } → v.owed ≡ none_owed
+-- a worker that stopped owes nothing, and has no record more, whatever its thread state is
+
+pub stopped_owes : (w v : WorkerValue) {s : StockValue} → v ≡ stopped_with s w → v.owed ≡ none_owed
 stopped_owes w v same = ap (λ (z : WorkerValue). z.owed) same
 
--- a worker that stopped has no record more, whatever its thread state and room are
-pub stopped_records : (w v : WorkerValue) {s : StockValue} {n : ℕ} →
-    v ≡ record w { stock = s; room = n; stopped = true; owed = none_owed } → v.records ≡ w.records
+pub stopped_records : (w v : WorkerValue) {s : StockValue} → v ≡ stopped_with s w → v.records ≡ w.records
 stopped_records w v same = ap (λ (z : WorkerValue). z.records) same
 
 -- of an error both are said

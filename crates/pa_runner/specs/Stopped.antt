@@ -8,18 +8,18 @@ use Rattle.pa_op_specs.specs.Workers.{WorkerValue}
 use Rattle.pa_thread_state.specs.Exchanging.{IsUndone}
 use Rattle.pa_heap.specs.Stopping.{AsksRoot, StopsReset, StopsFree, StopsPurge}
 
--- the worker stopped, with this thread state and room for that many records in all; it owes nothing to the totals words
-abbrev pub stopped_with : StockValue → ℕ → WorkerValue → WorkerValue
-stopped_with s room w = record w { stock = s; room = room; stopped = true; owed = none_owed }
+-- the worker stopped with this thread state: it has no room for more records, and owes nothing to the totals words
+abbrev pub stopped_with : StockValue → WorkerValue → WorkerValue
+stopped_with s w = record w { stock = s; room = length w.records; stopped = true; owed = none_owed }
 
 -- The op on this line ran out of memory, so it is one that may. But for the thread state the stopped worker is as before, with its
--- records and counts; and its thread state is what that op leaves. After a reset or a free, whose step is made, it has room for no more.
+-- records and counts; and its thread state is what that op leaves.
 abbrev pub StopsOp : (line : ℕ) → Op → (before after : WorkerValue) → Type 0
-StopsOp line (ops.Alloc reg p size) w after = AsksRoot reg p size w.stock × (after ≡ stopped_with w.stock w.room w)
+StopsOp line (ops.Alloc reg p size) w after = AsksRoot reg p size w.stock × (after ≡ stopped_with w.stock w)
 StopsOp line (ops.Copy from to) w after = ⊥
-StopsOp line (ops.Reset reg) w after = StopsReset line reg w.stock after.stock × (after ≡ stopped_with after.stock (length w.records) w)
-StopsOp line (ops.Free reg) w after = StopsFree line reg w.stock after.stock × (after ≡ stopped_with after.stock (length w.records) w)
+StopsOp line (ops.Reset reg) w after = StopsReset line reg w.stock after.stock × (after ≡ stopped_with after.stock w)
+StopsOp line (ops.Free reg) w after = StopsFree line reg w.stock after.stock × (after ≡ stopped_with after.stock w)
 StopsOp line (ops.Write reg value) w after = ⊥
 StopsOp line (ops.Read reg place) w after = ⊥
-StopsOp line (ops.Swap cell reg) w after = IsUndone w.stock after.stock × (after ≡ stopped_with after.stock w.room w)
-StopsOp line ops.Purge w after = StopsPurge line w.stock after.stock × (after ≡ stopped_with after.stock w.room w)
+StopsOp line (ops.Swap cell reg) w after = IsUndone w.stock after.stock × (after ≡ stopped_with after.stock w)
+StopsOp line ops.Purge w after = StopsPurge line w.stock after.stock × (after ≡ stopped_with after.stock w)

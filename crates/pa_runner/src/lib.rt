@@ -20,6 +20,6 @@ pub use opening::open_workers;
 pub use phase::{hear, hear_all, tell, tell_all};
 pub use phases::Playing;
 pub use queue::Queue;
-pub use report::cached_by;
+pub use report::{NO_SLOTS, cached_by};
 pub use thread_lines::LineOp;
 pub use whole::{close_run, close_turns, run_trace};

@@ -137,6 +137,9 @@ fn both(first: Count, second: Count) -> Count
     }
 }
 
+/// No slots, which have no bytes.
+pub const NO_SLOTS: Tally = Tally { slots: 0, bytes: 0 };
+
 /// What the lists of the workers have of a partition. Lists are short, so the sums are small.
 pub fn cached_by<N: Name>(workers: &[Worker<N>], partition: u32) -> Tally
     requires partition { partition < most_partitions }
@@ -145,13 +148,10 @@ pub fn cached_by<N: Name>(workers: &[Worker<N>], partition: u32) -> Tally
     ensures few { result.slots < 2 ^ 32 }
     ensures small { result.bytes < 2 ^ 48 }
 {
-    let mut sum = NONE;
+    let mut sum = NO_SLOTS;
     for worker in workers {
         worker.kept();
         sum = sum.and(worker.cached(partition));
     }
     sum
 }
-
-// No slots.
-const NONE: Tally = Tally { slots: 0, bytes: 0 };

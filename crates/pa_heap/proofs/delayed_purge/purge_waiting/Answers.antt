@@ -50,4 +50,4 @@ returns-clause-does g c =
     c.in_ok-drain_all.ensures.none c.count_all-slots.ensures
 
 pub returns-clause-budget : goal.returns-clause-budget
-returns-clause-budget g c = c.loop-partition.invariant.budget
+returns-clause-budget g c = let same = c.loop-partition.invariant.budget in omega arith

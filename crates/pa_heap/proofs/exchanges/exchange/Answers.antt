@@ -35,19 +35,10 @@ returns-in-Err-clause-undone g c =
 
 pub returns-in-Ok-clause-budget : goal.returns-in-Ok-clause-budget
 returns-in-Ok-clause-budget g c =
+    let fits =
     exchanged_budget c.givers_lack_handles.ensures c.beginnings_join.ensures c.seen_numbers_join.ensures c.free_numbers_stay.ensures
     c.args.line c.args.cell c.args.reg c.in-Ok.entry c.park-given.result c.in-Ok.found c.args.stock.now c.park-given.new.self
     c.swap.new.self c.take_in.new.self
     c.kept.ensures.stock c.requires.numbers.1 c.kept-in-Ok.ensures.aware c.kept-in-Ok-2.ensures.aware c.park-given.ensures.parks
-    c.in-Ok.ensures.made c.take_in.ensures.taken
-
-pub returns-in-Err-clause-budget : goal.returns-in-Err-clause-budget
-returns-in-Err-clause-budget g c =
-    let back = undone c.givers_lack_handles.ensures c.takers_have_handles.ensures c.beginnings_join.ensures c.seen_numbers_join.ensures
-    c.seen_lists_join.ensures c.free_numbers_stay.ensures
-    c.args.stock.now c.park-given.new.self c.swap.new.self c.put_back.new.self c.args.reg c.park-given.result c.in-Err.given
-    c.kept.ensures.stock c.requires.numbers.1
-    c.kept-2.ensures.aware c.kept-in-Err.ensures.aware c.park-given.ensures.parks c.in-Err.ensures.back c.in-Err.ensures.same
-    c.put_back.ensures.taken c.put_back.ensures.none in
-    let same = back.budget in
+    c.in-Ok.ensures.made c.take_in.ensures.taken in
     omega arith

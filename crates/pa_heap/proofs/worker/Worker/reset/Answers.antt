@@ -11,27 +11,27 @@ use Rattle.pa_heap.proofs.worker.Worker.reset.Goals as goal
 pub invariant_of-self : goal.invariant_of-self
 invariant_of-self g c =
     let makes =
-    reset_makes c.args.line c.args.reg c.self.inside.stock c.play_reset-ended.new.stock c.self.inside.account c.self.invariant.0
-    c.kept.ensures.stock c.requires.reg (c.pointed-handle.ensures ∙ ap pointed_in c.register.ensures) c.play_reset-ended.result
+    reset_makes c.args.line c.self.inside.stock c.play_reset-ended.new.stock c.self.inside.account c.self.invariant.0
+    c.args.reg c.kept.ensures.stock c.requires.reg (c.pointed-handle.ensures ∙ ap pointed_in c.register.ensures) c.play_reset-ended.result
     (if_op_some c.args.line (ops.Reset c.args.reg) c.self.inside.stock
     c.play_reset-ended.new.stock c.play_reset-ended.result c.play_reset-ended.ensures.does) in
     step_keeps c.self.inside.stock c.play_reset-ended.new.stock c.self.inside.account c.end_step.new.self
-    c.self.view_is c.play_reset-ended.result c.end_step.ensures.ends makes c.play_reset-ended.ensures.budget
+    c.self.view_is (ops.Reset c.args.reg) c.play_reset-ended.result c.end_step.ensures.ends makes c.play_reset-ended.ensures.budget
     c.self.invariant.1 c.self.invariant.2 c.requires.ready c.kept-2.ensures.stock c.kept-2.ensures.aware c.end_step.ensures.account
 
 pub returns : goal.returns
 returns g c =
     let makes =
-    reset_makes c.args.line c.args.reg c.self.inside.stock c.play_reset-ended.new.stock c.self.inside.account c.self.invariant.0
-    c.kept.ensures.stock c.requires.reg (c.pointed-handle.ensures ∙ ap pointed_in c.register.ensures) c.play_reset-ended.result
+    reset_makes c.args.line c.self.inside.stock c.play_reset-ended.new.stock c.self.inside.account c.self.invariant.0
+    c.args.reg c.kept.ensures.stock c.requires.reg (c.pointed-handle.ensures ∙ ap pointed_in c.register.ensures) c.play_reset-ended.result
     (if_op_some c.args.line (ops.Reset c.args.reg) c.self.inside.stock
     c.play_reset-ended.new.stock c.play_reset-ended.result c.play_reset-ended.ensures.does) in
     record {
       plays = step_plays c.self.inside.stock c.play_reset-ended.new.stock c.self.inside.account c.end_step.new.self
-          c.self.view_is c.play_reset-ended.result c.end_step.ensures.ends makes c.thread.ensures
+          c.self.view_is (ops.Reset c.args.reg) c.play_reset-ended.result c.end_step.ensures.ends makes c.thread.ensures
           c.play_reset-ended.ensures.does;
       goes_on = step_goes_on c.self.inside.stock c.play_reset-ended.new.stock c.self.inside.account c.end_step.new.self
-          c.self.view_is c.play_reset-ended.result c.end_step.ensures.ends makes c.requires.ready;
+          c.self.view_is (ops.Reset c.args.reg) c.play_reset-ended.result c.end_step.ensures.ends makes c.requires.ready;
       stops = step_stops c.play_reset-ended.result c.end_step.ensures.ends;
       stake = subst (λ (w : WorkerValue).
           OnErr c.play_reset-ended.result (KeepsItsStake w.stock c.play_reset-ended.new.stock))

@@ -10,30 +10,33 @@ use Rattle.pa_heap.proofs.worker.Worker.reset_delayed.Goals as goal
 pub invariant_of-self : goal.invariant_of-self
 invariant_of-self g c =
     let makes =
-    reset_makes c.args.line c.args.reg c.self.inside.stock c.play_reset_delayed-ended.new.stock c.self.inside.account c.self.invariant.0
-    c.kept.ensures.stock c.requires.reg (c.pointed-handle.ensures ∙ ap pointed_in c.register.ensures) c.play_reset_delayed-ended.result
+    reset_makes c.args.line c.self.inside.stock c.play_reset_delayed-ended.new.stock c.self.inside.account c.self.invariant.0
+    c.args.reg c.kept.ensures.stock c.requires.reg (c.pointed-handle.ensures ∙ ap pointed_in c.register.ensures)
+    c.play_reset_delayed-ended.result
     (if_delayed_some c.args.line (ops.Reset c.args.reg) c.self.inside.stock c.args.queue.now
     c.play_reset_delayed-ended.new.stock c.play_reset_delayed-ended.new.queue
     c.play_reset_delayed-ended.result c.play_reset_delayed-ended.ensures.does) in
     step_keeps c.self.inside.stock c.play_reset_delayed-ended.new.stock c.self.inside.account c.end_step.new.self
-    c.self.view_is c.play_reset_delayed-ended.result c.end_step.ensures.ends makes c.play_reset_delayed-ended.ensures.budget
+    c.self.view_is (ops.Reset c.args.reg) c.play_reset_delayed-ended.result c.end_step.ensures.ends makes
+    c.play_reset_delayed-ended.ensures.budget
     c.self.invariant.1 c.self.invariant.2 c.requires.ready c.kept-2.ensures.stock c.kept-2.ensures.aware c.end_step.ensures.account
 
 pub returns : goal.returns
 returns g c =
     let makes =
-    reset_makes c.args.line c.args.reg c.self.inside.stock c.play_reset_delayed-ended.new.stock c.self.inside.account c.self.invariant.0
-    c.kept.ensures.stock c.requires.reg (c.pointed-handle.ensures ∙ ap pointed_in c.register.ensures) c.play_reset_delayed-ended.result
+    reset_makes c.args.line c.self.inside.stock c.play_reset_delayed-ended.new.stock c.self.inside.account c.self.invariant.0
+    c.args.reg c.kept.ensures.stock c.requires.reg (c.pointed-handle.ensures ∙ ap pointed_in c.register.ensures)
+    c.play_reset_delayed-ended.result
     (if_delayed_some c.args.line (ops.Reset c.args.reg) c.self.inside.stock c.args.queue.now
     c.play_reset_delayed-ended.new.stock c.play_reset_delayed-ended.new.queue
     c.play_reset_delayed-ended.result c.play_reset_delayed-ended.ensures.does) in
     record {
       plays = step_delays c.self.inside.stock c.play_reset_delayed-ended.new.stock c.self.inside.account c.end_step.new.self
-          c.self.view_is c.args.queue.now c.play_reset_delayed-ended.new.queue
+          c.self.view_is (ops.Reset c.args.reg) c.args.queue.now c.play_reset_delayed-ended.new.queue
           c.play_reset_delayed-ended.result c.end_step.ensures.ends makes c.thread.ensures
           c.play_reset_delayed-ended.ensures.does;
       goes_on = step_goes_on c.self.inside.stock c.play_reset_delayed-ended.new.stock c.self.inside.account c.end_step.new.self
-          c.self.view_is c.play_reset_delayed-ended.result c.end_step.ensures.ends makes c.requires.ready;
+          c.self.view_is (ops.Reset c.args.reg) c.play_reset_delayed-ended.result c.end_step.ensures.ends makes c.requires.ready;
       waits = c.play_reset_delayed-ended.ensures.waits;
       rest = c.play_reset_delayed-ended.ensures.rest;
       few = c.play_reset_delayed-ended.ensures.few;
